@@ -1,0 +1,31 @@
+-- `key::spread` meets its contract: E splits at bit 8, and fits since a row has 12 bits.
+-- Assumes nothing.
+use mathlib.Core.Path.{_≡_}
+use Prim.Native.Nat.{_+_, _*_}
+use native.Mathlib.Omega.{arith}
+use borrow.Author.Needs.{needs}
+use Rattle.key.specs.Spread.{spread}
+use Rattle.key.proofs.Bits.{spread-split, spread-lt}
+use Rattle.key.proofs.spread.Statement.{statement}
+use Rattle.key.proofs.spread.Tie as tie
+
+spread8-requires : tie.Need-spread8-requires
+spread8-requires c κs = search needs
+
+spread8-requires-2 : tie.Need-spread8-requires-2
+spread8-requires-2 c κs = search needs
+
+is : (c : tie.After-spread82) → c .before .spread8 .result + 390625 * c .spread82 .result ≡ spread 5 (c .before .before .args .x)
+is c = cc (spread-split 5 8 (c .before .before .args .x))
+
+mul-result : tie.Need-mul-result
+mul-result c = omega (arith, is c, spread-lt 4 12 (c .before .before .args .x) (c .before .before .pre))
+
+add-result : tie.Need-add-result
+add-result c = omega (arith, is c, spread-lt 4 12 (c .before .before .args .x) (c .before .before .pre))
+
+returns : tie.Need-returns
+returns c = is c
+
+pub spread-spec : {M : Type 1} → statement M
+spread-spec = tie.close (tie.spec spread8-requires spread8-requires-2 mul-result add-result returns)
