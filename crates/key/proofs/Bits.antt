@@ -1,9 +1,8 @@
 -- The laws of `spread`, over any base: it sees all bits, splits at any bit, leaves a bit as it is, and stays below the base's power.
 -- Assumes nothing.
 use mathlib.Core.Path.{_≡_, refl, sym, ap, ap₂, _∙_}
-use Prim.Native.Nat.{ℕ, zero, suc, _+_, _*_, _/_, _%_, _^_, _≤_, _<_}
-use native.Mathlib.Nat.{add-zero, add-suc, suc-add, mul-zero, mul-add, add-assoc, add-comm, mul-left-comm, pow-suc, mod-lt, mul-le-mul-right, mul-le-mul-left, one-mul, zero-mul, zero-div, div-eq-of-lt, mul-suc, mul-comm, zero-add, pow-zero}
-use native.Mathlib.Numerals.{add-one}
+use Prim.Native.Nat.{ℕ, zero, suc, _+_, _-_, _*_, _/_, _%_, _^_, _≤_, _<_}
+use native.Mathlib.Nat.{add-zero, add-suc, mul-zero, mul-add, add-assoc, add-comm, mul-left-comm, pow-suc, mod-lt, mul-le-mul-right, mul-le-mul-left, one-mul, zero-mul, zero-div, div-eq-of-lt, mul-suc, mul-comm, zero-add, pow-zero}
 use native.Mathlib.Omega.{arith}
 use lib.Pow.{pow-add, pow-mono, shr-shr, shr-le, field, mod-mod-pow, pow-pos}
 use lib.Dec.{lit<}
@@ -16,21 +15,23 @@ lt-pow (suc x) = omega (arith, lt-pow x, pow-suc 2 x)
 bit-le : (b p : ℕ) → b < 2 → b * p ≤ p
 bit-le b p h = rw one-mul at (mul-le-mul-right {m = b} {n = 1} p (omega arith))
 
+-- the bits from n on do not count below n
+bit-mod : (t n x : ℕ) → t < n → x % 2 ^ n / 2 ^ t % 2 ≡ x / 2 ^ t % 2
+bit-mod t n x h =
+    let j : ℕ = n - suc t in
+    let e : n ≡ j + 1 + t = omega arith in
+    rw (e, field x (j + 1) t) (mod-mod-pow (x / 2 ^ t) j 1)
+
 module _ (b : ℕ) where
   to-add : (i j x : ℕ) → spreadTo b (i + j) x ≡ spreadTo b i x + b ^ i * spreadTo b j (x / 2 ^ i)
   unfolding spreadTo
   to-add i zero x = rw (add-zero, mul-zero, add-zero)
   to-add i (suc j) x = rw (add-suc, spreadTo, to-add i j x, ← shr-shr x i j, pow-add b i j, mul-add, add-assoc, mul-left-comm _ (b ^ i))
 
-  -- the bits from k on do not count
-  to-mod : (k j x : ℕ) → spreadTo b k (x % 2 ^ (j + k)) ≡ spreadTo b k x
+  to-mod : (k n x : ℕ) → k ≤ n → spreadTo b k (x % 2 ^ n) ≡ spreadTo b k x
   unfolding spreadTo
-  to-mod zero j x = refl
-  to-mod (suc t) j x =
-      ap₂ (λ (s d : ℕ). s + d * b ^ t)
-      (ap (λ (n : ℕ). spreadTo b t (x % 2 ^ n)) (add-suc j t ∙ sym (suc-add j t)) ∙ to-mod t (suc j) x)
-      (ap (λ (n : ℕ). x % 2 ^ n / 2 ^ t % 2) (add-suc j t ∙ sym (suc-add j t)) ∙ ap (λ (n : ℕ). n % 2) (field x (suc j) t) ∙ ap (λ (n : ℕ). x / 2 ^ t % 2 ^ n % 2) (sym (add-one j))
-      ∙ mod-mod-pow (x / 2 ^ t) j 1)
+  to-mod zero n x h = refl
+  to-mod (suc t) n x h = ap₂ (λ (s d : ℕ). s + d * b ^ t) (to-mod t n x (omega arith)) (bit-mod t n x h)
 
   to-zero : (k : ℕ) → spreadTo b k 0 ≡ 0
   unfolding spreadTo
@@ -51,7 +52,7 @@ module _ (b : ℕ) where
       let all : x < 2 ^ (k + x) = omega (arith, lt-pow x, pow-mono {i = x} {j = k + x} (omega arith)) in
       spread-to (k + x) x all ∙ to-add k x x
       ∙ ap₂ (λ (l h : ℕ). l + b ^ k * h)
-      (sym (rw zero-add at (to-mod k 0 x)) ∙ sym (spread-to k (x % 2 ^ k) (mod-lt x (pow-pos k))))
+      (sym (to-mod k k x (omega arith)) ∙ sym (spread-to k (x % 2 ^ k) (mod-lt x (pow-pos k))))
       (sym (spread-to x (x / 2 ^ k) (omega (arith, lt-pow x, shr-le x k))))
 
   pub spread-bit : (x : ℕ) → x < 2 → spread b x ≡ x

@@ -48,7 +48,7 @@ form-digit k key l h = rw (ne-eqb key 0 (omega (arith, pow5-pos k)), le-ltb key 
 pub first-most : (k key : ℕ) → key < 5 ^ suc k → key / 5 ^ k < 5
 first-most k key h = div-lt-iff-lt-mul (pow5-pos k) .1 (rw (mul-comm 5 (5 ^ k)) (rw pow-suc at h))
 
-pub first-least : (k key : ℕ) → 5 ^ k ≤ key → 1 ≤ key / 5 ^ k
+first-least : (k key : ℕ) → 5 ^ k ≤ key → 1 ≤ key / 5 ^ k
 first-least k key h = le-div-iff-mul-le (pow5-pos k) .1 (rw one-mul h)
 
 pub first-split : (k key : ℕ) → 5 ^ k ≤ key → key ≡ 5 ^ k + (key / 5 ^ k - 1) * 5 ^ k + key % 5 ^ k
@@ -59,44 +59,58 @@ first-split k key h =
 
 -- ---- the loop: k digits are left, as `rest`, and the key is what they are, counted from `start`
 
-pub record Reading (m key k rest start : ℕ) : Type 0 where
+pub record Reading (m key p k rest start : ℕ) : Type 0 where
   pub within : k ≤ m
-  pub below : rest < 5 ^ k
+  pub scale : p ≡ 5 ^ k
+  pub below : rest < p
   pub room : start + 4 ^ k ≤ 4 ^ m
   pub same : formOf m key ≡ from start (formOf k rest)
 
-pub some-left : (k rest : ℕ) → rest < 5 ^ k → (rest ≡ 0 → ⊥) → 1 ≤ k
-some-left zero rest h ne = absurd (ne (omega arith))
-some-left (suc k) rest h ne = omega arith
+-- a digit is left; p / 5 is its unit
+pub record Left (p k : ℕ) : Type 0 where
+  pub some : 1 ≤ k
+  pub unit : p / 5 ≡ 5 ^ (k - 1)
+  pub pos : 1 ≤ p / 5
 
-pred-suc : (k : ℕ) → 1 ≤ k → k ≡ suc (k - 1)
-pred-suc k h = omega arith
+left : (k p rest : ℕ) → p ≡ 5 ^ k → rest < p → (rest ≡ 0 → ⊥) → Left p k
+left zero p rest e h ne = absurd (ne (omega arith))
+left (suc k) p rest e h ne =
+    let u : p / 5 ≡ 5 ^ k = omega (arith, pow-suc 5 k) in
+    let d : suc k - 1 ≡ k = omega arith in
+    record { some = omega arith; unit = rw d u; pos = omega (arith, pow5-pos k) }
 
-module _ (m key : ℕ) where
-  pub reading-first : key < 5 ^ m → Reading m key m key 0
-  reading-first h = record { within = omega arith; below = h; room = omega arith; same = sym (from-zero (formOf m key)) }
+module _ {m key : ℕ} where
+  pub reading-first : {p : ℕ} → p ≡ 5 ^ m → key < p → Reading m key p m key 0
+  reading-first e h = record { within = omega arith; scale = e; below = h; room = omega arith; same = sym (from-zero (formOf m key)) }
 
-  turn : (k rest start : ℕ) → Reading m key (suc k) rest start → 5 ^ k ≤ rest → Reading m key k (rest % 5 ^ k) (start + (rest / 5 ^ k - 1) * 4 ^ k)
-  turn k rest start r l =
-      let d : ℕ = rest / 5 ^ k in
-      let hi : d < 5 = first-most k rest (r .below) in
-      let a : (d - 1) * 4 ^ k ≤ 3 * 4 ^ k = mul-le-mul-right (4 ^ k) (omega arith) in
+  pub reading-last : {p k rest start : ℕ} → Reading m key p k rest start → rest ≡ 0 → formOf m key ≡ Block k start
+  unfolding from
+  reading-last {k = k} {start = start} r e = r .same ∙ ap (λ (n : ℕ). from start (formOf k n)) e ∙ ap (from start) (form-whole k) ∙ rw add-zero
+
+  -- a turn at k = j + 1
+  turn : (p j rest start : ℕ) → Reading m key p (suc j) rest start → 5 ^ j ≤ rest → Reading m key (5 ^ j) j (rest % 5 ^ j) (start + (rest / 5 ^ j - 1) * 4 ^ j)
+  turn p j rest start r l =
+      let below : rest < 5 ^ suc j = omega (arith, r .scale, r .below) in
+      let most : rest / 5 ^ j < 5 = first-most j rest below in
       record {
         within = omega arith;
-        below = mod-lt rest (pow5-pos k);
-        room = omega (arith, pow-suc 4 k, r .room);
-        same = r .same ∙ rw (form-digit k rest l (r .below), from-from);
+        scale = refl;
+        below = mod-lt rest (pow5-pos j);
+        room = omega (arith, pow-suc 4 j, r .room, mul-le-mul-right {m = rest / 5 ^ j - 1} {n = 3} (4 ^ j) (omega arith));
+        same = r .same ∙ rw (form-digit j rest l below, from-from);
       }
 
-  pub reading-next : (k rest start p a : ℕ) → Reading m key k rest start → 1 ≤ k → p ≡ 5 ^ (k - 1) → a ≡ 4 ^ (k - 1) → p ≤ rest
-      → Reading m key (k - 1) (rest % p) (start + (rest / p - 1) * a)
-  reading-next k rest start p a r h ep ea l = rw (ep, ea) (turn (k - 1) rest start (rw (pred-suc k h) at r) (rw ep at l))
+  module _ {p k rest start : ℕ} (r : Reading m key p k rest start) (ne : rest ≡ 0 → ⊥) where
+    pub reading-left : Left p k
+    reading-left = left k p rest (r .scale) (r .below) ne
 
-  pub reading-gap : (k rest start : ℕ) → Reading m key k rest start → (rest ≡ 0 → ⊥) → rest < 5 ^ (k - 1) → formOf m key ≡ Malformed
-  unfolding from
-  reading-gap k rest start r ne l =
-      r .same ∙ ap (λ (n : ℕ). from start (formOf n rest)) (pred-suc k (some-left k rest (r .below) ne)) ∙ ap (from start) (form-gap (k - 1) rest ne l)
+    over : k ≡ suc (k - 1)
+    over = omega (arith, reading-left .some)
 
-  pub reading-last : (k rest start : ℕ) → Reading m key k rest start → rest ≡ 0 → formOf m key ≡ Block k start
-  unfolding from
-  reading-last k rest start r e = r .same ∙ ap (λ (n : ℕ). from start (formOf k n)) e ∙ ap (from start) (form-whole k) ∙ rw add-zero
+    pub reading-gap : rest < p / 5 → formOf m key ≡ Malformed
+    unfolding from
+    reading-gap l =
+        r .same ∙ ap (λ (n : ℕ). from start (formOf n rest)) over ∙ ap (from start) (form-gap (k - 1) rest ne (omega (arith, reading-left .unit)))
+
+    pub reading-next : {a : ℕ} → a ≡ 4 ^ (k - 1) → p / 5 ≤ rest → Reading m key (p / 5) (k - 1) (rest % (p / 5)) (start + (rest / (p / 5) - 1) * a)
+    reading-next e l = rw (reading-left .unit, e) (turn p (k - 1) rest start (rw over at r) (rw (reading-left .unit) at l))

@@ -1,4 +1,4 @@
--- Powers of any base: at least 1, at most the twelfth, and a whole one split at an exponent.
+-- Powers: up to the twelfth they are between 1 and the twelfth, over any base; those of 4 are those of 2 at twice the exponent.
 -- Assumes nothing.
 use mathlib.Core.Path.{_≡_, refl}
 use Prim.Native.Nat.{ℕ, zero, suc, _*_, _^_, _≤_, _<_}

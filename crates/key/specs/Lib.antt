@@ -1,7 +1,8 @@
-pub mod Picture
+pub mod Lists
 pub mod Spread
+pub mod Picture
 pub mod Key
 pub mod Form
+pub mod Blocks
 pub mod Alignment
 pub mod Power
-pub mod Blocks

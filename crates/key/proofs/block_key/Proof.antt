@@ -1,6 +1,6 @@
 -- `key::block_key` meets its contract. Its product fits, since a block's key is below 5 ^ m.
 -- Assumes nothing.
-use mathlib.Core.Path.{_≡_}
+use mathlib.Core.Path.{_≡_, ap₂}
 use Prim.Native.Nat.{_*_}
 use native.Mathlib.Nat.{pow-le-pow-right}
 use native.Mathlib.Omega.{arith}
@@ -28,7 +28,7 @@ shr-pixel-key-2 : tie.Need-shr-pixel-key-2
 shr-pixel-key-2 c = search needs
 
 pixel-key-requires : tie.Need-pixel-key-requires
-pixel-key-requires c κs = (omega arith, coarse _ (c .pre .1) (c .pre .2))
+pixel-key-requires c κs = (search needs, omega arith, omega (arith, coarse (c .args .i) (c .pre .2) (c .pre .3)))
 
 pow5-requires : tie.Need-pow5-requires
 pow5-requires c κs = search needs
@@ -37,14 +37,14 @@ is : (c : tie.After-pow5)
     → c .before .pixel-key .result * c .pow5 .result
     ≡ blockKey (c .before .before .args .m) (c .before .before .args .i) (c .before .before .args .row) (c .before .before .args .col)
 unfolding blockKey
-is c = cc
+is c = ap₂ _*_ (c .before .pixel-key .ensures) (c .pow5 .ensures .is)
 
 mul-result : tie.Need-mul-result
 mul-result c =
     let a = c .before .before .args in
     let h = c .before .before .pre in
     omega
-    (arith, is c, lies (block-at (a .m) (a .i) (a .row) (a .col) (h .1) (h .2)) .keys, pow-le-pow-right {n = 5} (lit< tt) {i = a .m} {j = 12} (h .0))
+    (arith, is c, lies (block-at (a .m) (a .i) (a .row) (a .col) (h .2) (h .3)) .keys, pow-le-pow-right {n = 5} (lit< tt) {i = a .m} {j = 12} (h .1))
 
 returns : tie.Need-returns
 returns c = is c

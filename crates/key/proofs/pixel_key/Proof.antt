@@ -1,5 +1,6 @@
 -- `key::pixel_key` meets its contract. Its sums fit, since E of a row or a column is below a quarter of 5 ^ 12.
 -- Assumes nothing.
+use Prim.Native.Nat.{_*_, _^_, _<_}
 use native.Mathlib.Omega.{arith}
 use borrow.Author.Needs.{needs}
 use Rattle.key.specs.Spread.{spread}
@@ -11,7 +12,10 @@ use Rattle.key.proofs.pixel_key.Statement.{statement}
 use Rattle.key.proofs.pixel_key.Tie as tie
 
 pixel : (c : tie.Start) → Pixel 12 (c .args .row) (c .args .col)
-pixel c = larger (c .pre .0) (c .pre .1)
+pixel c = larger (c .pre .1) (c .pre .2)
+
+small : (c : tie.Start) → (4 * spread 5 (c .args .row) < 5 ^ 12) × (4 * spread 5 (c .args .col) < 5 ^ 12)
+small c = (spread-lt 4 12 (c .args .row) (pixel c .row), spread-lt 4 12 (c .args .col) (pixel c .col))
 
 pow5-requires : tie.Need-pow5-requires
 pow5-requires c κs = search needs
@@ -20,19 +24,19 @@ sub-result : tie.Need-sub-result
 sub-result c = search needs
 
 spread-requires : tie.Need-spread-requires
-spread-requires c κs = pixel (c .before) .row
+spread-requires c κs = (search needs, omega (arith, pixel (c .before)))
 
 mul-result : tie.Need-mul-result
-mul-result c = omega (arith, spread-lt 4 12 _ (pixel (c .before .before) .row))
+mul-result c = omega (arith, small (c .before .before))
 
 add-result : tie.Need-add-result
-add-result c = omega (arith, spread-lt 4 12 _ (pixel (c .before .before) .row))
+add-result c = omega (arith, small (c .before .before))
 
 spread-requires-2 : tie.Need-spread-requires-2
-spread-requires-2 c κs = pixel (c .before .before) .col
+spread-requires-2 c κs = (search needs, omega (arith, pixel (c .before .before)))
 
 add-result-2 : tie.Need-add-result-2
-add-result-2 c = omega (arith, spread-lt 4 12 _ (pixel (c .before .before .before) .row), spread-lt 4 12 _ (pixel (c .before .before .before) .col))
+add-result-2 c = omega (arith, small (c .before .before .before))
 
 returns : tie.Need-returns
 unfolding pixelKey

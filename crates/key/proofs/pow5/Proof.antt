@@ -4,8 +4,9 @@ use mathlib.Core.Path.{refl}
 use Prim.Native.Nat.{ℕ, _^_}
 use native.Mathlib.Omega.{arith}
 use borrow.Author.Needs.{needs}
-use Rattle.key.proofs.Table.{entry}
+use Rattle.key.specs.Lists.{upFrom}
 use Rattle.key.proofs.Powers.{power}
+use Rattle.key.proofs.Table.{table-entry}
 use Rattle.key.proofs.pow5.Statement.{statement}
 use Rattle.key.proofs.pow5.Tie as tie
 
@@ -16,7 +17,8 @@ array-read-result : tie.Need-array-read-result
 array-read-result c = search needs
 
 returns : tie.Need-returns
-returns c = power 5 (c .args .k) (entry (λ (k : ℕ). 5 ^ k) 13 (c .args .k) refl (omega arith)) (omega arith) (c .pre)
+unfolding upFrom
+returns c = power 5 (c .args .k) (table-entry (λ (k : ℕ). 5 ^ k) 13 (c .args .k) refl (omega arith)) (omega arith) (c .pre)
 
 pub pow5-spec : {M : Type 1} → statement M
 pow5-spec = tie.close (tie.spec mul-result array-read-result returns)

@@ -7,54 +7,52 @@ use native.Mathlib.Nat.{le-div-iff-mul-le, pow-le-pow-right}
 use native.Mathlib.Omega.{arith}
 use lib.Dec.{lit<}
 use borrow.Author.Needs.{needs}
-use Rattle.key.proofs.Digits.{Reading, reading-first, reading-next, reading-gap, reading-last, some-left, form-big}
+use Rattle.key.proofs.Digits.{Reading, Left, reading-first, reading-left, reading-next, reading-gap, reading-last, form-big}
 use Rattle.key.proofs.read_key.Statement.{statement}
 use Rattle.key.proofs.read_key.Tie as tie
 
 abbrev Inv-loop : tie.InvT-loop
-Inv-loop m key k₀ rest₀ start₀ k rest start = Reading m key k rest start
+Inv-loop m key p₀ k₀ rest₀ start₀ p k rest start = Reading m key p k rest start
 
 abbrev μ-loop : tie.MeasureT-loop
-μ-loop m key k₀ rest₀ start₀ k rest start = k
+μ-loop m key p₀ k₀ rest₀ start₀ p k rest start = k
 
 pow5-requires : tie.Need-pow5-requires Inv-loop μ-loop
 pow5-requires c κs = search needs
 
 returns : tie.Need-returns Inv-loop μ-loop
-returns c = sym (form-big _ _ (rw (c .before .pow5 .ensures .is) at (c .if1 .taken)))
+returns c = sym (form-big _ _ (omega (arith, c .before .pow5 .ensures .is)))
 
 loop-holds : tie.Need-loop-holds Inv-loop μ-loop
-loop-holds c = reading-first _ _ (rw (c .before .pow5 .ensures .is) at (c .if1 .left))
+loop-holds c = reading-first (c .before .pow5 .ensures .is) (omega arith)
+
+digit : (c : tie.In-loop Inv-loop μ-loop) → Left (c .before .loop .p) (c .before .loop .k)
+digit c = reading-left (c .before .loop .inv) (c .loop-test .taken)
 
 sub-k : tie.Need-sub-k Inv-loop μ-loop
-sub-k c = some-left _ _ (c .before .loop .inv .below) (c .loop-test .taken)
-
-pow5-requires-2 : tie.Need-pow5-requires-2 Inv-loop μ-loop
-pow5-requires-2 c κs = search needs
+sub-k c = digit c .some
 
 returns-2 : tie.Need-returns-2 Inv-loop μ-loop
-returns-2 c = sym (reading-gap _ _ _ _ _ (c .before .before .before .loop .inv) (c .before .before .loop-test .taken) (rw (c .before .pow52 .ensures .is) at (c .if2 .taken)))
+returns-2 c = sym (reading-gap (c .before .before .loop .inv) (c .before .loop-test .taken) (c .if2 .taken))
 
 div-start : tie.Need-div-start Inv-loop μ-loop
-div-start c = search needs
+div-start c = digit (c .before) .pos
 
 sub-start : tie.Need-sub-start Inv-loop μ-loop
-sub-start c = le-div-iff-mul-le (c .before .pow52 .ensures .least) .1 (omega (arith, c .if2 .left))
+sub-start c = le-div-iff-mul-le (digit (c .before) .pos) .1 (omega (arith, c .if2 .left))
 
 pow4-requires : tie.Need-pow4-requires Inv-loop μ-loop
 pow4-requires c κs = search needs
 
 -- the state after the turn, and that its places fit
 next : (c : tie.After-pow4 Inv-loop μ-loop)
-    → Reading (c .before .before .before .before .before .before .before .args .m) (c .before .before .before .before .before .before .before .args .key)
-    (c .before .before .before .before .loop .k - 1) (c .before .before .before .before .loop .rest % c .before .before .pow52 .result)
-    (c .before .before .before .before .loop .start + (c .before .before .before .before .loop .rest / c .before .before .pow52 .result - 1) * c .pow4 .result)
-next c =
-    let l = c .before .before .before .before .loop in
-    reading-next _ _ (l .k) (l .rest) (l .start) _ _ (l .inv) (sub-k (c .before .before .before)) (c .before .before .pow52 .ensures .is) (c .pow4 .ensures .is) (c .before .if2 .left)
+    → Reading (c .before .before .before .before .before .before .args .m) (c .before .before .before .before .before .before .args .key)
+    (c .before .before .before .loop .p / 5) (c .before .before .before .loop .k - 1) (c .before .before .before .loop .rest % (c .before .before .before .loop .p / 5))
+    (c .before .before .before .loop .start + (c .before .before .before .loop .rest / (c .before .before .before .loop .p / 5) - 1) * c .pow4 .result)
+next c = reading-next (c .before .before .before .loop .inv) (c .before .before .loop-test .taken) (c .pow4 .ensures .is) (c .before .if2 .left)
 
-most : (c : tie.After-pow4 Inv-loop μ-loop) → 4 ^ c .before .before .before .before .before .before .before .args .m ≤ 4 ^ 12
-most c = pow-le-pow-right {n = 4} (lit< tt) (c .before .before .before .before .before .before .before .pre)
+most : (c : tie.After-pow4 Inv-loop μ-loop) → 4 ^ c .before .before .before .before .before .before .args .m ≤ 4 ^ 12
+most c = pow-le-pow-right {n = 4} (lit< tt) (c .before .before .before .before .before .before .pre)
 
 mul-start : tie.Need-mul-start Inv-loop μ-loop
 mul-start c = omega (arith, next c .room, most c)
@@ -63,16 +61,16 @@ add-start : tie.Need-add-start Inv-loop μ-loop
 add-start c = omega (arith, next c .room, most c)
 
 rem-rest : tie.Need-rem-rest Inv-loop μ-loop
-rem-rest c = search needs
+rem-rest c = digit (c .before .before) .pos
 
 loop-less : tie.Need-loop-less Inv-loop μ-loop
-loop-less c = omega (arith, sub-k (c .before .before .before))
+loop-less c = omega (arith, digit (c .before .before) .some)
 
 loop-again : tie.Need-loop-again Inv-loop μ-loop
 loop-again c = next c
 
 returns-3 : tie.Need-returns-3 Inv-loop μ-loop
-returns-3 c = sym (reading-last _ _ _ _ _ (c .before .loop .inv) (c .loop-test .left))
+returns-3 c = sym (reading-last (c .before .loop .inv) (c .loop-test .left))
 
 pub read-key-spec : {M : Type 1} → statement M
 read-key-spec =
@@ -84,7 +82,6 @@ read-key-spec =
     returns
     loop-holds
     sub-k
-    pow5-requires-2
     returns-2
     div-start
     sub-start
