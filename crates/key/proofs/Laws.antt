@@ -68,6 +68,12 @@ ordered {i = i} {j = j} x y = go (blocks-stand x y)
     go (after p q) = (λ h. q, λ h. p)
     go (before p q) = (λ h. absurd (omega (arith, pow4-pos i, pow4-pos j)), λ h. absurd (omega (arith, pow5-pos i, pow5-pos j)))
 
+-- the places of pixels are in the order of their keys
+pub key-order : {m r c y x : ℕ} → Pixel m r c → Pixel m y x → (place r c < place y x) ↔ (pixelKey m r c < pixelKey m y x)
+key-order {m} {r} {c} {y} {x} p q =
+    let o = ordered (pixel-named m r c p) (pixel-named m y x q) in
+    (λ h. let k = o .0 (omega arith) in omega arith, λ h. let k = o .1 (omega arith) in omega arith)
+
 -- ---- a block and a pixel: the block holds it by its span exactly when by its keys, and exactly when it is the pixel's own block of that exponent
 
 module _ {m key i s r c : ℕ} (b : Names m key i s) (p : Pixel m r c) where

@@ -9,7 +9,7 @@ unfoldable pub spreadTo : ℕ → ℕ → ℕ → ℕ
 spreadTo b zero x = 0
 spreadTo b (suc j) x = spreadTo b j x + x / 2 ^ j % 2 * b ^ j
 
--- the sum of b ^ j over the set bits j of x, all of which are below x. E(x) of the paper is `spread 5 x`
+-- the sum of b ^ j over the set bits j of x, all of which are below x. E(x) is `spread 5 x`
 unfoldable pub spread : ℕ → ℕ → ℕ
 spread b x = spreadTo b x x
 

@@ -1,5 +1,5 @@
 // Locational keys, apart from maps: E by a table, a pixel's key, a block's key, the form of a key, the alignment of a number.
-// The crates above refuse m over 12 before they call, so every function here may ask m ≤ 12; all keys then fit u32.
+// The crates above refuse m over 12 before they call, so functions here ask m ≤ 12, and all keys fit u32.
 ghost use mathlib.Core.Path.{_≡_};
 ghost use Prim.Native.Nat.{_^_, _<_, _≤_};
 ghost use Rattle.key.specs.Picture.{Pixel};
