@@ -2,7 +2,8 @@
 -- Assumes nothing.
 use mathlib.Core.Path.{_≡_, refl, sym, ap, ap₂, _∙_}
 use Prim.Native.Nat.{ℕ, zero, suc, _+_, _-_, _*_, _/_, _%_, _^_, _≤_, _<_}
-use native.Mathlib.Nat.{add-zero, add-suc, mul-zero, mul-add, add-assoc, add-comm, mul-left-comm, pow-suc, mod-lt, mul-le-mul-right, mul-le-mul-left, one-mul, zero-mul, zero-div, div-eq-of-lt, mul-suc, mul-comm, zero-add, pow-zero}
+use native.Mathlib.Nat.{add-zero, add-suc, add-assoc, add-comm, zero-add}
+use native.Mathlib.Nat.{mul-zero, mul-add, mul-left-comm, pow-suc, mod-lt, mul-le-mul-right, mul-le-mul-left, one-mul, zero-mul, zero-div, div-eq-of-lt, mul-suc, mul-comm, pow-zero}
 use native.Mathlib.Omega.{arith}
 use lib.Pow.{pow-add, pow-mono, shr-shr, shr-le, field, mod-mod-pow, pow-pos}
 use lib.Dec.{lit<}

@@ -1,6 +1,6 @@
 -- The laws of keys, for every m: all that the crates above know of keys. Most are read off how two blocks stand to one another.
 -- Assumes nothing.
-use mathlib.Core.Path.{_≡_, sym, ap, ap₂, _∙_}
+use mathlib.Core.Path.{_≡_, refl, sym, ap, ap₂, _∙_}
 use mathlib.Core.Logic.{_↔_}
 use Prim.Native.Nat.{ℕ, _+_, _-_, _*_, _/_, _^_, _≤_, _<_}
 use native.Mathlib.Nat.{mul-div-cancel, div-mul-le-self, lt-div-mul-add}
@@ -114,12 +114,21 @@ same-block {m} {i} {r} {c} {y} {x} l p q = (to, λ e. ap₂ (λ (n k : ℕ). pix
         let places = sym (mul-div-cancel _ (pow4-pos i)) ∙ ap (λ (n : ℕ). n / 4 ^ i) starts ∙ mul-div-cancel _ (pow4-pos i) in
         place-one (m - i) _ _ _ _ (coarse i l p) (coarse i l q) (sym (place-div i r c) ∙ places ∙ place-div i y x)
 
--- so a pixel's block of exponent i holds another pixel exactly when row and column agree
+-- so a block that holds one pixel holds exactly those whose row and column agree with it
+pub holds-same : {m key i s r c y x : ℕ} → Names m key i s → Pixel m r c → Pixel m y x → Among s (4 ^ i) (place r c)
+    → Among s (4 ^ i) (place y x) ↔ ((r / 2 ^ i ≡ y / 2 ^ i) × (c / 2 ^ i ≡ x / 2 ^ i))
+holds-same b p q h =
+    let e = holds-own b p .0 h in
+    let t = same-block (block-lies b .small) p q in
+    (λ k. t .0 (sym e ∙ holds-own b q .0 k), λ k. holds-own b q .1 (e ∙ t .1 k))
+
+-- and a pixel's key is one of the keys of another pixel's block exactly when they agree
 pub covers : {m i r c y x : ℕ} → i ≤ m → Pixel m r c → Pixel m y x
     → Among (blockKey m i r c) (5 ^ i) (pixelKey m y x) ↔ ((r / 2 ^ i ≡ y / 2 ^ i) × (c / 2 ^ i ≡ x / 2 ^ i))
 covers {m} {i} {r} {c} l p q =
     let b = block-named m i r c l p in
-    (λ h. same-block l p q .0 (holds-own b q .0 (holds-key b q .1 h)), λ e. holds-key b q .0 (holds-own b q .1 (same-block l p q .1 e)))
+    let t = holds-same b p q (holds-own b p .1 refl) in
+    (λ k. t .0 (holds-key b q .1 k), λ k. holds-key b q .0 (t .1 k))
 
 -- ---- the pixels of a span: 4 ^ i, for each place of it is one pixel's and, by `place-one`, of no other
 
