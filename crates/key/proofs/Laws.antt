@@ -8,11 +8,11 @@ use native.Mathlib.Omega.{arith}
 use Rattle.key.specs.Picture.{Pixel, place, PixelAt}
 use Rattle.key.specs.Key.{pixelKey, blockKey}
 use Rattle.key.specs.Blocks.{Names, Lies, Among, Inside, Stand, within, around, after, before}
-use Rattle.key.proofs.Powers.{pow5-pos, pow4-pos}
+use Rattle.key.proofs.Powers.{pow-least}
 use Rattle.key.proofs.Blocks.{At, lies, at-form, form-at, stand}
 use Rattle.key.proofs.Pixels.{coarse, place-one, place-onto, place-div, pixel-at, block-at}
 pub use Rattle.key.proofs.Pixels.{place-lt, place-one, place-onto}
-pub use Rattle.key.proofs.Powers.{pow5-pos, pow4-pos}
+pub use Rattle.key.proofs.Powers.{pow-least}
 pub use Rattle.key.proofs.Zeros.{alignment-most, alignment-zero, alignment-divides}
 
 at : {m key i s : ℕ} → Names m key i s → At m key i s
@@ -29,8 +29,8 @@ one-key {i = i} x y = go (stand (at x) (at y))
     go : {a b s : ℕ} → Stand a i s b i s → a ≡ b
     go (within p q) = omega arith
     go (around l p h q) = absurd (omega arith)
-    go (after p q) = absurd (omega (arith, pow4-pos i))
-    go (before p q) = absurd (omega (arith, pow4-pos i))
+    go (after p q) = absurd (omega (arith, pow-least 3 i))
+    go (before p q) = absurd (omega (arith, pow-least 3 i))
 
 -- the block of exponent i that holds a pixel: its span starts at the multiple of 4 ^ i at or below the pixel's place
 pub block-named : (m i r c : ℕ) → i ≤ m → Pixel m r c → Names m (blockKey m i r c) i (place r c / 4 ^ i * 4 ^ i)
@@ -53,20 +53,20 @@ pub nested : {m a i s b j t : ℕ} → Names m a i s → Names m b j t → Insid
 nested {i = i} {j = j} x y = go (blocks-stand x y)
   where
     go : {a s b t : ℕ} → Stand a i s b j t → Inside s (4 ^ i) t (4 ^ j) ↔ Among a (5 ^ i) b
-    go (within p q) = (λ h. omega (arith, pow5-pos j), λ h. p)
+    go (within p q) = (λ h. omega (arith, pow-least 4 j), λ h. p)
     go (around l p k q) = (λ h. absurd (omega arith), λ h. absurd (omega arith))
-    go (after p q) = (λ h. absurd (omega (arith, pow4-pos j)), λ h. absurd (omega arith))
-    go (before p q) = (λ h. absurd (omega (arith, pow4-pos j)), λ h. absurd (omega (arith, pow5-pos j)))
+    go (after p q) = (λ h. absurd (omega (arith, pow-least 3 j)), λ h. absurd (omega arith))
+    go (before p q) = (λ h. absurd (omega (arith, pow-least 3 j)), λ h. absurd (omega (arith, pow-least 4 j)))
 
 -- the span of A ends before that of B exactly when A's keys do
 pub ordered : {m a i s b j t : ℕ} → Names m a i s → Names m b j t → (s + 4 ^ i ≤ t) ↔ (a + 5 ^ i ≤ b)
 ordered {i = i} {j = j} x y = go (blocks-stand x y)
   where
     go : {a s b t : ℕ} → Stand a i s b j t → (s + 4 ^ i ≤ t) ↔ (a + 5 ^ i ≤ b)
-    go (within p q) = (λ h. absurd (omega (arith, pow4-pos j)), λ h. absurd (omega (arith, pow5-pos j)))
-    go (around l p k q) = (λ h. absurd (omega (arith, pow4-pos i)), λ h. absurd (omega (arith, pow5-pos i)))
+    go (within p q) = (λ h. absurd (omega (arith, pow-least 3 j)), λ h. absurd (omega (arith, pow-least 4 j)))
+    go (around l p k q) = (λ h. absurd (omega (arith, pow-least 3 i)), λ h. absurd (omega (arith, pow-least 4 i)))
     go (after p q) = (λ h. q, λ h. p)
-    go (before p q) = (λ h. absurd (omega (arith, pow4-pos i, pow4-pos j)), λ h. absurd (omega (arith, pow5-pos i, pow5-pos j)))
+    go (before p q) = (λ h. absurd (omega (arith, pow-least 3 i, pow-least 3 j)), λ h. absurd (omega (arith, pow-least 4 i, pow-least 4 j)))
 
 -- the places of pixels are in the order of their keys
 pub key-order : {m r c y x : ℕ} → Pixel m r c → Pixel m y x → (place r c < place y x) ↔ (pixelKey m r c < pixelKey m y x)
@@ -92,7 +92,7 @@ module _ {m key i s r c : ℕ} (b : Names m key i s) (p : Pixel m r c) where
       own = block-named m i r c (block-lies b .small) p
 
       around-it : Among q (4 ^ i) (place r c)
-      around-it = record { least = div-mul-le-self (place r c) (4 ^ i); most = lt-div-mul-add (pow4-pos i) }
+      around-it = record { least = div-mul-le-self (place r c) (4 ^ i); most = lt-div-mul-add (pow-least 3 i) }
 
       to : {k : ℕ} → Among s (4 ^ i) (place r c) → Stand key i s k i q → key ≡ k
       to h (within x y) = omega arith
@@ -111,7 +111,7 @@ same-block {m} {i} {r} {c} {y} {x} l p q = (to, λ e. ap₂ (λ (n k : ℕ). pix
     to : blockKey m i r c ≡ blockKey m i y x → (r / 2 ^ i ≡ y / 2 ^ i) × (c / 2 ^ i ≡ x / 2 ^ i)
     to e =
         let starts = one-block (rw e at (block-named m i r c l p)) (block-named m i y x l q) .1 in
-        let places = sym (mul-div-cancel _ (pow4-pos i)) ∙ ap (λ (n : ℕ). n / 4 ^ i) starts ∙ mul-div-cancel _ (pow4-pos i) in
+        let places = sym (mul-div-cancel _ (pow-least 3 i)) ∙ ap (λ (n : ℕ). n / 4 ^ i) starts ∙ mul-div-cancel _ (pow-least 3 i) in
         place-one (m - i) _ _ _ _ (coarse i l p) (coarse i l q) (sym (place-div i r c) ∙ places ∙ place-div i y x)
 
 -- so a block that holds one pixel holds exactly those whose row and column agree with it

@@ -14,7 +14,7 @@ mod tables;
 use tables::FIVES;
 use tables::SPREAD;
 
-// The table, to be lent to `spread`, `pixel_key` and `block_key`: whoever makes many keys makes it once.
+// The table, to be lent to `pixel_key` and `block_key`: whoever makes many keys makes it once.
 pub fn spread_table() -> [u32; 256]
     ensures { λ r. ⌜ r ≡ spreads ⌝ }
 {

@@ -18,7 +18,7 @@ array-read-result c = search needs
 
 returns : tie.Need-returns
 unfolding upFrom
-returns c = power 5 (c .args .k) (table-entry (λ (k : ℕ). 5 ^ k) 13 (c .args .k) refl (omega arith)) (omega arith) (c .pre)
+returns c = power 4 (c .args .k) (table-entry (λ (k : ℕ). 5 ^ k) 13 (c .args .k) refl (omega arith)) (c .pre)
 
 pub pow5-spec : {M : Type 1} → statement M
 pow5-spec = tie.close (tie.spec mul-result array-read-result returns)
