@@ -1,0 +1,122 @@
+-- The laws of tables of refusals and of lent cells: all that the crates above know of them.
+-- Assumes nothing.
+use mathlib.Core.Path.{_≡_, refl, sym, ap, _∙_}
+use mathlib.Core.Logic.{_↔_}
+use mathlib.Core.Bool.{Bool, true, false, not, cond, _||_}
+use mathlib.Core.List.{List, [], _∷_, _++_, append-assoc}
+use Prim.Native.Nat.{ℕ, suc, _+_, _≤_, _<_}
+use native.Mathlib.Numerals.{add-one}
+use native.Mathlib.Omega.{arith}
+use lib.Dec.{eqb, ltb}
+use lib.ListN.{length, take, drop, set, length-append, length-drop}
+use lib.Seq.{take-at, drop-at, set-at, drop-drop, drop-cons}
+use borrow.Author.Tests.{ltb-false, eqb-false, eqb-true, le-ltb, eq-eqb, ne-eqb, not-false}
+use Rattle.answers.specs.declared.Verdict.{Verdict}
+use Rattle.answers.specs.declared.Verdict.the-variants.{Passed, Refused}
+use Rattle.answers.specs.Rows.{Row, row, answer, verdict}
+use Rattle.answers.specs.Sizes.{sizeRows, Sized}
+use Rattle.answers.specs.Cells.{overwrite}
+
+-- ---- a table answers row by row, and tables one after the other
+
+module _ {A : Type 0} (refuse : ℕ → ℕ → A) where
+  pub answer-append : (rs ss : List Row) (a : A) → answer refuse (rs ++ ss) a ≡ answer refuse rs (answer refuse ss a)
+  unfolding answer
+  answer-append [] ss a = refl
+  answer-append (r ∷ rs) ss a = ap (cond (r .holds) (refuse (r .number) (r .place))) (answer-append rs ss a)
+
+  -- what an answer is, by the verdict
+  unfoldable by : Verdict → A → A
+  by Passed a = a
+  by (Refused n p) a = refuse n p
+
+  by-verdict : (rs : List Row) (a : A) → answer refuse rs a ≡ by (verdict rs) a
+  unfolding answer verdict by
+  by-verdict [] a = refl
+  by-verdict (r ∷ rs) a = go (r .holds) (by-verdict rs a)
+    where
+      go : (t : Bool) → answer refuse rs a ≡ by (answer Refused rs Passed) a
+          → cond t (refuse (r .number) (r .place)) (answer refuse rs a) ≡ by (cond t (Refused (r .number) (r .place)) (answer Refused rs Passed)) a
+      go true ih = refl
+      go false ih = ih
+
+  pub on-passed : (rs : List Row) (a : A) → verdict rs ≡ Passed → answer refuse rs a ≡ a
+  unfolding by
+  on-passed rs a e = by-verdict rs a ∙ ap (λ (v : Verdict). by v a) e
+
+  pub on-refused : (rs : List Row) (a : A) {n p : ℕ} → verdict rs ≡ Refused n p → answer refuse rs a ≡ refuse n p
+  unfolding by
+  on-refused rs a e = by-verdict rs a ∙ ap (λ (v : Verdict). by v a) e
+
+  -- an answer that is no refusal: the table has passed
+  pub accepted : (rs : List Row) (a : A) {done : A} → ((n p : ℕ) → refuse n p ≡ done → ⊥) → answer refuse rs a ≡ done → (verdict rs ≡ Passed) × (a ≡ done)
+  unfolding by
+  accepted rs a {done} never e = go (verdict rs) refl (sym (by-verdict rs a) ∙ e)
+    where
+      go : (v : Verdict) → verdict rs ≡ v → by v a ≡ done → (verdict rs ≡ Passed) × (a ≡ done)
+      go Passed p q = (p, q)
+      go (Refused n p) q h = absurd (never n p h)
+
+-- ---- a table that has passed
+
+pub passed-row : (b : Bool) (n p : ℕ) (rs : List Row) → (verdict (row b n p ∷ rs) ≡ Passed) ↔ ((b ≡ false) × (verdict rs ≡ Passed))
+unfolding verdict answer
+passed-row true n p rs = (λ e. absurd (let z : _≡_ {A = ℕ} 0 1 = cc in omega arith), λ e. absurd (let z : _≡_ {A = ℕ} 0 1 = cc in omega arith))
+passed-row false n p rs = (λ e. (refl, e), λ e. e .1)
+
+pub passed-append : (rs ss : List Row) → (verdict (rs ++ ss) ≡ Passed) ↔ ((verdict rs ≡ Passed) × (verdict ss ≡ Passed))
+unfolding verdict
+passed-append rs ss = (
+  λ e. accepted Refused rs (verdict ss) (λ n p q. let z : _≡_ {A = ℕ} 0 1 = cc in omega arith) (sym (answer-append Refused rs ss Passed) ∙ e),
+  λ e. answer-append Refused rs ss Passed ∙ on-passed Refused rs (verdict ss) (e .0) ∙ e .1,
+)
+
+pub neither : (a b : Bool) → a || b ≡ false → (a ≡ false) × (b ≡ false)
+neither true b e = absurd (let z : _≡_ {A = ℕ} 0 1 = cc in omega arith)
+neither false b e = (refl, e)
+
+pub sized : {m keys classes : ℕ} → (verdict (sizeRows m keys classes) ≡ Passed) ↔ Sized m keys classes
+unfolding verdict answer sizeRows
+sized {m} {keys} {classes} = (to (ltb 12 m) refl (not (eqb keys classes) || eqb keys 0 || ltb 65536 keys) refl, from)
+  where
+    to : (a : Bool) → ltb 12 m ≡ a → (b : Bool) → not (eqb keys classes) || eqb keys 0 || ltb 65536 keys ≡ b
+        → verdict (row a 1 0 ∷ row b 2 0 ∷ []) ≡ Passed → Sized m keys classes
+    to a x b y e =
+        let one = passed-row a 1 0 (row b 2 0 ∷ []) .0 e in
+        let two = passed-row b 2 0 [] .0 (one .1) in
+        let most = neither (not (eqb keys classes) || eqb keys 0) (ltb 65536 keys) (y ∙ two .0) in
+        let some = neither (not (eqb keys classes)) (eqb keys 0) (most .0) in
+        let many = eqb-false keys 0 (some .1) in
+        record {
+          small = ltb-false 12 m (x ∙ one .0);
+          same = eqb-true keys classes (not-false _ (some .0));
+          some = omega (arith, many);
+          most = ltb-false 65536 keys (most .1);
+        }
+
+    from : Sized m keys classes → verdict (sizeRows m keys classes) ≡ Passed
+    from s = simp (le-ltb 12 m (s .small), eq-eqb keys classes (s .same), ne-eqb keys 0 (λ e. omega (arith, s .some)), le-ltb 65536 keys (s .most))
+
+-- ---- lent cells
+
+module _ (xs zs : List ℕ) where
+  pub overwrite-length : length xs ≤ length zs → length (overwrite xs zs) ≡ length zs
+  unfolding overwrite
+  overwrite-length l = simp (length-append, length-drop) (omega arith)
+
+  pub take-overwrite : take (length xs) (overwrite xs zs) ≡ xs
+  unfolding overwrite
+  take-overwrite = take-at xs _ _ refl
+
+  pub drop-overwrite : drop (length xs) (overwrite xs zs) ≡ drop (length xs) zs
+  unfolding overwrite
+  drop-overwrite = drop-at xs _ _ refl
+
+  -- what is written behind an answer goes on with it
+  pub overwrite-append : (ys : List ℕ) → take (length xs) (overwrite xs zs) ++ overwrite ys (drop (length xs) (overwrite xs zs)) ≡ overwrite (xs ++ ys) zs
+  unfolding overwrite
+  overwrite-append ys = rw (take-overwrite, drop-overwrite, drop-drop, length-append, append-assoc)
+
+  pub overwrite-set : (y : ℕ) → length xs < length zs → set (overwrite xs zs) (length xs) y ≡ overwrite (xs ++ (y ∷ [])) zs
+  unfolding overwrite
+  overwrite-set y l = ap (λ (t : List ℕ). set (xs ++ t) (length xs) y) (drop-cons zs (length xs) 0 l) ∙ set-at xs _ _ y _ refl ∙ rw (length-append, append-assoc, add-one)

@@ -1,0 +1,42 @@
+// How operations answer: refusals in a stated order, and cells of a lent slice beyond an answer that keep their content.
+// Stands below keys, maps and files, which share the refusals 1 and 2.
+ghost use mathlib.Core.Path.{_≡_};
+ghost use Rattle.answers.specs.Rows.{verdict};
+ghost use Rattle.answers.specs.Sizes.{sizeRows};
+
+// What a table of refusals says: none of them holds, or the first that does, by its number and its place.
+pub enum Verdict {
+    Passed,
+    Refused { number: u32, place: u32 },
+}
+
+// Refusals 1 and 2 of a picture of 2^m by 2^m pixels whose map has so many keys and classes.
+pub fn sizes(m: u32, keys: usize, classes: usize) -> Verdict
+    ensures { λ r. ⌜ r ≡ verdict (sizeRows m keys classes) ⌝ }
+{
+    if m > 12 {
+        return Verdict::Refused {
+            number: 1,
+            place: 0,
+        };
+    }
+    if keys != classes {
+        return Verdict::Refused {
+            number: 2,
+            place: 0,
+        };
+    }
+    if keys == 0 {
+        return Verdict::Refused {
+            number: 2,
+            place: 0,
+        };
+    }
+    if keys > 65536 {
+        return Verdict::Refused {
+            number: 2,
+            place: 0,
+        };
+    }
+    Verdict::Passed
+}
