@@ -57,6 +57,32 @@ module _ {A : Type 0} (refuse : ℕ → ℕ → A) where
       go Passed p q = (p, q)
       go (Refused n p) q h = absurd (never n p h)
 
+-- ---- a table by its first row
+
+module _ {b : Bool} (n p : ℕ) (rs : List Row) where
+  pub row-held : b ≡ true → verdict (row b n p ∷ rs) ≡ Refused n p
+  unfolding verdict answer
+  row-held e = rw e
+
+  pub row-clear : b ≡ false → verdict (row b n p ∷ rs) ≡ verdict rs
+  unfolding verdict answer
+  row-clear e = rw e
+
+pub passed-none : verdict [] ≡ Passed
+unfolding verdict answer
+passed-none = refl
+
+-- ---- one table after another
+
+module _ (rs ss : List Row) where
+  pub append-refused : {n p : ℕ} → verdict rs ≡ Refused n p → verdict (rs ++ ss) ≡ Refused n p
+  unfolding verdict
+  append-refused e = answer-append Refused rs ss Passed ∙ on-refused Refused rs (verdict ss) e
+
+  pub append-passed : verdict rs ≡ Passed → verdict (rs ++ ss) ≡ verdict ss
+  unfolding verdict
+  append-passed e = answer-append Refused rs ss Passed ∙ on-passed Refused rs (verdict ss) e
+
 -- ---- a table that has passed
 
 pub passed-row : (b : Bool) (n p : ℕ) (rs : List Row) → (verdict (row b n p ∷ rs) ≡ Passed) ↔ ((b ≡ false) × (verdict rs ≡ Passed))

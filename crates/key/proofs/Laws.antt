@@ -12,7 +12,7 @@ use Rattle.key.proofs.Powers.{pow-least}
 use Rattle.key.proofs.Blocks.{At, lies, at-form, form-at, stand}
 use Rattle.key.proofs.Pixels.{coarse, place-one, place-onto, place-div, pixel-at, block-at}
 pub use Rattle.key.proofs.Pixels.{place-lt, place-one, place-onto}
-pub use Rattle.key.proofs.Powers.{pow-least}
+pub use Rattle.key.proofs.Powers.{pow-least, pow-most}
 pub use Rattle.key.proofs.Zeros.{alignment-most, alignment-zero, alignment-divides}
 
 at : {m key i s : ℕ} → Names m key i s → At m key i s

@@ -1,0 +1,4 @@
+pub mod Spans
+pub mod Check
+pub mod Sound
+pub mod Records

@@ -1,0 +1,115 @@
+/*
+ * Lutniorad: maps of classed pixels, stored as a list of square blocks.
+ *
+ * A picture has T rows and T columns of pixels, T = 2^m, m from 0 to 12. Row 0 is north, column 0 is west. Halving both
+ * sides again and again cuts it into square blocks: level 0 is the whole picture, level m a single pixel.
+ *
+ * A KEY names a block. It is a number of m digits in base 5, the most significant first. Each digit chooses a quadrant:
+ * 1 north-west, 2 north-east, 3 south-west, 4 south-east. A block of level d has d such digits and then m - d zeros. So
+ * the whole picture is key 0 (at m = 0 the only key), and at m = 2 key 5 (digits 1 0) is its north-west quarter and key 7
+ * (digits 1 2) the pixel in row 0, column 1.
+ *
+ * A CLASS is what was seen in a block, one byte. All 256 values are classes like any other.
+ *
+ * A MAP is m and a list of RECORDS, a key and a class each: two slices of the same length Q, from 1 to 65,536. A map is
+ * sound when its blocks, in the order of the list, go through all pixels once in the order of their keys: the first block
+ * starts at the first pixel, each next one where the last one ended, and the last one ends with the picture.
+ *
+ * A HOUSE FILE is a map in bytes. Every number is little-endian:
+ *
+ *     offset      bytes
+ *     0           4      length of the file, 20 + 5Q
+ *     4           4      m
+ *     8           4      Q
+ *     12          4      offset of the keys, 20
+ *     16          4      offset of the classes, 20 + 4Q
+ *     20          4Q     the keys
+ *     20 + 4Q     Q      the classes
+ *
+ * WHAT THE CALLER KEEPS. A slice is a pointer and its length in cells (elements, not bytes). For each slice of a call:
+ *   - the pointer is valid for that many cells, and aligned for their type;
+ *   - it is not NULL, even where the length is 0: any aligned address will do then;
+ *   - a slice that the call writes (a pointer without `const`) overlaps no other slice of the call;
+ *   - while a call runs, no other thread writes its slices, nor reads one that the call writes.
+ * All else is answered or refused. In particular any number may stand in any cell, and any length is taken whole.
+ *
+ * WHAT THE LIBRARY KEEPS. It takes no heap and remembers nothing from one call to the next, so calls on different memory
+ * may run at the same time. What stands at entry in a slice that a call writes never matters. A call that refuses writes
+ * nothing. A call that answers writes the cells named with it below; all cells beyond keep their content. Every call ends.
+ *
+ * The archive is made for Linux on x86-64.
+ */
+#ifndef LUTNIORAD_H
+#define LUTNIORAD_H
+
+#include <stddef.h>
+#include <stdint.h>
+
+#ifdef __cplusplus
+extern "C" {
+#endif
+
+/*
+ * What every call returns. Where `refusal` is 0 the call was answered: `place` is 0, and `first` and `second` are as said
+ * with the call. Otherwise the call was refused, `first` and `second` are 0, and the numbers say why:
+ *
+ *     refusal     why                                                                     place
+ *     1           m is over 12                                                            0
+ *     2           keys and classes differ in length, or Q is 0 or over 65,536             0
+ *     3           a record's key is not of the form above, or is 5^m or more              index of the record, from 0
+ *     4           a record starts before the last one ended                               index of the record, from 0
+ *     5           a record starts after the last one ended (the first: after pixel 0),    index of the record, from 0,
+ *                 or the list ends before the picture does                                or Q
+ *     8           a slice that would be written is too short                              cells needed
+ *     9           the layout of the file is wrong                                         offset of the field
+ *
+ * Each call says which of them it gives, in its order. The first that holds is the answer.
+ */
+typedef struct {
+    uint32_t refusal, place, first, second;
+} lutniorad_answer;
+
+/*
+ * Is this map sound?
+ *
+ * Answers `first` = Q, `second` = 0 when it is. Writes nothing. The classes' content does not matter.
+ * Refuses by 1; 2; then record by record 3, 4, 5; and at the end 5 at Q when the list ends early.
+ */
+lutniorad_answer lutniorad_check(uint32_t m,
+                                 const uint32_t *keys, size_t n_keys,
+                                 const uint8_t *classes, size_t n_classes);
+
+/*
+ * Reads a house file that lies in memory, the whole of it and nothing more.
+ *
+ * Answers `first` = m, `second` = Q. The first Q cells of `keys` and of `classes` are then the file's.
+ * Either may be longer than Q, and they may differ in length.
+ *
+ * Only the layout is looked at. The keys may be any numbers, so ask lutniorad_check about the map before you use it.
+ *
+ * Refuses by 9 at 0 when there are fewer than 20 bytes or the length field is not `n`; 1 by the field m; 2 by the field Q;
+ * 9 at 8 when the length is not 20 + 5Q; 9 at 12 and 9 at 16 when that offset is not as above; and 8, with place Q, when
+ * `keys` or `classes` has fewer than Q cells.
+ */
+lutniorad_answer lutniorad_read(const uint8_t *file, size_t n,
+                                uint32_t *keys, size_t n_keys,
+                                uint8_t *classes, size_t n_classes);
+
+/*
+ * Writes a map as a house file.
+ *
+ * Answers `first` = 20 + 5Q, `second` = 0. The first 20 + 5Q bytes of `out` are then the file.
+ * The keys may be any numbers: whether the map is sound is not looked at.
+ *
+ * Refuses by 1; 2; and 8, with place 20 + 5Q, when `out` is shorter than that.
+ */
+lutniorad_answer lutniorad_write(uint32_t m,
+                                 const uint32_t *keys, size_t n_keys,
+                                 const uint8_t *classes, size_t n_classes,
+                                 uint8_t *out, size_t n_out);
+
+#ifdef __cplusplus
+}
+#endif
+
+#endif
