@@ -112,6 +112,7 @@ typedef struct {
 
 static uint64_t seed = 1;
 static uint64_t only_case = EVERY_CASE;
+static bool go_on; /* with other seeds, until interrupted */
 static uint64_t case_number;
 static uint64_t calls; /* compared so far, of this group */
 static call running;   /* the last call */
@@ -127,8 +128,8 @@ static bool begin_case(void)
 
 static void print_answer(const char *of, lutniorad_answer a)
 {
-    printf("  %s: refusal %" PRIu32 ", place %" PRIu32 ", first %" PRIu32 ", second %" PRIu32 "\n",
-           of, a.refusal, a.place, a.first, a.second);
+    printf("  %s: refusal %" PRIu32 ", place %" PRIu32 ", first %" PRIu32 ", second %" PRIu32 "\n", of, a.refusal,
+           a.place, a.first, a.second);
 }
 
 static uint32_t cell_at(const void *cells, size_t cell, size_t i)
@@ -520,9 +521,28 @@ static void take_any_number(map *a, size_t i)
     a->keys[i] = (uint32_t)random_number();
 }
 
+/* The same records in a quadrant of a picture of twice the side. */
+static void become_a_quadrant(map *a, size_t i)
+{
+    for (size_t k = 0; k < a->q; k++)
+        a->keys[k] += (uint32_t)(i % 4 + 1) * power_of_5(a->m);
+    a->m++;
+}
+
 static void (*const damages[])(map *, size_t) = {
-    drop,          repeat,        append,           end_early,     swap_with_next,  take_parent, take_first_child,
-    take_next_key, take_previous_key, clear_some_digit, take_some_key, take_any_number,
+    drop,
+    repeat,
+    append,
+    end_early,
+    swap_with_next,
+    take_parent,
+    take_first_child,
+    take_next_key,
+    take_previous_key,
+    clear_some_digit,
+    take_some_key,
+    take_any_number,
+    become_a_quadrant,
 };
 
 /* ---- Group: answers written out ---- */
@@ -530,9 +550,9 @@ static void (*const damages[])(map *, size_t) = {
 static const uint32_t REFERENCE_KEYS[] = {5, 11, 12, 13, 14, 15, 20};
 static const uint8_t REFERENCE_CLASSES[] = {1, 2, 2, 3, 1, 1, 2};
 static const uint8_t REFERENCE_FILE[] = {
-    55, 0, 0, 0, 2,  0, 0, 0, 7,  0, 0, 0, 20, 0, 0, 0, 48, 0, 0, 0,                         /* the header */
+    55, 0, 0, 0, 2,  0, 0, 0, 7,  0, 0, 0, 20, 0, 0, 0, 48, 0, 0, 0,                           /* the header */
     5,  0, 0, 0, 11, 0, 0, 0, 12, 0, 0, 0, 13, 0, 0, 0, 14, 0, 0, 0, 15, 0, 0, 0, 20, 0, 0, 0, /* the keys */
-    1,  2, 2, 3, 1,  1, 2,                                                                    /* the classes */
+    1,  2, 2, 3, 1,  1, 2,                                                                     /* the classes */
 };
 enum { REFERENCE_Q = 7, REFERENCE_LENGTH = sizeof REFERENCE_FILE };
 
@@ -543,12 +563,12 @@ static const struct {
     lutniorad_answer answer;
 } stated_maps[] = {
     {2, 7, {5, 11, 12, 13, 14, 15, 20}, {0, 0, 7, 0}},
-    {2, 6, {5, 11, 12, 13, 14, 15}, {5, 6, 0, 0}},        /* the last record removed */
-    {2, 2, {5, 7}, {4, 1, 0, 0}},                         /* a pixel of the block before */
-    {2, 7, {1, 11, 12, 13, 14, 15, 20}, {3, 0, 0, 0}},    /* digits 0 1 */
-    {2, 7, {25, 11, 12, 13, 14, 15, 20}, {3, 0, 0, 0}},   /* 5^m */
-    {2, 7, {11, 11, 12, 13, 14, 15, 20}, {5, 0, 0, 0}},   /* the first does not start at pixel 0 */
-    {2, 7, {5, 11, 12, 14, 14, 15, 20}, {5, 3, 0, 0}},    /* a pixel is left out */
+    {2, 6, {5, 11, 12, 13, 14, 15}, {5, 6, 0, 0}},         /* the last record removed */
+    {2, 2, {5, 7}, {4, 1, 0, 0}},                          /* a pixel of the block before */
+    {2, 7, {1, 11, 12, 13, 14, 15, 20}, {3, 0, 0, 0}},     /* digits 0 1 */
+    {2, 7, {25, 11, 12, 13, 14, 15, 20}, {3, 0, 0, 0}},    /* 5^m */
+    {2, 7, {11, 11, 12, 13, 14, 15, 20}, {5, 0, 0, 0}},    /* the first does not start at pixel 0 */
+    {2, 7, {5, 11, 12, 14, 14, 15, 20}, {5, 3, 0, 0}},     /* a pixel is left out */
     {2, 8, {5, 11, 12, 13, 14, 15, 20, 20}, {4, 7, 0, 0}}, /* the picture was full */
     {2, 8, {5, 11, 12, 13, 14, 15, 20, 26}, {3, 7, 0, 0}},
     {0, 1, {0}, {0, 0, 1, 0}},
@@ -565,9 +585,9 @@ static const struct {
     uint8_t low_bytes[3]; /* what its three lower bytes are set to */
     lutniorad_answer answer;
 } stated_files[] = {
-    {0, {55, 0, 0}, {0, 0, 2, 7}},  {0, {54, 0, 0}, {9, 0, 0, 0}}, {4, {13, 0, 0}, {1, 0, 0, 0}},
-    {8, {0, 0, 0}, {2, 0, 0, 0}},   {8, {1, 0, 1}, {2, 0, 0, 0}},  {8, {8, 0, 0}, {9, 8, 0, 0}},
-    {8, {0, 0, 1}, {9, 8, 0, 0}},   {12, {21, 0, 0}, {9, 12, 0, 0}}, {16, {49, 0, 0}, {9, 16, 0, 0}},
+    {0, {55, 0, 0}, {0, 0, 2, 7}}, {0, {54, 0, 0}, {9, 0, 0, 0}},   {4, {13, 0, 0}, {1, 0, 0, 0}},
+    {8, {0, 0, 0}, {2, 0, 0, 0}},  {8, {1, 0, 1}, {2, 0, 0, 0}},    {8, {8, 0, 0}, {9, 8, 0, 0}},
+    {8, {0, 0, 1}, {9, 8, 0, 0}},  {12, {21, 0, 0}, {9, 12, 0, 0}}, {16, {49, 0, 0}, {9, 16, 0, 0}},
 };
 
 static void require_stated(lutniorad_answer got, uint32_t refusal, uint32_t place, uint32_t first, uint32_t second)
@@ -610,6 +630,10 @@ static void stated_largest_map(uint32_t m)
     copy_map(&damaged, &sound);
     damaged.keys[damaged.q - 1] = damaged.keys[0];
     require_stated(compare_check(&damaged, damaged.q, damaged.q), 4, 65535, 0, 0);
+    if (m < 12) {
+        become_a_quadrant(&sound, 0);
+        require_stated(compare_check(&sound, sound.q, sound.q), 5, 65536, 0, 0);
+    }
 }
 
 static void group_written_out(void)
@@ -674,8 +698,8 @@ static void for_small_maps(void (*run)(void))
 static void every_m(void)
 {
     const uint32_t m = sound.m;
-    const uint32_t others[] = {m,       m + 1,       m - 1,     12, 13, 14, 16 + m, 255, 256 + m, 65536 + m,
-                               1u << 31, (1u << 31) + m, UINT32_MAX};
+    const uint32_t others[] = {m,         m + 1,    m - 1,          12,        13, 14, 16 + m, 255, 256 + m,
+                               65536 + m, 1u << 31, (1u << 31) + m, UINT32_MAX};
     for (size_t i = 0; i < COUNT(others); i++) {
         copy_map(&damaged, &sound);
         damaged.m = others[i];
@@ -793,10 +817,11 @@ static void set_header(uint32_t m, size_t q)
 static const struct {
     uint32_t times, plus;
 } spoils[] = {
-    {1, 0},        {1, 1},       {0, 0},       {0, 13},       {0, UINT32_MAX},   {1, UINT32_MAX}, {1, 4},
-    {1, 5},        {0, 1},       {0, 12},      {0, 19},       {0, 20},           {0, 25},         {1, 256},
-    {0, 65535},    {0, 65536},   {0, 65537},   {1, 65536},    {1, 1u << 30},     {0, 1u << 31},   {1, 1u << 31},
-    {256, 0},      {1u << 24, 0}, {0, UINT32_MAX - 3}, {0, 0x33333333}, {5, 0},
+    {1, 0},          {1, 1},        {0, 0},        {0, 13},    {0, UINT32_MAX}, {1, UINT32_MAX},
+    {1, 4},          {1, 5},        {0, 1},        {0, 12},    {0, 19},         {0, 20},
+    {0, 25},         {1, 256},      {0, 65535},    {0, 65536}, {0, 65537},      {1, 65536},
+    {1, 1u << 30},   {0, 1u << 31}, {1, 1u << 31}, {256, 0},   {1u << 24, 0},   {0, UINT32_MAX - 3},
+    {0, 0x33333333}, {5, 0},
 };
 enum { CHIEF_SPOILS = 5 };
 
@@ -1047,66 +1072,72 @@ static void run_group(size_t g)
     calls = 0;
     case_number = g * CASES_OF_GROUP;
     groups[g].run();
-    printf("%s: %" PRIu64 " calls agree
-", groups[g].name, calls);
+    printf("%s: %" PRIu64 " calls agree\n", groups[g].name, calls);
     fflush(stdout);
 }
 
-static void run_forever(void)
+static void run_random_groups(void)
 {
-    for (;; seed++) {
-        printf("seed %" PRIu64 "
-", seed);
-        for (size_t g = 0; g < COUNT(groups); g++)
-            if (groups[g].random)
-                run_group(g);
+    seed++;
+    printf("seed %" PRIu64 "\n", seed);
+    for (size_t g = 0; g < COUNT(groups); g++)
+        if (groups[g].random)
+            run_group(g);
+}
+
+static bool take_number(const char *text, uint64_t *number)
+{
+    char *end;
+    *number = strtoull(text, &end, 10);
+    return *text != '\0' && *end == '\0';
+}
+
+static bool take_options(int argc, char **argv)
+{
+    for (int i = 1; i < argc; i++) {
+        const char *value = i + 1 < argc ? argv[i + 1] : "";
+        if (strcmp(argv[i], "--long") == 0)
+            go_on = true;
+        else if (strcmp(argv[i], "--seed") == 0 && take_number(value, &seed))
+            i++;
+        else if (strcmp(argv[i], "--case") == 0 && take_number(value, &only_case))
+            i++;
+        else
+            return false;
     }
+    return true;
 }
 
-static int usage(void)
-{
-    fprintf(stderr, "usage: compare [--seed N] [--case K] [--long]
-");
-    return 2;
-}
-
-/* A call that ends the program is a mismatch too. */
+/* A call that does not come back is a mismatch too. */
 static sigjmp_buf back_in_main;
 
-static void on_signal(int signal)
+static void on_signal(int number)
 {
-    siglongjmp(back_in_main, signal);
+    siglongjmp(back_in_main, number);
 }
 
 static void catch_signals(void)
 {
-    static const int signals[] = {SIGSEGV, SIGBUS, SIGILL, SIGFPE, SIGTRAP, SIGABRT};
-    for (size_t i = 0; i < COUNT(signals); i++)
-        signal(signals[i], on_signal);
+    static const int numbers[] = {SIGSEGV, SIGBUS, SIGILL, SIGFPE, SIGTRAP, SIGABRT};
+    for (size_t i = 0; i < COUNT(numbers); i++)
+        signal(numbers[i], on_signal);
 }
 
 int main(int argc, char **argv)
 {
-    bool go_on = false;
-    for (int i = 1; i < argc; i++) {
-        if (strcmp(argv[i], "--long") == 0)
-            go_on = true;
-        else if (strcmp(argv[i], "--seed") == 0 && i + 1 < argc)
-            seed = strtoull(argv[++i], NULL, 10);
-        else if (strcmp(argv[i], "--case") == 0 && i + 1 < argc)
-            only_case = strtoull(argv[++i], NULL, 10);
-        else
-            return usage();
-    }
     int caught = sigsetjmp(back_in_main, 1);
     if (caught != 0)
-        fail("the call was ended by signal %d; memory outside its slices cannot be touched", caught);
+        fail("the call ended in signal %d, as it does when memory outside its slices is touched", caught);
+    if (!take_options(argc, argv)) {
+        fprintf(stderr, "usage: compare [--seed N] [--case K] [--long]\n");
+        return 2;
+    }
     make_rooms();
     catch_signals();
     for (size_t g = 0; g < COUNT(groups); g++)
         if (only_case == EVERY_CASE || only_case / CASES_OF_GROUP == g)
             run_group(g);
-    for (seed++; go_on; seed++)
+    while (go_on)
         run_random_groups();
     return 0;
 }

@@ -105,8 +105,10 @@ lutniorad_answer reference_check(uint32_t m,
 /* A number of four bytes, the least significant first. */
 static uint64_t number_at(const uint8_t *bytes, uint64_t offset)
 {
-    return bytes[offset] + 256 * ((uint64_t)bytes[offset + 1]
-                                  + 256 * ((uint64_t)bytes[offset + 2] + 256 * (uint64_t)bytes[offset + 3]));
+    uint64_t number = 0;
+    for (uint64_t i = 4; i > 0; i--)
+        number = 256 * number + bytes[offset + i - 1];
+    return number;
 }
 
 static void put_number(uint8_t *bytes, uint64_t offset, uint64_t number)

@@ -1,2 +1,4 @@
 mod Walk
 mod Tables
+mod Order
+mod Meeting

@@ -1,0 +1,67 @@
+-- The records of a sound map in their order: each is a block, they stand apart, and one of them holds a given place. By induction over `Follow`.
+-- Assumes nothing.
+use mathlib.Core.Path.{_≡_, refl, sym, ap, _∙_}
+use mathlib.Core.List.{List, [], _∷_}
+use Prim.Native.Nat.{ℕ, zero, suc, _+_, _^_, _≤_, _<_}
+use native.Mathlib.Decide.{decLt}
+use native.Mathlib.Omega.{arith}
+use lib.ListN.{length, getD}
+use Rattle.key.specs.Blocks.{Names, Among}
+use Rattle.key.proofs.Laws.{one-block, ordered, pow-least}
+use Rattle.map.specs.Sound.{Follow, full, next, Record, SomeRecord, Holder, Rising}
+
+module _ {m : ℕ} where
+  pub record-at : {at : ℕ} {keys : List ℕ} → Follow m at keys → (n : ℕ) → n < length keys → SomeRecord m keys n
+  record-at (full e) n l = absurd (omega arith)
+  record-at (next b q F) zero l = record { exponent = _; start = _; is = record { within = l; names = b } }
+  record-at (next b q F) (suc n) l =
+      let r = record-at F n (omega arith) in
+      record { exponent = r .exponent; start = r .start; is = record { within = l; names = r .is .names } }
+
+  -- a record behind the first
+  behind : {k : ℕ} {keys : List ℕ} {n i s : ℕ} → Record m (k ∷ keys) (suc n) i s → Record m keys n i s
+  behind r = record { within = omega (arith, r .within); names = r .names }
+
+  -- no record starts before the first place
+  late : {at : ℕ} {keys : List ℕ} → Follow m at keys → (n : ℕ) {i s : ℕ} → Record m keys n i s → at ≤ s
+  late (full e) n r = absurd (omega (arith, r .within))
+  late (next b q F) zero r = omega (arith, one-block b (r .names) .1)
+  late (next b q F) (suc n) r = omega (arith, late F n (behind r))
+
+  pub apart : {at : ℕ} {keys : List ℕ} → Follow m at keys → (a b : ℕ) {i s j t : ℕ} → Record m keys a i s → Record m keys b j t → a < b → s + 4 ^ i ≤ t
+  apart F a zero r u l = absurd (omega arith)
+  apart (full e) a (suc b) r u l = absurd (omega (arith, u .within))
+  apart (next c q F) zero (suc b) r u l = let o = one-block (r .names) c in rw (o .0, o .1, ← q) (late F b (behind u))
+  apart (next c q F) (suc a) (suc b) r u l = apart F a b (behind r) (behind u) (omega arith)
+
+  pub holder : {at : ℕ} {keys : List ℕ} → Follow m at keys → (q : ℕ) → at ≤ q → q < 4 ^ m → Holder m keys q
+  holder (full e) q l u = absurd (omega arith)
+  holder {at} (next {k = k} {i = i} {end = end} {ks = ks} b e F) q l u = go (decLt q end) (holder F q)
+    where
+      go : Dec (q < end) → (end ≤ q → q < 4 ^ m → Holder m ks q) → Holder m (k ∷ ks) q
+      go (yes h) ih = record { index = 0; exponent = _; start = _; is = record { within = omega arith; names = b }; has = omega arith }
+      go (no h) ih =
+          let r = ih (omega (arith, h)) u in
+          record { index = suc (r .index); exponent = r .exponent; start = r .start; is = record { within = omega (arith, r .is .within); names = r .is .names }; has = r .has }
+
+  -- keys rise, by as much as the earlier block has keys
+  pub keys-apart : {at : ℕ} {keys : List ℕ} → Follow m at keys → (a b : ℕ) {i s j t : ℕ} → Record m keys a i s → Record m keys b j t → a < b → getD keys a 0 + 5 ^ i ≤ getD keys b 0
+  keys-apart F a b r u l = ordered (r .names) (u .names) .0 (apart F a b r u l)
+
+  pub keys-rise : {at : ℕ} {keys : List ℕ} → Follow m at keys → Rising keys
+  keys-rise {keys = keys} F = record { rise = rise }
+    where
+      rise : (a b : ℕ) → a < b → b < length keys → getD keys a 0 < getD keys b 0
+      rise a b l h =
+          let r = record-at F a (omega arith) in
+          omega (arith, keys-apart F a b (r .is) (record-at F b h .is) l, pow-least 4 (r .exponent))
+
+  -- two records that share a place are one
+  pub one-holder : {at : ℕ} {keys : List ℕ} → Follow m at keys → {a b q i s j t : ℕ} → Record m keys a i s → Record m keys b j t
+      → Among s (4 ^ i) q → Among t (4 ^ j) q → a ≡ b
+  one-holder F {a} {b} r u x y = go (decLt a b) (decLt b a)
+    where
+      go : Dec (a < b) → Dec (b < a) → a ≡ b
+      go (yes l) d = absurd (omega (arith, apart F a b r u l))
+      go (no h) (yes l) = absurd (omega (arith, apart F b a u r l))
+      go (no h) (no k) = omega (arith, h, k)
