@@ -6,13 +6,13 @@
  *
  * A KEY names a block. It is a number of m digits in base 5, the most significant first. Each digit chooses a quadrant:
  * 1 north-west, 2 north-east, 3 south-west, 4 south-east. A block of level d has d such digits and then m - d zeros. So
- * the whole picture is key 0 (at m = 0 the only key), and at m = 2 key 5 (digits 1 0) is its north-west quarter and key 7
- * (digits 1 2) the pixel in row 0, column 1.
+ * the whole picture is key 0 (at m = 0 the only key), and at m = 2 key 5 (digits 1 0) is its north-west quarter and
+ * key 7 (digits 1 2) the pixel in row 0, column 1.
  *
- * A CLASS is what was seen in a block, one byte. All 256 values are classes like any other.
+ * A CLASS is what was seen in a block, one byte. 255 marks what the camera did not see, and is a class like any other.
  *
  * A MAP is m and a list of RECORDS, a key and a class each: two slices of the same length Q, from 1 to 65,536. A map is
- * sound when its blocks, in the order of the list, go through all pixels once in the order of their keys: the first block
+ * sound when its blocks, in the order of the list, go through all pixels once in the order of their keys: the first
  * starts at the first pixel, each next one where the last one ended, and the last one ends with the picture.
  *
  * A HOUSE FILE is a map in bytes. Every number is little-endian:
@@ -30,12 +30,12 @@
  *   - the pointer is valid for that many cells, and aligned for their type;
  *   - it is not NULL, even where the length is 0: any aligned address will do then;
  *   - a slice that the call writes (a pointer without `const`) overlaps no other slice of the call;
- *   - while a call runs, no other thread writes its slices, nor reads one that the call writes.
- * All else is answered or refused. In particular any number may stand in any cell, and any length is taken whole.
+ *   - while the call runs, no other thread writes the slice, nor reads it if the call writes it.
+ * All else is answered or refused: any number may stand in any cell, and any length is taken whole.
  *
  * WHAT THE LIBRARY KEEPS. It takes no heap and remembers nothing from one call to the next, so calls on different memory
- * may run at the same time. What stands at entry in a slice that a call writes never matters. A call that refuses writes
- * nothing. A call that answers writes the cells named with it below; all cells beyond keep their content. Every call ends.
+ * may run at the same time. Every call ends. A call that refuses writes nothing. A call that answers writes the cells
+ * named with it below, and all others keep their content. What stands at entry in a slice that is written never matters.
  *
  * The archive is made for Linux on x86-64.
  */
@@ -51,7 +51,7 @@ extern "C" {
 
 /*
  * What every call returns. Where `refusal` is 0 the call was answered: `place` is 0, and `first` and `second` are as said
- * with the call. Otherwise the call was refused, `first` and `second` are 0, and the numbers say why:
+ * with the call. Otherwise it was refused, `first` and `second` are 0, and the other two numbers say why:
  *
  *     refusal     why                                                                     place
  *     1           m is over 12                                                            0
@@ -61,7 +61,7 @@ extern "C" {
  *     5           a record starts after the last one ended (the first: after pixel 0),    index of the record, from 0,
  *                 or the list ends before the picture does                                or Q
  *     8           a slice that would be written is too short                              cells needed
- *     9           the layout of the file is wrong                                         offset of the field
+ *     9           the layout of the file is wrong                                         offset of the header field
  *
  * Each call says which of them it gives, in its order. The first that holds is the answer.
  */
@@ -87,9 +87,9 @@ lutniorad_answer lutniorad_check(uint32_t m,
  *
  * Only the layout is looked at. The keys may be any numbers, so ask lutniorad_check about the map before you use it.
  *
- * Refuses by 9 at 0 when there are fewer than 20 bytes or the length field is not `n`; 1 by the field m; 2 by the field Q;
- * 9 at 8 when the length is not 20 + 5Q; 9 at 12 and 9 at 16 when that offset is not as above; and 8, with place Q, when
- * `keys` or `classes` has fewer than Q cells.
+ * Refuses by 9 at 0 when there are fewer than 20 bytes or the length field is not `n`; 1 by the field m; 2 by the
+ * field Q; 9 at 8 when the length is not 20 + 5Q; 9 at 12 and 9 at 16 when the offset there is not as above; and 8, with
+ * place Q, when `keys` or `classes` has fewer than Q cells.
  */
 lutniorad_answer lutniorad_read(const uint8_t *file, size_t n,
                                 uint32_t *keys, size_t n_keys,

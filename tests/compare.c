@@ -43,6 +43,8 @@ static size_t below(size_t n)
 
 /* ---- The two programs and their operations ---- */
 
+/* An operation is a function of each program, a function that hands it the slices of a call, and a row of names. */
+
 enum { MOST_SLICES = 3 };
 
 typedef struct {
@@ -92,7 +94,7 @@ static const operation CHECK = {"check", run_check, true, 2, {{"keys", 4}, {"cla
 static const operation READ = {"read", run_read, false, 3, {{"file", 1}, {"keys", 4}, {"classes", 1}}};
 static const operation WRITE = {"write", run_write, true, 3, {{"keys", 4}, {"classes", 1}, {"out", 1}}};
 
-/* A slice of a call before it is laid out. Where the call writes it there is no content, and garbage will stand in it. */
+/* A slice of a call before it is laid out. One that the call writes has no content, and garbage will stand in it. */
 typedef struct {
     const void *content;
     size_t length;
@@ -124,12 +126,6 @@ static bool begin_case(void)
     random_state = seed;
     random_state = random_number() + case_number;
     return only_case == EVERY_CASE || only_case == case_number;
-}
-
-static void print_answer(const char *of, lutniorad_answer a)
-{
-    printf("  %s: refusal %" PRIu32 ", place %" PRIu32 ", first %" PRIu32 ", second %" PRIu32 "\n", of, a.refusal,
-           a.place, a.first, a.second);
 }
 
 static uint32_t cell_at(const void *cells, size_t cell, size_t i)
@@ -180,20 +176,21 @@ static void require_answer(lutniorad_answer got, const char *whose, lutniorad_an
 {
     if (same_answer(got, expected))
         return;
-    print_answer("library", got);
-    print_answer(whose, expected);
-    fail("another answer than %s", whose);
+    fail("refusal %" PRIu32 ", place %" PRIu32 ", first %" PRIu32 ", second %" PRIu32 "; by %s: %" PRIu32 ", %" PRIu32
+         ", %" PRIu32 ", %" PRIu32,
+         got.refusal, got.place, got.first, got.second, whose, expected.refusal, expected.place, expected.first,
+         expected.second);
 }
 
 /* ---- Rooms: where the slices of a call stand ---- */
 
 /*
- * Each program has a room for each slice. A slice stands at the end of its room, between guard cells. In the second round
- * there are none behind it: it ends where the room does, and the memory behind the room cannot be touched at all. GUARD is
- * odd, so that bytes stand at odd addresses.
+ * Each program has a room for each slice. A slice stands at the end of its room, between guard cells. In the second
+ * round there are none behind it: it ends where the room does, and the memory behind the room cannot be touched at all.
+ * GUARD is odd, so that bytes stand at odd addresses.
  *
- * A vast slice, of more cells than a room has, is really there for the library, in a room of its own from the first cell
- * on. The programs have no reason to touch but its first cells, and these are what is laid out and compared.
+ * A vast slice, of more cells than a room has, is really there for the library, in a room of its own. The programs have
+ * no reason to touch more than its first cells, and these are what is laid out and compared.
  */
 enum { LIBRARY, REFERENCE, SIDES };
 enum { ROUNDS = 2, GUARD = 17, CELLS_OF_VAST = 64, ROOM = 1 << 20, FENCE = 1 << 16 };
@@ -258,7 +255,8 @@ static stand lay_out(const call *c, size_t i, int round, slice slices[SIDES][MOS
 
 /* ---- The comparison ---- */
 
-static const void *left[MOST_SLICES]; /* what the library's slices hold after the last call */
+/* The library's slices after the last call, in the order of its parameters. */
+static const void *left[MOST_SLICES];
 
 static void compare_slice(const parameter *p, size_t length, const stand *at)
 {
@@ -271,7 +269,7 @@ static void compare_slice(const parameter *p, size_t length, const stand *at)
          (long)(i / p->cell) - GUARD, length, i % p->cell, at->first[LIBRARY][i], at->first[REFERENCE][i]);
 }
 
-/* One call, once with each garbage. What is compared of a slice is all of it and its guards, were it to be written or not. */
+/* One call, once with each garbage. Of every slice, written by the call or not, all cells and guards are compared. */
 static lutniorad_answer compare(call c)
 {
     lutniorad_answer answers[ROUNDS];
@@ -351,7 +349,7 @@ static void write_what_was_read(lutniorad_answer answer, size_t n)
     require(memcmp(left[2], file, n) == 0, "what was read from a file is written as another file");
 }
 
-/* All that can be asked about a map, sound or not, on slices of just its length: the check, and into a file and back. */
+/* A map, sound or not, on slices of just its length: the check, and into a file and back. */
 static void try_map(const map *a)
 {
     size_t n = length_of_file(a->q);
@@ -413,7 +411,7 @@ static void make_map(map *a, uint32_t m, shape how, size_t cuts)
         a->classes[i] = (uint8_t)random_number();
 }
 
-/* The pictures up to m = 2, by number: 0 is one block; each other cuts the picture, and then the quadrants in its mask. */
+/* The pictures up to m = 2, by number: 0 is one block; each other is cut in four, and then the quadrants of a mask. */
 static const size_t pictures[] = {1, 2, 17};
 
 static void make_picture(map *a, uint32_t m, size_t number)
@@ -475,8 +473,8 @@ static void swap_with_next(map *a, size_t i)
     a->keys[next] = key;
 }
 
-/* 5 to the power of the place of the key's last digit that is not 0; of key 0, 5^m. */
-static uint32_t last_digit(uint32_t m, uint32_t key)
+/* What a 1 is worth at the place of the key's last digit that is not 0; of key 0, 5^m. */
+static uint32_t last_place(uint32_t m, uint32_t key)
 {
     uint32_t place = 1;
     while (place < power_of_5(m) && key / place % 5 == 0)
@@ -486,13 +484,13 @@ static uint32_t last_digit(uint32_t m, uint32_t key)
 
 static void take_parent(map *a, size_t i)
 {
-    uint32_t place = last_digit(a->m, a->keys[i]);
+    uint32_t place = last_place(a->m, a->keys[i]);
     a->keys[i] -= a->keys[i] / place % 5 * place;
 }
 
 static void take_first_child(map *a, size_t i)
 {
-    a->keys[i] += last_digit(a->m, a->keys[i]) / 5;
+    a->keys[i] += last_place(a->m, a->keys[i]) / 5;
 }
 
 static void take_next_key(map *a, size_t i)
@@ -590,30 +588,35 @@ static const struct {
     {8, {0, 0, 1}, {9, 8, 0, 0}},  {12, {21, 0, 0}, {9, 12, 0, 0}}, {16, {49, 0, 0}, {9, 16, 0, 0}},
 };
 
-static void require_stated(lutniorad_answer got, uint32_t refusal, uint32_t place, uint32_t first, uint32_t second)
+static void require_stated(lutniorad_answer got, lutniorad_answer stated)
+{
+    require_answer(got, "the answer written out", stated);
+}
+
+static void require_numbers(lutniorad_answer got, uint32_t refusal, uint32_t place, uint32_t first, uint32_t second)
 {
     lutniorad_answer stated = {refusal, place, first, second};
-    require_answer(got, "the one written out", stated);
+    require_stated(got, stated);
 }
 
 /* The file of the reference map, byte by byte, and what its lengths and header decide. */
 static void stated_reference_file(void)
 {
     copy_records(&sound, 2, REFERENCE_Q, REFERENCE_KEYS, REFERENCE_CLASSES);
-    require_stated(compare_write(&sound, 7, 7, 54), 8, 55, 0, 0);
-    require_stated(compare_write(&sound, 7, 7, 55), 0, 0, 55, 0);
+    require_numbers(compare_write(&sound, 7, 7, 54), 8, 55, 0, 0);
+    require_numbers(compare_write(&sound, 7, 7, 55), 0, 0, 55, 0);
     require(memcmp(left[2], REFERENCE_FILE, REFERENCE_LENGTH) == 0, "another file than the one written out");
     memcpy(file, REFERENCE_FILE, REFERENCE_LENGTH);
-    require_stated(compare_read(54, 7, 7), 9, 0, 0, 0);
-    require_stated(compare_read(55, 6, 7), 8, 7, 0, 0);
-    require_stated(compare_read(55, 7, 6), 8, 7, 0, 0);
-    require_stated(compare_read(55, 7, 7), 0, 0, 2, 7);
+    require_numbers(compare_read(54, 7, 7), 9, 0, 0, 0);
+    require_numbers(compare_read(55, 6, 7), 8, 7, 0, 0);
+    require_numbers(compare_read(55, 7, 6), 8, 7, 0, 0);
+    require_numbers(compare_read(55, 7, 7), 0, 0, 2, 7);
     require(memcmp(left[1], REFERENCE_KEYS, sizeof REFERENCE_KEYS) == 0, "other keys than those written out");
     require(memcmp(left[2], REFERENCE_CLASSES, sizeof REFERENCE_CLASSES) == 0, "other classes than those written out");
     for (size_t i = 0; i < COUNT(stated_files); i++) {
         memcpy(file, REFERENCE_FILE, REFERENCE_LENGTH);
         memcpy(file + stated_files[i].field, stated_files[i].low_bytes, 3);
-        require_answer(compare_read(55, 7, 7), "the one written out", stated_files[i].answer);
+        require_stated(compare_read(55, 7, 7), stated_files[i].answer);
     }
 }
 
@@ -621,18 +624,18 @@ static void stated_reference_file(void)
 static void stated_largest_map(uint32_t m)
 {
     make_map(&sound, m, EVEN, most_cuts(8));
-    require_stated(compare_check(&sound, sound.q, sound.q), 0, 0, 65536, 0);
-    require_stated(compare_check(&sound, sound.q + 1, sound.q + 1), 2, 0, 0, 0);
-    require_stated(compare_check(&sound, sound.q - 1, sound.q - 1), 5, 65535, 0, 0);
-    require_stated(compare_write(&sound, sound.q, sound.q, 327699), 8, 327700, 0, 0);
-    require_stated(compare_write(&sound, sound.q + 1, sound.q + 1, 327705), 2, 0, 0, 0);
+    require_numbers(compare_check(&sound, sound.q, sound.q), 0, 0, 65536, 0);
+    require_numbers(compare_check(&sound, sound.q + 1, sound.q + 1), 2, 0, 0, 0);
+    require_numbers(compare_check(&sound, sound.q - 1, sound.q - 1), 5, 65535, 0, 0);
+    require_numbers(compare_write(&sound, sound.q, sound.q, 327699), 8, 327700, 0, 0);
+    require_numbers(compare_write(&sound, sound.q + 1, sound.q + 1, 327705), 2, 0, 0, 0);
     try_map(&sound);
     copy_map(&damaged, &sound);
     damaged.keys[damaged.q - 1] = damaged.keys[0];
-    require_stated(compare_check(&damaged, damaged.q, damaged.q), 4, 65535, 0, 0);
+    require_numbers(compare_check(&damaged, damaged.q, damaged.q), 4, 65535, 0, 0);
     if (m < 12) {
         become_a_quadrant(&sound, 0);
-        require_stated(compare_check(&sound, sound.q, sound.q), 5, 65536, 0, 0);
+        require_numbers(compare_check(&sound, sound.q, sound.q), 5, 65536, 0, 0);
     }
 }
 
@@ -642,7 +645,7 @@ static void group_written_out(void)
         if (!begin_case())
             continue;
         copy_records(&sound, stated_maps[i].m, stated_maps[i].q, stated_maps[i].keys, REFERENCE_FILE);
-        require_answer(compare_check(&sound, sound.q, sound.q), "the one written out", stated_maps[i].answer);
+        require_stated(compare_check(&sound, sound.q, sound.q), stated_maps[i].answer);
     }
     if (begin_case())
         stated_reference_file();
@@ -672,21 +675,45 @@ static void every_list(uint32_t m, size_t values, size_t longest)
     }
 }
 
+/* Keys about each power of 5, alone and two together: all digits 0, 1 or 4; one digit among zeros; 5^m and beyond. */
+static void keys_about_powers(uint32_t m)
+{
+    enum { ABOUT = 5 };
+    uint32_t keys[ABOUT * 14];
+    for (uint32_t k = 0; k < COUNT(keys) / ABOUT; k++) {
+        uint32_t power = power_of_5(k); /* up to 5^13, still under 2^32 */
+        const uint32_t about[ABOUT] = {power - 1, power, power + 1, 4 * (power / 5), (power - 1) / 4};
+        memcpy(keys + ABOUT * k, about, sizeof about);
+    }
+    sound.m = m;
+    memcpy(sound.classes, REFERENCE_CLASSES, 2);
+    for (size_t i = 0; i < COUNT(keys) * COUNT(keys); i++) {
+        sound.keys[0] = keys[i / COUNT(keys)];
+        sound.keys[1] = keys[i % COUNT(keys)];
+        compare_check(&sound, 2, 2);
+        if (sound.keys[0] == sound.keys[1])
+            compare_check(&sound, 1, 1);
+    }
+}
+
 static void group_key_lists(void)
 {
     every_list(0, 4, 4);
     every_list(1, 7, 5);
     every_list(2, 27, 3);
+    for (uint32_t m = 0; m <= 12; m++)
+        if (begin_case())
+            keys_about_powers(m);
 }
 
 /* ---- Group: small maps ---- */
 
-/* Calls `run` on every picture up to m = 2 in every paint, as `sound`. The calls that `run` makes are one case. */
-static void for_small_maps(void (*run)(void))
+/* Calls `run` on every picture up to m = 2, as `sound`, in the first so many paints. What `run` does is one case. */
+static void for_small_maps(void (*run)(void), int paints)
 {
     for (uint32_t m = 0; m < COUNT(pictures); m++)
         for (size_t number = 0; number < pictures[m]; number++)
-            for (int how = 0; how < PAINTS; how++)
+            for (int how = 0; how < paints; how++)
                 if (begin_case()) {
                     make_picture(&sound, m, number);
                     paint(&sound, how);
@@ -732,9 +759,9 @@ static void every_damage(void)
 
 static void group_small_maps(void)
 {
-    for_small_maps(every_m);
-    for_small_maps(every_key);
-    for_small_maps(every_damage);
+    for_small_maps(every_m, PAINTS);
+    for_small_maps(every_key, PAINTS);
+    for_small_maps(every_damage, PAINTS);
 }
 
 /* ---- Group: lengths ---- */
@@ -782,7 +809,7 @@ static void reasons_together(void)
 
 static void group_lengths(void)
 {
-    for_small_maps(every_length);
+    for_small_maps(every_length, PAINTS);
     if (begin_case())
         reasons_together();
 }
@@ -811,8 +838,8 @@ static void set_header(uint32_t m, size_t q)
 }
 
 /*
- * What a field is set to: its right value times one number and plus another. The first is the right value itself; others
- * are it when only some of the 32 bits are looked at, or the bytes the other way round, or when a product wraps.
+ * What a field is set to: its right value times one number and plus another. The first is the right value itself.
+ * Others look like it when some of the 32 bits are left out, when the bytes are turned round, or when a product wraps.
  */
 static const struct {
     uint32_t times, plus;
@@ -897,13 +924,38 @@ static void most_records(void)
 
 static void group_files(void)
 {
-    for_small_maps(every_cut);
-    for_small_maps(every_count);
-    for_small_maps(every_pair_of_fields);
+    for_small_maps(every_cut, PAINTS);
+    for_small_maps(every_count, PAINTS);
+    for_small_maps(every_pair_of_fields, 1);
     if (begin_case())
         all_fields();
     if (begin_case())
         most_records();
+}
+
+/* ---- Group: largest maps ---- */
+
+/* A map of as many records as there can be, damaged at the first and last records and in the middle. */
+static void damage_largest_map(uint32_t m, shape how, size_t with)
+{
+    make_map(&sound, m, how, most_cuts(8));
+    const size_t at[] = {0, 1, sound.q / 2, sound.q - 3, sound.q - 2, sound.q - 1};
+    for (size_t i = 0; i < COUNT(at); i++) {
+        copy_map(&damaged, &sound);
+        damages[with](&damaged, at[i]);
+        compare_check(&damaged, damaged.q, damaged.q);
+    }
+}
+
+static void group_largest_maps(void)
+{
+    for (size_t with = 0; with < COUNT(damages); with++) {
+        if (begin_case())
+            damage_largest_map(8, EVEN, with);
+        for (shape how = DEEP; how < SHAPES; how++)
+            if (begin_case())
+                damage_largest_map(12, how, with);
+    }
 }
 
 /* ---- Group: random maps ---- */
@@ -917,11 +969,11 @@ static void make_random_map(void)
     make_map(&sound, m, (shape)below(SHAPES), cuts);
 }
 
-/* Some record of a map, often the first or the last. */
+/* Some record of a map, often one of the first or the last. */
 static size_t some_record(const map *a)
 {
-    size_t kind = below(4);
-    return kind == 0 ? 0 : kind == 1 ? a->q - 1 : below(a->q);
+    size_t any = below(a->q), few = below(a->q < 4 ? a->q : 4), kind = below(4);
+    return kind == 0 ? few : kind == 1 ? a->q - 1 - few : any;
 }
 
 static void damage_at_random(void)
@@ -967,7 +1019,7 @@ static void random_map(void)
 
 static void group_random_maps(void)
 {
-    for (int i = 0; i < 400; i++)
+    for (int i = 0; i < 800; i++)
         if (begin_case())
             random_map();
 }
@@ -1040,7 +1092,7 @@ static void vast_call(size_t i)
     lutniorad_answer answer = o == &CHECK   ? compare_check(&sound, n[0], n[1])
                               : o == &WRITE ? compare_write(&sound, n[0], n[1], n[2])
                                             : compare_read(n[0], n[1], n[2]);
-    require_answer(answer, "the one written out", vast_calls[i].answer);
+    require_stated(answer, vast_calls[i].answer);
 }
 
 static void group_vast_slices(void)
@@ -1063,6 +1115,7 @@ static const struct {
     {"lengths", group_lengths, false},
     {"files", group_files, false},
     {"vast slices", group_vast_slices, false},
+    {"largest maps", group_largest_maps, false},
     {"random maps", group_random_maps, true},
     {"random files", group_random_files, true},
 };
@@ -1137,6 +1190,10 @@ int main(int argc, char **argv)
     for (size_t g = 0; g < COUNT(groups); g++)
         if (only_case == EVERY_CASE || only_case / CASES_OF_GROUP == g)
             run_group(g);
+    if (calls == 0) {
+        fprintf(stderr, "compare: there is no case %" PRIu64 "\n", only_case);
+        return 2;
+    }
     while (go_on)
         run_random_groups();
     return 0;

@@ -39,9 +39,9 @@ static bool has_the_form(const uint64_t digits[MOST_DIGITS], uint64_t m)
 }
 
 /*
- * The pixels in key order, counted from 0. A pixel's digits are all from 1 to 4, and every choice of m of them is a pixel;
- * so a pixel's number is its digits, each less 1, read in base 4. Of a block's pixels the first has the block's digits and
- * then 1 for each zero (north-west all the way down), the last 4 for each zero (south-east).
+ * The pixels in key order, counted from 0. A pixel's digits are all from 1 to 4, and every choice of m of them is a
+ * pixel; so a pixel's number is its digits, each less 1, read in base 4. Of a block's pixels the first has the block's
+ * digits and then 1 for each zero (north-west all the way down), the last 4 for each zero (south-east).
  */
 static uint64_t pixel_in_block(const uint64_t digits[MOST_DIGITS], uint64_t m, uint64_t instead_of_zero)
 {

@@ -2,3 +2,7 @@ mod Walk
 mod Tables
 mod Order
 mod Meeting
+mod Stretches
+mod Tests
+mod Halves
+pub mod Laws

@@ -66,7 +66,7 @@ module _ {m : ℕ} {keys : List ℕ} (F : Follow m 0 keys) {key i s : ℕ} (b : 
     not-in q (no g) = omega (arith, Z .over (H .index) (omega (arith, g)) (H .is .within), pow-least 4 (H .exponent))
 
     -- where it contains the block, it is the one before
-    last : getD keys (H .index) 0 < key → key + 5 ^ i ≤ getD keys (H .index) 0 + 5 ^ H .exponent → Dec (H .index < a) → Dec (suc (H .index) < a) → H .index ≡ a - 1
+    last : getD keys (H .index) 0 < key → key + 5 ^ i ≤ getD keys (H .index) 0 + 5 ^ H .exponent → Dec (H .index < a) → Dec (suc (H .index) < a) → suc (H .index) ≡ a
     last h k (no g) d = absurd (omega (arith, A .over (H .index) (omega (arith, g)) (H .is .within)))
     last h k (yes g) (yes u) =
         let r = record-at F (suc (H .index)) (omega (arith, A .room)) in
@@ -92,14 +92,17 @@ module _ {m : ℕ} {keys : List ℕ} (F : Follow m 0 keys) {key i s : ℕ} (b : 
             let o = one-block same (H .is .names) in
             rw (o .0, o .1) (omega (arith, pow-least 3 i))
 
-    one : Stand key i s (getD keys (H .index) 0) (H .exponent) (H .start) → Meets m keys i s (a - 1) 1
+    one : Stand key i s (getD keys (H .index) 0) (H .exponent) (H .start) → (1 ≤ a) × Meets m keys i s (a - 1) 1
     one (within p q) = absurd (not-in q (decLt (H .index) a))
-    one (around k p h q) = let f = last h (q .most) (decLt (H .index) a) (decLt (suc (H .index)) a) in rw (← f) (meets-holder p)
+    one (around k p h q) =
+        let f = last h (q .most) (decLt (H .index) a) (decLt (suc (H .index)) a) in
+        let g : a - 1 ≡ H .index = omega arith in
+        (omega arith, rw g (meets-holder p))
     one (after p q) = absurd (omega (arith, H .has, pow-least 3 i))
     one (before p q) = absurd (omega (arith, H .has))
 
   -- none does: the record before contains the block
-  pub meets-one : a ≡ z → Meets m keys i s (a - 1) 1
+  pub meets-one : a ≡ z → (1 ≤ a) × Meets m keys i s (a - 1) 1
   meets-one e =
       let H = holder F s (omega arith) (omega (arith, block-lies b .span, pow-least 3 i)) in
       one H e (blocks-stand b (H .is .names))

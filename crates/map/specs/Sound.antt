@@ -39,11 +39,20 @@ pub record Holder (m : ℕ) (keys : List ℕ) (q : ℕ) : Type 0 where
 pub record Rising (keys : List ℕ) : Type 0 where
   pub rise : (a b : ℕ) → a < b → b < length keys → getD keys a 0 < getD keys b 0
 
+-- the key is that of a block of exponent i
+pub record BlockOf (m key i : ℕ) : Type 0 where
+  pub start : ℕ
+  pub names : Names m key i start
+
 -- the first r keys are below x, and the others are not
 pub record Splits (keys : List ℕ) (x r : ℕ) : Type 0 where
   pub room : r ≤ length keys
   pub below : (n : ℕ) → n < r → getD keys n 0 < x
   pub over : (n : ℕ) → r ≤ n → n < length keys → x ≤ getD keys n 0
+
+pub record Place (keys : List ℕ) (x : ℕ) : Type 0 where
+  pub at : ℕ
+  pub splits : Splits keys x at
 
 -- two spans share a place
 pub record Overlap (s n t k : ℕ) : Type 0 where

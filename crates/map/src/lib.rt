@@ -6,6 +6,8 @@ ghost use Prim.Native.Nat.{_≤_};
 ghost use lib.ListN.{length};
 ghost use Rattle.answers.specs.Rows.{verdict};
 ghost use Rattle.map.specs.Check.{recordRows, mapRows, checkOf};
+ghost use Rattle.map.specs.Sound.{Follow, BlockOf, Rising, Splits};
+ghost use Rattle.map.specs.Records.{runOf};
 
 // What the check answers: the number of records of a sound map, or a refusal.
 pub enum Checked {
@@ -71,5 +73,43 @@ pub fn check(m: u32, keys: &[u32], classes: &[u8]) -> Checked
     }
     Checked::Sound {
         count: keys.len() as u32,
+    }
+}
+
+// How many keys are below x: a search by halves in rising keys.
+fn keys_below(keys: &[u32], x: u32) -> usize
+    requires { ⌜ Rising (now keys) ⌝ }
+    ensures { λ r. ⌜ Splits (now (keys .entry)) x r ⌝ }
+{
+    let mut low: usize = 0;
+    let mut high = keys.len();
+    while low < high {
+        let middle = low + (high - low) / 2;
+        if keys[middle] < x {
+            low = middle + 1;
+        } else {
+            high = middle;
+        }
+    }
+    low
+}
+
+// The records of a sound map that overlap the block of a key and its exponent: those with one of the block's keys, or else the one before them, which contains it.
+// m is there for the contract alone.
+pub fn records_of(m: u32, keys: &[u32], key: u32, i: u32) -> Run
+    requires { ⌜ (m ≤ 12) × (length (now keys) ≤ 65536) × Follow m 0 (now keys) × BlockOf m key i ⌝ }
+    ensures { λ r. ⌜ r ≡ runOf m (now (keys .entry)) key ⌝ }
+{
+    let first = keys_below(keys, key) as u32;
+    let after = keys_below(keys, key + key::pow5(i)) as u32;
+    if first < after {
+        return Run {
+            first,
+            count: after - first,
+        };
+    }
+    Run {
+        first: first - 1,
+        count: 1,
     }
 }
