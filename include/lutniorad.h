@@ -33,9 +33,10 @@
  *   - while the call runs, no other thread writes the slice, nor reads it if the call writes it.
  * All else is answered or refused: any number may stand in any cell, and any length is taken whole.
  *
- * WHAT THE LIBRARY KEEPS. It takes no heap and remembers nothing from one call to the next, so calls on different memory
- * may run at the same time. Every call ends. A call that refuses writes nothing. A call that answers writes the cells
- * named with it below, and all others keep their content. What stands at entry in a slice that is written never matters.
+ * WHAT THE LIBRARY KEEPS. It takes no heap and remembers nothing from one call to the next, so calls on different
+ * memory may run at the same time. Every call ends. A call that refuses writes nothing. A call that answers writes the
+ * cells named with it below, and all others keep their content. What stands at entry in a slice that is written never
+ * matters.
  *
  * The archive is made for Linux on x86-64.
  */
@@ -50,8 +51,8 @@ extern "C" {
 #endif
 
 /*
- * What every call returns. Where `refusal` is 0 the call was answered: `place` is 0, and `first` and `second` are as said
- * with the call. Otherwise it was refused, `first` and `second` are 0, and the other two numbers say why:
+ * What every call returns. Where `refusal` is 0 the call was answered: `place` is 0, and `first` and `second` are as
+ * said with the call. Otherwise it was refused, `first` and `second` are 0, and the other two numbers say why:
  *
  *     refusal     why                                                                     place
  *     1           m is over 12                                                            0
@@ -88,8 +89,8 @@ lutniorad_answer lutniorad_check(uint32_t m,
  * Only the layout is looked at. The keys may be any numbers, so ask lutniorad_check about the map before you use it.
  *
  * Refuses by 9 at 0 when there are fewer than 20 bytes or the length field is not `n`; 1 by the field m; 2 by the
- * field Q; 9 at 8 when the length is not 20 + 5Q; 9 at 12 and 9 at 16 when the offset there is not as above; and 8, with
- * place Q, when `keys` or `classes` has fewer than Q cells.
+ * field Q; 9 at 8 when the length is not 20 + 5Q; 9 at 12 and 9 at 16 when the offset there is not as above; and 8,
+ * with place Q, when `keys` or `classes` has fewer than Q cells.
  */
 lutniorad_answer lutniorad_read(const uint8_t *file, size_t n,
                                 uint32_t *keys, size_t n_keys,

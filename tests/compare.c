@@ -302,6 +302,7 @@ typedef struct {
     uint8_t classes[ROOM_FOR_RECORDS];
 } map;
 
+/* The map and the file of the case at hand: a sound map, one that need not be sound, and one that came from a file. */
 static map sound, damaged, read_map;
 static uint8_t file[HEADER + 5 * ROOM_FOR_RECORDS];
 
@@ -644,8 +645,8 @@ static void group_written_out(void)
     for (size_t i = 0; i < COUNT(stated_maps); i++) {
         if (!begin_case())
             continue;
-        copy_records(&sound, stated_maps[i].m, stated_maps[i].q, stated_maps[i].keys, REFERENCE_FILE);
-        require_stated(compare_check(&sound, sound.q, sound.q), stated_maps[i].answer);
+        copy_records(&damaged, stated_maps[i].m, stated_maps[i].q, stated_maps[i].keys, REFERENCE_FILE);
+        require_stated(compare_check(&damaged, damaged.q, damaged.q), stated_maps[i].answer);
     }
     if (begin_case())
         stated_reference_file();
@@ -664,12 +665,12 @@ static void every_list(uint32_t m, size_t values, size_t longest)
         for (size_t list = 0; list < lists; list++) {
             if (!begin_case())
                 continue;
-            sound.m = m;
-            sound.q = q;
+            damaged.m = m;
+            damaged.q = q;
             for (size_t i = 0, rest = list; i < q; i++, rest /= values)
-                sound.keys[i] = (uint32_t)(rest % values);
-            paint(&sound, RANDOM);
-            compare_check(&sound, q, q);
+                damaged.keys[i] = (uint32_t)(rest % values);
+            paint(&damaged, RANDOM);
+            compare_check(&damaged, q, q);
         }
         lists *= values;
     }
@@ -685,14 +686,12 @@ static void keys_about_powers(uint32_t m)
         const uint32_t about[ABOUT] = {power - 1, power, power + 1, 4 * (power / 5), (power - 1) / 4};
         memcpy(keys + ABOUT * k, about, sizeof about);
     }
-    sound.m = m;
-    memcpy(sound.classes, REFERENCE_CLASSES, 2);
     for (size_t i = 0; i < COUNT(keys) * COUNT(keys); i++) {
-        sound.keys[0] = keys[i / COUNT(keys)];
-        sound.keys[1] = keys[i % COUNT(keys)];
-        compare_check(&sound, 2, 2);
-        if (sound.keys[0] == sound.keys[1])
-            compare_check(&sound, 1, 1);
+        const uint32_t two[] = {keys[i / COUNT(keys)], keys[i % COUNT(keys)]};
+        copy_records(&damaged, m, 2, two, REFERENCE_CLASSES);
+        compare_check(&damaged, 2, 2);
+        if (two[0] == two[1])
+            compare_check(&damaged, 1, 1);
     }
 }
 
@@ -766,10 +765,12 @@ static void group_small_maps(void)
 
 /* ---- Group: lengths ---- */
 
-/* The file of a map. */
+/* The file of a map, and zeros after it for the slices that are longer. */
 static size_t make_file(const map *a)
 {
-    return reference_write(a->m, a->keys, a->q, a->classes, a->q, file, sizeof file).first;
+    size_t n = reference_write(a->m, a->keys, a->q, a->classes, a->q, file, sizeof file).first;
+    memset(file + n, 0, 16);
+    return n;
 }
 
 /* Slices up to two records longer than the map, each length with each other. */
@@ -795,15 +796,15 @@ static void reasons_together(void)
     static const uint32_t ms[] = {0, 1, 2, 12, 13, 255, 258, 1u << 31, UINT32_MAX};
     static const size_t records[] = {0, 1, 6, 7, 8};
     static const size_t out[] = {0, 1, 19, 20, 25, 54, 55, 56, 60, 100};
-    copy_records(&sound, 2, REFERENCE_Q, REFERENCE_KEYS, REFERENCE_CLASSES);
-    append(&sound, 0);
+    copy_records(&damaged, 2, REFERENCE_Q, REFERENCE_KEYS, REFERENCE_CLASSES);
+    append(&damaged, 0);
     for (size_t i = 0; i < COUNT(ms) * COUNT(records) * COUNT(records); i++) {
         size_t n_keys = records[i / COUNT(ms) % COUNT(records)];
         size_t n_classes = records[i / COUNT(ms) / COUNT(records)];
-        sound.m = ms[i % COUNT(ms)];
-        compare_check(&sound, n_keys, n_classes);
+        damaged.m = ms[i % COUNT(ms)];
+        compare_check(&damaged, n_keys, n_classes);
         for (size_t k = 0; k < COUNT(out); k++)
-            compare_write(&sound, n_keys, n_classes, out[k]);
+            compare_write(&damaged, n_keys, n_classes, out[k]);
     }
 }
 
@@ -850,7 +851,7 @@ static const struct {
     {1, 1u << 30},   {0, 1u << 31}, {1, 1u << 31}, {256, 0},   {1u << 24, 0},   {0, UINT32_MAX - 3},
     {0, 0x33333333}, {5, 0},
 };
-enum { CHIEF_SPOILS = 5 };
+enum { CHIEF_SPOILS = 5, CHIEF_HEADERS = 5 * 5 * 5 * 5 * 5 }; /* the first five, and headers of nothing else */
 
 static uint32_t spoiled(size_t field, size_t k)
 {
@@ -876,7 +877,7 @@ static void all_fields(void)
 {
     copy_records(&sound, 2, REFERENCE_Q, REFERENCE_KEYS, REFERENCE_CLASSES);
     size_t n = make_file(&sound);
-    for (size_t k = 0; k < 3125; k++) { /* CHIEF_SPOILS to the power of FIELDS */
+    for (size_t k = 0; k < CHIEF_HEADERS; k++) {
         for (size_t field = 0, rest = k; field < FIELDS; field++, rest /= CHIEF_SPOILS)
             set_field(field, spoiled(field, rest % CHIEF_SPOILS));
         for (size_t i = 0; i < 9; i++)
@@ -888,7 +889,6 @@ static void all_fields(void)
 static void every_cut(void)
 {
     size_t n = make_file(&sound);
-    memset(file + n, 0, 5);
     for (size_t cut = 0; cut <= n + 5; cut++) {
         set_header(sound.m, sound.q);
         compare_read(cut, sound.q, sound.q);
@@ -979,8 +979,10 @@ static size_t some_record(const map *a)
 static void damage_at_random(void)
 {
     copy_map(&damaged, &sound);
-    for (size_t times = 1 + below(2); times > 0 && damaged.q > 0; times--)
-        damages[below(COUNT(damages))](&damaged, some_record(&damaged));
+    for (size_t times = 1 + below(2); times > 0 && damaged.q > 0; times--) {
+        size_t how = below(COUNT(damages));
+        damages[how](&damaged, some_record(&damaged));
+    }
 }
 
 enum { NEAR = 3 };
@@ -994,13 +996,16 @@ static size_t near_length(size_t right)
 
 static void lengths_at_random(void)
 {
-    size_t q = sound.q, n = make_file(&sound);
-    compare_read(n, near_length(q), near_length(q));
+    size_t n = make_file(&sound);
+    size_t n_keys = near_length(sound.q);
+    size_t n_classes = near_length(sound.q);
+    size_t n_out = near_length(n);
+    compare_read(n, n_keys, n_classes);
     copy_map(&damaged, &sound);
     for (int i = 0; i < NEAR; i++)
         append(&damaged, 0);
-    compare_check(&damaged, near_length(q), near_length(q));
-    compare_write(&damaged, near_length(q), near_length(q), near_length(n));
+    compare_check(&damaged, n_keys, n_classes);
+    compare_write(&damaged, n_keys, n_classes, n_out);
 }
 
 static void random_map(void)
@@ -1041,7 +1046,9 @@ static void random_file(void)
         size_t field = below(FIELDS);
         set_field(field, spoiled(field, below(COUNT(spoils))));
     }
-    lutniorad_answer answer = compare_read(n, near_length(sound.q), near_length(sound.q));
+    size_t n_keys = near_length(sound.q);
+    size_t n_classes = near_length(sound.q);
+    lutniorad_answer answer = compare_read(n, n_keys, n_classes);
     if (answer.refusal == 0)
         write_what_was_read(answer, n);
 }

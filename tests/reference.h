@@ -1,9 +1,9 @@
 /*
  * The independent program: every operation of lutniorad.h once more, by brute force and from the words of its rules.
  *
- * Each function takes what the library's takes. It returns the answer that the library must give, and leaves in the lent
- * slices what the library must leave in them. It touches no cell that the answer does not call for, so a slice that is
- * refused for its length alone need not be there in full.
+ * Each function takes what the library's takes. It returns the answer that the library must give, and leaves in the
+ * lent slices what the library must leave in them. It touches no cell that the answer does not call for, so a slice
+ * that is refused for its length alone need not be there in full.
  */
 #ifndef REFERENCE_H
 #define REFERENCE_H

@@ -10,11 +10,11 @@ use native.Mathlib.Omega.{arith}
 use lib.Dec.{eqb, ltb}
 use lib.ListN.{length, take, drop, set, length-append, length-drop}
 use lib.Seq.{take-at, drop-at, set-at, drop-drop, drop-cons}
-use borrow.Author.Tests.{ltb-false, eqb-false, eqb-true, le-ltb, eq-eqb, ne-eqb, not-false}
+use borrow.Author.Tests.{ltb-false, eqb-false, eqb-true, lt-ltb, le-ltb, eq-eqb, ne-eqb, not-false}
 use Rattle.answers.specs.declared.Verdict.{Verdict}
 use Rattle.answers.specs.declared.Verdict.the-variants.{Passed, Refused}
 use Rattle.answers.specs.Rows.{Row, row, answer, verdict}
-use Rattle.answers.specs.Sizes.{sizeRows, Sized}
+use Rattle.answers.specs.Sizes.{wrongCount, sizeRows, Sized}
 use Rattle.answers.specs.Cells.{overwrite}
 
 -- ---- a table answers row by row, and tables one after the other
@@ -101,27 +101,44 @@ pub neither : (a b : Bool) → a || b ≡ false → (a ≡ false) × (b ≡ fals
 neither true b e = absurd (let z : _≡_ {A = ℕ} 0 1 = cc in omega arith)
 neither false b e = (refl, e)
 
-pub sized : {m keys classes : ℕ} → (verdict (sizeRows m keys classes) ≡ Passed) ↔ Sized m keys classes
-unfolding verdict answer sizeRows
-sized {m} {keys} {classes} = (to (ltb 12 m) refl (not (eqb keys classes) || eqb keys 0 || ltb 65536 keys) refl, from)
-  where
-    to : (a : Bool) → ltb 12 m ≡ a → (b : Bool) → not (eqb keys classes) || eqb keys 0 || ltb 65536 keys ≡ b
-        → verdict (row a 1 0 ∷ row b 2 0 ∷ []) ≡ Passed → Sized m keys classes
-    to a x b y e =
-        let one = passed-row a 1 0 (row b 2 0 ∷ []) .0 e in
-        let two = passed-row b 2 0 [] .0 (one .1) in
-        let most = neither (not (eqb keys classes) || eqb keys 0) (ltb 65536 keys) (y ∙ two .0) in
-        let some = neither (not (eqb keys classes)) (eqb keys 0) (most .0) in
-        let many = eqb-false keys 0 (some .1) in
-        record {
-          small = ltb-false 12 m (x ∙ one .0);
-          same = eqb-true keys classes (not-false _ (some .0));
-          some = omega (arith, many);
-          most = ltb-false 65536 keys (most .1);
-        }
+-- ---- the sizes of a map
 
-    from : Sized m keys classes → verdict (sizeRows m keys classes) ≡ Passed
-    from s = simp (le-ltb 12 m (s .small), eq-eqb keys classes (s .same), ne-eqb keys 0 (λ e. omega (arith, s .some)), le-ltb 65536 keys (s .most))
+module _ {m keys classes : ℕ} where
+  pub sized : (verdict (sizeRows m keys classes) ≡ Passed) ↔ Sized m keys classes
+  unfolding sizeRows wrongCount
+  sized = (to, from)
+    where
+      to : verdict (row (ltb 12 m) 1 0 ∷ row (wrongCount keys classes) 2 0 ∷ []) ≡ Passed → Sized m keys classes
+      to e =
+          let one = passed-row (ltb 12 m) 1 0 _ .0 e in
+          let two = passed-row (wrongCount keys classes) 2 0 [] .0 (one .1) in
+          let most = neither (not (eqb keys classes) || eqb keys 0) (ltb 65536 keys) (two .0) in
+          let some = neither (not (eqb keys classes)) (eqb keys 0) (most .0) in
+          let many = eqb-false keys 0 (some .1) in
+          record {
+            small = ltb-false 12 m (one .0);
+            same = eqb-true keys classes (not-false _ (some .0));
+            some = omega (arith, many);
+            most = ltb-false 65536 keys (most .1);
+          }
+
+      from : Sized m keys classes → verdict (row (ltb 12 m) 1 0 ∷ row (wrongCount keys classes) 2 0 ∷ []) ≡ Passed
+      from s =
+          let right : wrongCount keys classes ≡ false = rw (eq-eqb keys classes (s .same), ne-eqb keys 0 (λ e. omega (arith, s .some)), le-ltb 65536 keys (s .most)) in
+          passed-row (ltb 12 m) 1 0 _ .1 (le-ltb 12 m (s .small), passed-row (wrongCount keys classes) 2 0 [] .1 (right, passed-none))
+
+module _ (m keys classes : ℕ) where
+  pub over-12 : 12 < m → verdict (sizeRows m keys classes) ≡ Refused 1 0
+  unfolding sizeRows
+  over-12 l = row-held 1 0 _ (lt-ltb 12 m l)
+
+  pub not-sized : m ≤ 12 → (Sized m keys classes → ⊥) → verdict (sizeRows m keys classes) ≡ Refused 2 0
+  unfolding sizeRows
+  not-sized l wrong = go (wrongCount keys classes) refl
+    where
+      go : (t : Bool) → wrongCount keys classes ≡ t → verdict (row (ltb 12 m) 1 0 ∷ row (wrongCount keys classes) 2 0 ∷ []) ≡ Refused 2 0
+      go true e = row-clear 1 0 _ (le-ltb 12 m l) ∙ row-held 2 0 [] e
+      go false e = absurd (wrong (sized .0 (row-clear 1 0 _ (le-ltb 12 m l) ∙ row-clear 2 0 [] e ∙ passed-none)))
 
 -- ---- lent cells
 

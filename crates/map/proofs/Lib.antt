@@ -5,4 +5,5 @@ mod Meeting
 mod Stretches
 mod Tests
 mod Halves
+mod Examples
 pub mod Laws

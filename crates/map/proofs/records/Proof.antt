@@ -54,10 +54,10 @@ add-end : tie.Need-add-end Inv-loop μ-loop
 add-end c = omega (arith, block-lies (named (c .before .before)) .span, pow-most 3 _ (c .before .before .before .before .before .before .before .before .before .pre .0), c .pow4 .ensures .is)
 
 returns-2 : tie.Need-returns-2 Inv-loop μ-loop
-returns-2 c = sym (walking-early (c .before .before .before .before .before .before .before .before .loop .inv) (c .before .before .before .before .before .before .before .loop-test .taken) (named (c .before .before .before)) (c .if1 .taken))
+returns-2 c = sym (walking-early (c .before .before .before .before .before .before .before .before .loop .inv) (c .before .before .before .before .before .before .before .loop-test .taken) (named (c .before .before .before)) (omega (arith, c .if1 .taken)))
 
 returns-3 : tie.Need-returns-3 Inv-loop μ-loop
-returns-3 c = sym (walking-late (c .before .before .before .before .before .before .before .before .before .loop .inv) (c .before .before .before .before .before .before .before .before .loop-test .taken) (named (c .before .before .before .before)) (c .if2 .taken))
+returns-3 c = sym (walking-late (c .before .before .before .before .before .before .before .before .before .loop .inv) (c .before .before .before .before .before .before .before .before .loop-test .taken) (named (c .before .before .before .before)) (omega (arith, c .if2 .taken)))
 
 add-n : tie.Need-add-n Inv-loop μ-loop
 add-n c = search needs

@@ -1,0 +1,61 @@
+-- Worked examples of maps, computed from the definitions. P1's map has m = 2 and the keys 5, 11, 12, 13, 14, 15, 20.
+-- Assumes nothing.
+use mathlib.Core.Path.{_≡_, refl}
+use mathlib.Core.List.{List, [], _∷_}
+use Prim.Native.Nat.{ℕ}
+use lib.ListN.{take, replicate}
+use Rattle.answers.specs.Rows.{answer}
+use Rattle.answers.specs.Sizes.{wrongCount, sizeRows}
+use Rattle.key.specs.Spread.{spreadTo, spread}
+use Rattle.key.specs.Picture.{place}
+use Rattle.key.specs.Form.{from, formOf}
+use Rattle.map.specs.declared.Checked.the-variants.{Sound, Refused}
+use Rattle.map.specs.Spans.{malformed, exponent, start, end, holds, overlap}
+use Rattle.map.specs.Check.{recordRows, mapRows, checkOf}
+use Rattle.map.specs.Records.{before, howMany, recordOf, exponentOf, run, runOf}
+
+abbrev keys : List ℕ
+keys = 5 ∷ 11 ∷ 12 ∷ 13 ∷ 14 ∷ 15 ∷ 20 ∷ []
+
+pub record Examples : Type 0 where
+  pub sound : checkOf 2 keys 7 ≡ Sound 7
+  pub pixel : checkOf 0 (0 ∷ []) 1 ≡ Sound 1
+  pub large : checkOf 13 keys 7 ≡ Refused 1 0
+  pub differ : checkOf 2 keys 6 ≡ Refused 2 0
+  pub empty : checkOf 2 [] 0 ≡ Refused 2 0
+  pub p9 : checkOf 2 (take 6 keys) 6 ≡ Refused 5 6
+  pub p10 : checkOf 2 (5 ∷ 7 ∷ []) 2 ≡ Refused 4 1
+  pub p11-gap : checkOf 2 (1 ∷ []) 1 ≡ Refused 3 0
+  pub p11-large : checkOf 2 (25 ∷ []) 1 ≡ Refused 3 0
+  pub late : checkOf 2 (10 ∷ []) 1 ≡ Refused 5 0
+  pub behind : checkOf 2 (0 ∷ 24 ∷ []) 2 ≡ Refused 4 1
+  -- row 1, column 2 lies in record 3, a pixel; row 1, column 1 in record 0, of side 2
+  pub record-3 : recordOf 2 keys (place 1 2) ≡ 3
+  pub record-0 : recordOf 2 keys (place 1 1) ≡ 0
+  pub side-0 : exponentOf 2 keys (place 1 1) ≡ 1
+  -- block 10 has four records, block 9 lies in one, and the picture has all
+  pub run-10 : runOf 2 keys 10 ≡ run 1 4
+  pub run-9 : runOf 2 keys 9 ≡ run 0 1
+  pub run-0 : runOf 2 keys 0 ≡ run 0 7
+
+pub examples : Examples
+unfolding answer wrongCount sizeRows spreadTo spread place from formOf malformed exponent start end holds overlap recordRows mapRows checkOf before howMany recordOf exponentOf runOf
+examples = record {
+  sound = refl;
+  pixel = refl;
+  large = refl;
+  differ = refl;
+  empty = refl;
+  p9 = refl;
+  p10 = refl;
+  p11-gap = refl;
+  p11-large = refl;
+  late = refl;
+  behind = refl;
+  record-3 = refl;
+  record-0 = refl;
+  side-0 = refl;
+  run-10 = refl;
+  run-9 = refl;
+  run-0 = refl;
+}
