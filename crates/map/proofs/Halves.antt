@@ -2,11 +2,11 @@
 -- Assumes nothing.
 use mathlib.Core.Path.{_≡_}
 use mathlib.Core.List.{List}
-use Prim.Native.Nat.{ℕ, _+_, _≤_, _<_}
+use Prim.Native.Nat.{ℕ, zero, suc, _+_, _≤_, _<_}
 use native.Mathlib.Decide.{decLt}
 use native.Mathlib.Omega.{arith}
 use lib.ListN.{length, getD}
-use Rattle.map.specs.Sound.{Rising, Splits}
+use Rattle.map.specs.Runs.{Rising, Splits}
 
 pub record Between (keys : List ℕ) (x low high : ℕ) : Type 0 where
   pub order : low ≤ high
@@ -34,3 +34,15 @@ module _ {keys : List ℕ} (R : Rising keys) {x low high : ℕ} (B : Between key
 
 pub between-last : {keys : List ℕ} {x low high : ℕ} → Between keys x low high → high ≤ low → Splits keys x low
 between-last B l = record { room = omega (arith, B .order, B .room); below = B .below; over = λ n h u. B .over n (omega arith) u }
+
+-- so each number has its place among rising keys: from the last key down, the first that is below it
+pub some-split : {keys : List ℕ} → Rising keys → (x : ℕ) → (r : ℕ) × Splits keys x r
+some-split {keys} R x = down (length keys) (between-first keys x)
+  where
+    down : (high : ℕ) → Between keys x 0 high → (r : ℕ) × Splits keys x r
+    down zero B = (0, between-last B (omega arith))
+    down (suc h) B = go (decLt (getD keys h 0) x) (down h)
+      where
+        go : Dec (getD keys h 0 < x) → (Between keys x 0 h → (r : ℕ) × Splits keys x r) → (r : ℕ) × Splits keys x r
+        go (yes l) ih = (h + 1, between-last (between-upper R B (omega arith) l) (omega arith))
+        go (no g) ih = ih (between-lower R B (omega arith) (omega arith) (omega (arith, g)))

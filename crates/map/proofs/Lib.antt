@@ -5,5 +5,6 @@ mod Meeting
 mod Stretches
 mod Tests
 mod Halves
+mod Found
 mod Examples
 pub mod Laws

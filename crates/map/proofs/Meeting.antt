@@ -1,15 +1,16 @@
 -- The records that a block meets: where the keys from its own on, as many as it has, begin and end in the list of keys. By `blocks-stand`.
 -- Assumes nothing.
-use mathlib.Core.Path.{_≡_, refl, sym, ap, _∙_}
-use mathlib.Core.Logic.{_↔_}
-use mathlib.Core.List.{List, [], _∷_}
-use Prim.Native.Nat.{ℕ, zero, suc, _+_, _-_, _^_, _≤_, _<_}
+use mathlib.Core.Path.{_≡_, refl}
+use mathlib.Core.List.{List}
+use Prim.Native.Nat.{ℕ, suc, _+_, _-_, _^_, _≤_, _<_}
 use native.Mathlib.Decide.{decLt}
 use native.Mathlib.Omega.{arith}
-use lib.ListN.{length, getD}
+use lib.ListN.{getD}
 use Rattle.key.specs.Blocks.{Names, Among, Inside, Stand, within, around, after, before}
 use Rattle.key.proofs.Laws.{one-block, blocks-stand, block-lies, nested, pow-least}
-use Rattle.map.specs.Sound.{Follow, Record, SomeRecord, Holder, Splits, Overlap, Nest, contained, filled, Meets}
+use Rattle.map.specs.Sound.{Follow}
+use Rattle.map.specs.Records.{Record, SomeRecord, Holder}
+use Rattle.map.specs.Runs.{Overlap, contained, filled, Meets, Splits}
 use Rattle.map.proofs.Order.{record-at, apart, holder, keys-apart}
 
 -- a list of records, a block, and where its keys begin and end in the list

@@ -1,14 +1,16 @@
 -- The records of a sound map in their order: each is a block, they stand apart, and one of them holds a given place. By induction over `Follow`.
 -- Assumes nothing.
-use mathlib.Core.Path.{_≡_, refl, sym, ap, _∙_}
-use mathlib.Core.List.{List, [], _∷_}
+use mathlib.Core.Path.{_≡_}
+use mathlib.Core.List.{List, _∷_}
 use Prim.Native.Nat.{ℕ, zero, suc, _+_, _^_, _≤_, _<_}
 use native.Mathlib.Decide.{decLt}
 use native.Mathlib.Omega.{arith}
 use lib.ListN.{length, getD}
-use Rattle.key.specs.Blocks.{Names, Among}
+use Rattle.key.specs.Blocks.{Among}
 use Rattle.key.proofs.Laws.{one-block, ordered, pow-least}
-use Rattle.map.specs.Sound.{Follow, full, next, Record, SomeRecord, Holder, Rising}
+use Rattle.map.specs.Sound.{Follow, full, next}
+use Rattle.map.specs.Records.{Record, SomeRecord, Holder}
+use Rattle.map.specs.Runs.{Rising}
 
 module _ {m : ℕ} where
   pub record-at : {at : ℕ} {keys : List ℕ} → Follow m at keys → (n : ℕ) → n < length keys → SomeRecord m keys n

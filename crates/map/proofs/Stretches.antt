@@ -8,7 +8,7 @@ use Prim.Native.Nat.{ℕ, zero, suc, _-_, _≤_, _<_}
 use native.Mathlib.Omega.{arith}
 use lib.ListN.{length, getD}
 use Rattle.key.specs.Blocks.{Among}
-use Rattle.map.specs.Records.{before, howMany}
+use Rattle.map.specs.Lists.{before, howMany}
 
 -- a test that cannot pass fails
 refuted : (b : Bool) → (b ≡ true → ⊥) → b ≡ false

@@ -1,10 +1,10 @@
 -- The tables of a map, part after part; and a map that passes them is sound as `SoundMap` says, and no other.
 -- Assumes nothing.
-use mathlib.Core.Path.{_≡_, refl, sym, ap, _∙_}
+use mathlib.Core.Path.{_≡_, refl, ap}
 use mathlib.Core.Logic.{_↔_}
 use mathlib.Core.Bool.{Bool, true, false}
-use mathlib.Core.List.{List, [], _∷_, _++_}
-use Prim.Native.Nat.{ℕ, zero, suc, _+_, _^_, _≤_, _<_}
+use mathlib.Core.List.{List, [], _∷_}
+use Prim.Native.Nat.{ℕ, suc, _+_, _^_, _≤_}
 use native.Mathlib.Omega.{arith}
 use lib.Dec.{ltb}
 use lib.ListN.{length}
@@ -12,7 +12,7 @@ use borrow.Author.Tests.{ltb-false, le-ltb}
 use Rattle.answers.specs.declared.Verdict.the-variants.{Passed}
 use Rattle.answers.specs.declared.Verdict.the-variants as refusal
 use Rattle.answers.specs.Rows.{Row, row, verdict}
-use Rattle.answers.specs.Sizes.{sizeRows, Sized}
+use Rattle.answers.specs.Sizes.{sizeRows}
 use Rattle.answers.proofs.Laws.{on-passed, on-refused, append-refused, append-passed, passed-row, passed-append, passed-none, sized}
 use Rattle.key.specs.declared.Form.{Form}
 use Rattle.key.specs.declared.Form.the-variants.{Block, Malformed}

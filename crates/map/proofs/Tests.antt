@@ -1,18 +1,16 @@
 -- What the tests on spans tell of blocks that are named.
 -- Assumes nothing.
-use mathlib.Core.Path.{_≡_, refl, sym, ap, ap₂, _∙_}
+use mathlib.Core.Path.{_≡_, refl, ap}
 use mathlib.Core.Logic.{_↔_}
 use mathlib.Core.Bool.{Bool, true, false, _&&_}
-use Prim.Native.Nat.{ℕ, _+_, _^_, _≤_, _<_}
+use Prim.Native.Nat.{ℕ, _+_, _^_}
 use native.Mathlib.Omega.{arith}
 use lib.Dec.{leb, ltb}
 use borrow.Author.Tests.{ltb-true, leb-true, lt-ltb, le-leb}
-use Rattle.key.specs.declared.Form.{Form}
-use Rattle.key.specs.declared.Form.the-variants.{Block}
 use Rattle.key.specs.Form.{formOf}
 use Rattle.key.specs.Blocks.{Names, Among}
 use Rattle.map.specs.Spans.{exponent, start, end, holds, overlap}
-use Rattle.map.specs.Sound.{Overlap}
+use Rattle.map.specs.Runs.{Overlap}
 
 both : (a b : Bool) → (a && b ≡ true) ↔ ((a ≡ true) × (b ≡ true))
 both true b = (λ e. (refl, e), λ e. e .1)

@@ -1,23 +1,33 @@
--- Which records a pixel and a block have.
+-- The records of a map, each pixel's record, and a map as a tiling.
 -- Assumes nothing.
-use Prim.Native.Nat.{ℕ, zero, suc}
-use mathlib.Core.Bool.{Bool, cond}
-use mathlib.Core.List.{List, [], _∷_}
-use lib.ListN.{getD}
+use mathlib.Core.Path.{_≡_}
+use mathlib.Core.Logic.{_↔_}
+use Prim.Native.Nat.{ℕ, _/_, _^_, _≤_, _<_}
+use mathlib.Core.List.{List}
+use lib.ListN.{length, getD}
+use Rattle.key.specs.Picture.{Pixel}
 use Rattle.key.specs.Form.{formOf}
-use Rattle.map.specs.declared.Run.{Run}
-use Rattle.map.specs.Spans.{exponent, holds, overlap}
+use Rattle.key.specs.Blocks.{Names, Among}
+use Rattle.map.specs.Lists.{before}
+use Rattle.map.specs.Spans.{exponent, holds}
 
-module _ {A : Type 0} where
-  -- how many elements stand before the first that passes a test
-  unfoldable pub before : (A → Bool) → List A → ℕ
-  before p [] = zero
-  before p (x ∷ xs) = cond (p x) zero (suc (before p xs))
+-- record n is the block of exponent i whose span starts at place s
+pub record Record (m : ℕ) (keys : List ℕ) (n i s : ℕ) : Type 0 where
+  pub within : n < length keys
+  pub names : Names m (getD keys n 0) i s
 
-  -- how many pass it
-  unfoldable pub howMany : (A → Bool) → List A → ℕ
-  howMany p [] = zero
-  howMany p (x ∷ xs) = cond (p x) (suc (howMany p xs)) (howMany p xs)
+pub record SomeRecord (m : ℕ) (keys : List ℕ) (n : ℕ) : Type 0 where
+  pub exponent : ℕ
+  pub start : ℕ
+  pub is : Record m keys n exponent start
+
+-- a record whose span has place q
+pub record Holder (m : ℕ) (keys : List ℕ) (q : ℕ) : Type 0 where
+  pub index : ℕ
+  pub exponent : ℕ
+  pub start : ℕ
+  pub is : Record m keys index exponent start
+  pub has : Among start (4 ^ exponent) q
 
 -- the record that holds a place
 unfoldable pub recordOf : ℕ → List ℕ → ℕ → ℕ
@@ -27,9 +37,11 @@ recordOf m keys q = before (λ k. holds q (formOf m k)) keys
 unfoldable pub exponentOf : ℕ → List ℕ → ℕ → ℕ
 exponentOf m keys q = exponent (formOf m (getD keys (recordOf m keys q) 0))
 
-abbrev pub run : ℕ → ℕ → Run
-run first count = record { first = first; count = count }
-
--- the records that overlap the block of a key: the first of them, and how many they are
-unfoldable pub runOf : ℕ → List ℕ → ℕ → Run
-runOf m keys key = let test : ℕ → Bool = λ k. overlap (formOf m key) (formOf m k) in run (before test keys) (howMany test keys)
+-- a map as a window sees it: each pixel's record by its number, and the exponent of that record's side. Two pixels have one record exactly when they
+-- agree after division by its side
+pub record Tiling (m : ℕ) : Type 0 where
+  pub rec : ℕ → ℕ → ℕ
+  pub exponent : ℕ → ℕ → ℕ
+  pub small : {r c : ℕ} → Pixel m r c → exponent r c ≤ m
+  pub law : {r c y x : ℕ} → Pixel m r c → Pixel m y x
+      → (rec r c ≡ rec y x) ↔ ((r / 2 ^ exponent r c ≡ y / 2 ^ exponent r c) × (c / 2 ^ exponent r c ≡ x / 2 ^ exponent r c))

@@ -6,8 +6,8 @@ ghost use Prim.Native.Nat.{_≤_};
 ghost use lib.ListN.{length};
 ghost use Rattle.answers.specs.Rows.{verdict};
 ghost use Rattle.map.specs.Check.{recordRows, mapRows, checkOf};
-ghost use Rattle.map.specs.Sound.{Follow, BlockOf, Rising, Splits};
-ghost use Rattle.map.specs.Records.{runOf};
+ghost use Rattle.map.specs.Sound.{Follow};
+ghost use Rattle.map.specs.Runs.{runOf, BlockOf, Rising, Splits};
 
 // What the check answers: the number of records of a sound map, or a refusal.
 pub enum Checked {

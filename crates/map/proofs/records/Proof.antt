@@ -1,11 +1,11 @@
 -- `map::records` meets its contract. The invariant is `Walking`, and the measure the number of records left.
 -- Assumes nothing.
-use mathlib.Core.Path.{_≡_, sym, ap, _∙_}
+use mathlib.Core.Path.{sym, ap, _∙_}
 use Prim.Native.Nat.{ℕ, _+_, _-_}
 use native.Mathlib.Omega.{arith}
 use lib.ListN.{length, getD}
 use borrow.Author.Needs.{needs}
-use Rattle.key.specs.Blocks.{Names, Lies}
+use Rattle.key.specs.Blocks.{Names}
 use Rattle.key.proofs.Laws.{block-lies, pow-most}
 use Rattle.map.proofs.Walk.{Walking, walking-first, walking-malformed, walking-early, walking-late, walking-next, walking-short, walking-full}
 use Rattle.map.proofs.records.Statement.{statement}

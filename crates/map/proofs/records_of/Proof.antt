@@ -5,8 +5,9 @@ use Prim.Native.Nat.{_+_, _^_}
 use native.Mathlib.Omega.{arith}
 use borrow.Author.Needs.{needs}
 use Rattle.key.proofs.Laws.{block-lies, pow-most}
-use Rattle.map.specs.Sound.{Splits}
-use Rattle.map.proofs.Laws.{keys-rise, found-run, found-one, in-order}
+use Rattle.map.specs.Runs.{Splits}
+use Rattle.map.proofs.Order.{keys-rise}
+use Rattle.map.proofs.Found.{found-run, found-one, in-order}
 use Rattle.map.proofs.records_of.Statement.{statement}
 use Rattle.map.proofs.records_of.Tie as tie
 

@@ -1,0 +1,52 @@
+-- The records that overlap a block, and where to look for them in the list of keys.
+-- Assumes nothing.
+use mathlib.Core.Path.{_≡_}
+use mathlib.Core.Logic.{_↔_}
+use mathlib.Core.Bool.{Bool}
+use Prim.Native.Nat.{ℕ, _+_, _^_, _≤_, _<_}
+use mathlib.Core.List.{List}
+use lib.ListN.{length, getD}
+use Rattle.key.specs.Form.{formOf}
+use Rattle.key.specs.Blocks.{Names, Among, Inside}
+use Rattle.map.specs.declared.Run.{Run}
+use Rattle.map.specs.Lists.{before, howMany}
+use Rattle.map.specs.Spans.{overlap}
+use Rattle.map.specs.Records.{Record}
+
+abbrev pub run : ℕ → ℕ → Run
+run first count = record { first = first; count = count }
+
+-- the records that overlap the block of a key: the first of them, and how many they are
+unfoldable pub runOf : ℕ → List ℕ → ℕ → Run
+runOf m keys key = let test : ℕ → Bool = λ k. overlap (formOf m key) (formOf m k) in run (before test keys) (howMany test keys)
+
+-- the key is that of a block of exponent i
+pub record BlockOf (m key i : ℕ) : Type 0 where
+  pub start : ℕ
+  pub names : Names m key i start
+
+-- two spans share a place
+pub record Overlap (s n t k : ℕ) : Type 0 where
+  pub left : s < t + k
+  pub right : t < s + n
+
+-- of the block of exponent i whose span starts at s, and the count records from `first` on: the only one contains it, or each lies in it
+pub data Nest (m : ℕ) (keys : List ℕ) (i s first count : ℕ) : Type 0 where
+  contained : {j t : ℕ} → count ≡ 1 → Record m keys first j t → Inside t (4 ^ j) s (4 ^ i) → Nest m keys i s first count
+  filled : ((n j t : ℕ) → Among first count n → Record m keys n j t → Inside s (4 ^ i) t (4 ^ j)) → Nest m keys i s first count
+
+-- and these records are exactly those that overlap it
+pub record Meets (m : ℕ) (keys : List ℕ) (i s first count : ℕ) : Type 0 where
+  pub some : 1 ≤ count
+  pub room : first + count ≤ length keys
+  pub exactly : {n j t : ℕ} → Record m keys n j t → Overlap s (4 ^ i) t (4 ^ j) ↔ Among first count n
+  pub nest : Nest m keys i s first count
+
+pub record Rising (keys : List ℕ) : Type 0 where
+  pub rise : (a b : ℕ) → a < b → b < length keys → getD keys a 0 < getD keys b 0
+
+-- the first r keys are below x, and the others are not
+pub record Splits (keys : List ℕ) (x r : ℕ) : Type 0 where
+  pub room : r ≤ length keys
+  pub below : (n : ℕ) → n < r → getD keys n 0 < x
+  pub over : (n : ℕ) → r ≤ n → n < length keys → x ≤ getD keys n 0
