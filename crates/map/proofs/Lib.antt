@@ -1,3 +1,4 @@
+mod Steps
 mod Walk
 mod Tables
 mod Order

@@ -1,28 +1,26 @@
 -- The tables of a map, part after part; and a map that passes them is sound as `SoundMap` says, and no other.
 -- Assumes nothing.
-use mathlib.Core.Path.{_≡_, refl, ap}
+use mathlib.Core.Path.{_≡_, refl, sym, ap, _∙_}
 use mathlib.Core.Logic.{_↔_}
-use mathlib.Core.Bool.{Bool, true, false}
 use mathlib.Core.List.{List, [], _∷_}
-use Prim.Native.Nat.{ℕ, suc, _+_, _^_, _≤_}
+use Prim.Native.Nat.{ℕ, suc, _+_, _^_, _≤_, _<_}
+use native.Mathlib.Decide.{decLt}
 use native.Mathlib.Omega.{arith}
-use lib.Dec.{ltb}
 use lib.ListN.{length}
-use borrow.Author.Tests.{ltb-false, le-ltb}
 use Rattle.answers.specs.declared.Verdict.the-variants.{Passed}
 use Rattle.answers.specs.declared.Verdict.the-variants as refusal
-use Rattle.answers.specs.Rows.{Row, row, verdict}
+use Rattle.answers.specs.Rows.{verdict}
 use Rattle.answers.specs.Sizes.{sizeRows}
-use Rattle.answers.proofs.Laws.{on-passed, on-refused, append-refused, append-passed, passed-row, passed-append, passed-none, sized}
+use Rattle.answers.proofs.Laws.{on-passed, on-refused, append-refused, append-passed, passed-append, sized}
 use Rattle.key.specs.declared.Form.{Form}
 use Rattle.key.specs.declared.Form.the-variants.{Block, Malformed}
 use Rattle.key.specs.Form.{formOf}
 use Rattle.key.specs.Blocks.{Names}
 use Rattle.key.proofs.Laws.{one-block, block-lies}
 use Rattle.map.specs.declared.Checked.the-variants.{Sound, Refused}
-use Rattle.map.specs.Spans.{malformed, start, end}
 use Rattle.map.specs.Check.{recordRows, mapRows, checkOf}
 use Rattle.map.specs.Sound.{Follow, full, next, SoundMap}
+use Rattle.map.proofs.Steps.{step-malformed, step-early, step-late, step-next, step-short, step-full}
 
 module _ (m : ℕ) (keys : List ℕ) (classes : ℕ) where
   pub sizes-refused : {n p : ℕ} → verdict (sizeRows m (length keys) classes) ≡ refusal.Refused n p → verdict (mapRows m keys classes) ≡ refusal.Refused n p
@@ -43,49 +41,43 @@ module _ (m : ℕ) (keys : List ℕ) (classes : ℕ) where
 
 -- ---- the records
 
--- the rows of one record, of form f, and those behind it
-rows : (m n at : ℕ) → List ℕ → Form → List Row
-rows m n at ks f = row (malformed f) 3 n ∷ row (ltb (start f) at) 4 n ∷ row (ltb at (start f)) 5 n ∷ recordRows m (suc n) (end f) ks
+never : {n p : ℕ} {A : Type 0} → refusal.Refused n p ≡ Passed → A
+never e = absurd (let z : _≡_ {A = ℕ} 0 1 = cc in omega arith)
 
 follow-on : (m n at k : ℕ) (ks : List ℕ) (f : Form) → formOf m k ≡ f
     → ((e : ℕ) → e ≤ 4 ^ m → (verdict (recordRows m (suc n) e ks) ≡ Passed) ↔ Follow m e ks)
-    → (verdict (rows m n at ks f) ≡ Passed) ↔ Follow m at (k ∷ ks)
-unfolding rows malformed start end
-follow-on m n at k ks Malformed e ih = (λ v. absurd (let z : _≡_ {A = Bool} true false = passed-row true 3 n _ .0 v .0 in apart z), from)
+    → (verdict (recordRows m n at (k ∷ ks)) ≡ Passed) ↔ Follow m at (k ∷ ks)
+follow-on m n at k ks Malformed e ih = (λ v. never (sym (step-malformed m n at k ks e) ∙ v), from)
   where
-    apart : true ≡ false → ⊥
-    apart z = let y : _≡_ {A = ℕ} 0 1 = cc in omega arith
-
-    from : Follow m at (k ∷ ks) → verdict (rows m n at ks Malformed) ≡ Passed
-    from (next b q F) = absurd (let y : _≡_ {A = ℕ} 0 1 = cc in omega arith)
-follow-on m n at k ks (Block i s) e ih = (to, from)
+    from : Follow m at (k ∷ ks) → verdict (recordRows m n at (k ∷ ks)) ≡ Passed
+    from (next b q F) = absurd (let z : _≡_ {A = ℕ} 0 1 = cc in omega arith)
+follow-on m n at k ks (Block i s) e ih = (to (decLt s at) (decLt at s), from)
   where
     b : Names m k i s
     b = record { is = e }
 
-    to : verdict (rows m n at ks (Block i s)) ≡ Passed → Follow m at (k ∷ ks)
-    to v =
-        let p3 = passed-row false 3 n _ .0 v in
-        let p4 = passed-row (ltb s at) 4 n _ .0 (p3 .1) in
-        let p5 = passed-row (ltb at s) 5 n _ .0 (p4 .1) in
-        let q : s ≡ at = omega (arith, ltb-false s at (p4 .0), ltb-false at s (p5 .0)) in
-        next (rw q at b) (ap (λ (x : ℕ). x + 4 ^ i) q) (ih (s + 4 ^ i) (block-lies b .span) .0 (p5 .1))
+    rest : (verdict (recordRows m (suc n) (s + 4 ^ i) ks) ≡ Passed) ↔ Follow m (s + 4 ^ i) ks
+    rest = ih (s + 4 ^ i) (block-lies b .span)
 
-    from : Follow m at (k ∷ ks) → verdict (rows m n at ks (Block i s)) ≡ Passed
-    from (next a q F) =
-        let o = one-block b a in
-        let d = ih (s + 4 ^ i) (block-lies b .span) .1 (rw (o .0, o .1, ← q) F) in
-        passed-row false 3 n _ .1 (refl, passed-row (ltb s at) 4 n _ .1 (le-ltb s at (omega arith), passed-row (ltb at s) 5 n _ .1 (le-ltb at s (omega arith), d)))
+    to : Dec (s < at) → Dec (at < s) → verdict (recordRows m n at (k ∷ ks)) ≡ Passed → Follow m at (k ∷ ks)
+    to (yes l) d v = never (sym (step-early m n at k ks b l) ∙ v)
+    to (no g) (yes l) v = never (sym (step-late m n at k ks b l) ∙ v)
+    to (no g) (no h) v =
+        let q : s ≡ at = omega (arith, g, h) in
+        next (rw q at b) (ap (λ (x : ℕ). x + 4 ^ i) q) (rest .0 (sym (step-next m n at k ks b q) ∙ v))
+
+    from : Follow m at (k ∷ ks) → verdict (recordRows m n at (k ∷ ks)) ≡ Passed
+    from (next a q F) = let o = one-block b a in step-next m n at k ks b (o .1) ∙ rest .1 (rw (o .0, o .1, ← q) F)
 
 follow : (m n at : ℕ) (keys : List ℕ) → at ≤ 4 ^ m → (verdict (recordRows m n at keys) ≡ Passed) ↔ Follow m at keys
-unfolding recordRows rows
-follow m n at [] l = (λ e. full (to (passed-row (ltb at (4 ^ m)) 5 n [] .0 e .0)), from)
+follow m n at [] l = (to (decLt at (4 ^ m)), from)
   where
-    to : ltb at (4 ^ m) ≡ false → at ≡ 4 ^ m
-    to e = omega (arith, ltb-false at (4 ^ m) e)
+    to : Dec (at < 4 ^ m) → verdict (recordRows m n at []) ≡ Passed → Follow m at []
+    to (yes h) v = never (sym (step-short m n at h) ∙ v)
+    to (no g) v = let e : at ≡ 4 ^ m = omega (arith, g) in full e
 
-    from : Follow m at [] → verdict (row (ltb at (4 ^ m)) 5 n ∷ []) ≡ Passed
-    from (full e) = passed-row (ltb at (4 ^ m)) 5 n [] .1 (le-ltb at (4 ^ m) (omega arith), passed-none)
+    from : Follow m at [] → verdict (recordRows m n at []) ≡ Passed
+    from (full e) = step-full m n at (omega arith)
 follow m n at (k ∷ ks) l = follow-on m n at k ks (formOf m k) refl (λ e h. follow m (suc n) e ks h)
 
 -- a map passes exactly when it is sound
