@@ -17,10 +17,22 @@ use Rattle.answers.specs.Rows.{Row, row, answer, verdict}
 use Rattle.answers.specs.Sizes.{wrongCount, sizeRows, Sized}
 use Rattle.answers.specs.Cells.{overwrite}
 
--- ---- a table answers row by row, and tables one after the other
+-- ---- a table answers row by row, and one table after the other
 
 module _ {A : Type 0} (refuse : ℕ → ℕ → A) where
-  pub answer-append : (rs ss : List Row) (a : A) → answer refuse (rs ++ ss) a ≡ answer refuse rs (answer refuse ss a)
+  pub answer-none : (a : A) → answer refuse [] a ≡ a
+  unfolding answer
+  answer-none a = refl
+
+  pub row-held : {b : Bool} (n p : ℕ) (rs : List Row) (a : A) → b ≡ true → answer refuse (row b n p ∷ rs) a ≡ refuse n p
+  unfolding answer
+  row-held n p rs a e = rw e
+
+  pub row-clear : {b : Bool} (n p : ℕ) (rs : List Row) (a : A) → b ≡ false → answer refuse (row b n p ∷ rs) a ≡ answer refuse rs a
+  unfolding answer
+  row-clear n p rs a e = rw e
+
+  answer-append : (rs ss : List Row) (a : A) → answer refuse (rs ++ ss) a ≡ answer refuse rs (answer refuse ss a)
   unfolding answer
   answer-append [] ss a = refl
   answer-append (r ∷ rs) ss a = ap (cond (r .holds) (refuse (r .number) (r .place))) (answer-append rs ss a)
@@ -31,12 +43,12 @@ module _ {A : Type 0} (refuse : ℕ → ℕ → A) where
   by (Refused n p) a = refuse n p
 
   by-verdict : (rs : List Row) (a : A) → answer refuse rs a ≡ by (verdict rs) a
-  unfolding answer verdict by
+  unfolding answer by
   by-verdict [] a = refl
   by-verdict (r ∷ rs) a = go (r .holds) (by-verdict rs a)
     where
-      go : (t : Bool) → answer refuse rs a ≡ by (answer Refused rs Passed) a
-          → cond t (refuse (r .number) (r .place)) (answer refuse rs a) ≡ by (cond t (Refused (r .number) (r .place)) (answer Refused rs Passed)) a
+      go : (t : Bool) → answer refuse rs a ≡ by (verdict rs) a
+          → cond t (refuse (r .number) (r .place)) (answer refuse rs a) ≡ by (cond t (Refused (r .number) (r .place)) (verdict rs)) a
       go true ih = refl
       go false ih = ih
 
@@ -48,6 +60,12 @@ module _ {A : Type 0} (refuse : ℕ → ℕ → A) where
   unfolding by
   on-refused rs a e = by-verdict rs a ∙ ap (λ (v : Verdict). by v a) e
 
+  pub append-passed : (rs ss : List Row) (a : A) → verdict rs ≡ Passed → answer refuse (rs ++ ss) a ≡ answer refuse ss a
+  append-passed rs ss a e = answer-append rs ss a ∙ on-passed rs (answer refuse ss a) e
+
+  pub append-refused : (rs ss : List Row) (a : A) {n p : ℕ} → verdict rs ≡ Refused n p → answer refuse (rs ++ ss) a ≡ refuse n p
+  append-refused rs ss a e = answer-append rs ss a ∙ on-refused rs (answer refuse ss a) e
+
   -- an answer that is no refusal: the table has passed
   pub accepted : (rs : List Row) (a : A) {done : A} → ((n p : ℕ) → refuse n p ≡ done → ⊥) → answer refuse rs a ≡ done → (verdict rs ≡ Passed) × (a ≡ done)
   unfolding by
@@ -57,44 +75,20 @@ module _ {A : Type 0} (refuse : ℕ → ℕ → A) where
       go Passed p q = (p, q)
       go (Refused n p) q h = absurd (never n p h)
 
--- ---- a table by its first row
-
-module _ {b : Bool} (n p : ℕ) (rs : List Row) where
-  pub row-held : b ≡ true → verdict (row b n p ∷ rs) ≡ Refused n p
-  unfolding verdict answer
-  row-held e = rw e
-
-  pub row-clear : b ≡ false → verdict (row b n p ∷ rs) ≡ verdict rs
-  unfolding verdict answer
-  row-clear e = rw e
-
-pub passed-none : verdict [] ≡ Passed
-unfolding verdict answer
-passed-none = refl
-
--- ---- one table after another
-
-module _ (rs ss : List Row) where
-  pub append-refused : {n p : ℕ} → verdict rs ≡ Refused n p → verdict (rs ++ ss) ≡ Refused n p
-  unfolding verdict
-  append-refused e = answer-append Refused rs ss Passed ∙ on-refused Refused rs (verdict ss) e
-
-  pub append-passed : verdict rs ≡ Passed → verdict (rs ++ ss) ≡ verdict ss
-  unfolding verdict
-  append-passed e = answer-append Refused rs ss Passed ∙ on-passed Refused rs (verdict ss) e
-
 -- ---- a table that has passed
 
+pub refused-not-passed : {n p : ℕ} → Refused n p ≡ Passed → ⊥
+refused-not-passed e = let z : _≡_ {A = ℕ} 0 1 = cc in omega arith
+
 pub passed-row : (b : Bool) (n p : ℕ) (rs : List Row) → (verdict (row b n p ∷ rs) ≡ Passed) ↔ ((b ≡ false) × (verdict rs ≡ Passed))
-unfolding verdict answer
-passed-row true n p rs = (λ e. absurd (let z : _≡_ {A = ℕ} 0 1 = cc in omega arith), λ e. absurd (let z : _≡_ {A = ℕ} 0 1 = cc in omega arith))
+unfolding answer
+passed-row true n p rs = (λ e. absurd (refused-not-passed e), λ e. absurd (let z : _≡_ {A = ℕ} 0 1 = cc in omega arith))
 passed-row false n p rs = (λ e. (refl, e), λ e. e .1)
 
 pub passed-append : (rs ss : List Row) → (verdict (rs ++ ss) ≡ Passed) ↔ ((verdict rs ≡ Passed) × (verdict ss ≡ Passed))
-unfolding verdict
 passed-append rs ss = (
-  λ e. accepted Refused rs (verdict ss) (λ n p q. let z : _≡_ {A = ℕ} 0 1 = cc in omega arith) (sym (answer-append Refused rs ss Passed) ∙ e),
-  λ e. answer-append Refused rs ss Passed ∙ on-passed Refused rs (verdict ss) (e .0) ∙ e .1,
+  λ e. accepted Refused rs (verdict ss) (λ n p q. refused-not-passed q) (sym (answer-append Refused rs ss Passed) ∙ e),
+  λ e. append-passed Refused rs ss Passed (e .0) ∙ e .1,
 )
 
 pub neither : (a b : Bool) → a || b ≡ false → (a ≡ false) × (b ≡ false)
@@ -125,20 +119,20 @@ module _ {m keys classes : ℕ} where
       from : Sized m keys classes → verdict (row (ltb 12 m) 1 0 ∷ row (wrongCount keys classes) 2 0 ∷ []) ≡ Passed
       from s =
           let right : wrongCount keys classes ≡ false = rw (eq-eqb keys classes (s .same), ne-eqb keys 0 (λ e. omega (arith, s .some)), le-ltb 65536 keys (s .most)) in
-          passed-row (ltb 12 m) 1 0 _ .1 (le-ltb 12 m (s .small), passed-row (wrongCount keys classes) 2 0 [] .1 (right, passed-none))
+          passed-row (ltb 12 m) 1 0 _ .1 (le-ltb 12 m (s .small), passed-row (wrongCount keys classes) 2 0 [] .1 (right, answer-none Refused Passed))
 
 module _ (m keys classes : ℕ) where
   pub over-12 : 12 < m → verdict (sizeRows m keys classes) ≡ Refused 1 0
   unfolding sizeRows
-  over-12 l = row-held 1 0 _ (lt-ltb 12 m l)
+  over-12 l = row-held Refused 1 0 _ _ (lt-ltb 12 m l)
 
   pub not-sized : m ≤ 12 → (Sized m keys classes → ⊥) → verdict (sizeRows m keys classes) ≡ Refused 2 0
   unfolding sizeRows
   not-sized l wrong = go (wrongCount keys classes) refl
     where
       go : (t : Bool) → wrongCount keys classes ≡ t → verdict (row (ltb 12 m) 1 0 ∷ row (wrongCount keys classes) 2 0 ∷ []) ≡ Refused 2 0
-      go true e = row-clear 1 0 _ (le-ltb 12 m l) ∙ row-held 2 0 [] e
-      go false e = absurd (wrong (sized .0 (row-clear 1 0 _ (le-ltb 12 m l) ∙ row-clear 2 0 [] e ∙ passed-none)))
+      go true e = row-clear Refused 1 0 _ _ (le-ltb 12 m l) ∙ row-held Refused 2 0 [] _ e
+      go false e = absurd (wrong (sized .0 (row-clear Refused 1 0 _ _ (le-ltb 12 m l) ∙ row-clear Refused 2 0 [] _ e ∙ answer-none Refused Passed)))
 
 -- ---- lent cells
 

@@ -8,7 +8,7 @@ use lib.Dec.{ltb}
 use borrow.Author.Tests.{lt-ltb, le-ltb}
 use Rattle.answers.specs.declared.Verdict.the-variants.{Passed, Refused}
 use Rattle.answers.specs.Rows.{Row, row, verdict}
-use Rattle.answers.proofs.Laws.{row-held, row-clear, passed-none}
+use Rattle.answers.proofs.Laws.{row-held, row-clear, answer-none}
 use Rattle.key.specs.declared.Form.{Form}
 use Rattle.key.specs.declared.Form.the-variants.{Block, Malformed}
 use Rattle.key.specs.Form.{formOf}
@@ -27,28 +27,28 @@ module _ (m n at k : ℕ) (ks : List ℕ) where
 
   pub step-malformed : formOf m k ≡ Malformed → verdict (recordRows m n at (k ∷ ks)) ≡ Refused 3 n
   unfolding rows malformed
-  step-malformed e = read-as Malformed e ∙ row-held 3 n _ refl
+  step-malformed e = read-as Malformed e ∙ row-held Refused 3 n _ _ refl
 
   module _ {i s : ℕ} (b : Names m k i s) where
     step-block : verdict (recordRows m n at (k ∷ ks)) ≡ verdict (row (ltb s at) 4 n ∷ row (ltb at s) 5 n ∷ recordRows m (suc n) (s + 4 ^ i) ks)
     unfolding rows malformed start end
-    step-block = read-as (Block i s) (b .is) ∙ row-clear 3 n _ refl
+    step-block = read-as (Block i s) (b .is) ∙ row-clear Refused 3 n _ _ refl
 
     pub step-early : s < at → verdict (recordRows m n at (k ∷ ks)) ≡ Refused 4 n
-    step-early l = step-block ∙ row-held 4 n _ (lt-ltb s at l)
+    step-early l = step-block ∙ row-held Refused 4 n _ _ (lt-ltb s at l)
 
     pub step-late : at < s → verdict (recordRows m n at (k ∷ ks)) ≡ Refused 5 n
-    step-late l = step-block ∙ row-clear 4 n _ (le-ltb s at (omega arith)) ∙ row-held 5 n _ (lt-ltb at s l)
+    step-late l = step-block ∙ row-clear Refused 4 n _ _ (le-ltb s at (omega arith)) ∙ row-held Refused 5 n _ _ (lt-ltb at s l)
 
     pub step-next : s ≡ at → verdict (recordRows m n at (k ∷ ks)) ≡ verdict (recordRows m (suc n) (s + 4 ^ i) ks)
-    step-next e = step-block ∙ row-clear 4 n _ (le-ltb s at (omega arith)) ∙ row-clear 5 n _ (le-ltb at s (omega arith))
+    step-next e = step-block ∙ row-clear Refused 4 n _ _ (le-ltb s at (omega arith)) ∙ row-clear Refused 5 n _ _ (le-ltb at s (omega arith))
 
 -- behind the last record
 module _ (m n at : ℕ) where
   pub step-short : at < 4 ^ m → verdict (recordRows m n at []) ≡ Refused 5 n
   unfolding recordRows
-  step-short l = row-held 5 n [] (lt-ltb at (4 ^ m) l)
+  step-short l = row-held Refused 5 n [] _ (lt-ltb at (4 ^ m) l)
 
   pub step-full : 4 ^ m ≤ at → verdict (recordRows m n at []) ≡ Passed
   unfolding recordRows
-  step-full l = row-clear 5 n [] (le-ltb at (4 ^ m) l) ∙ passed-none
+  step-full l = row-clear Refused 5 n [] _ (le-ltb at (4 ^ m) l) ∙ answer-none Refused Passed

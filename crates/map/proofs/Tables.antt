@@ -11,7 +11,7 @@ use Rattle.answers.specs.declared.Verdict.the-variants.{Passed}
 use Rattle.answers.specs.declared.Verdict.the-variants as refusal
 use Rattle.answers.specs.Rows.{verdict}
 use Rattle.answers.specs.Sizes.{sizeRows}
-use Rattle.answers.proofs.Laws.{on-passed, on-refused, append-refused, append-passed, passed-append, sized}
+use Rattle.answers.proofs.Laws.{on-passed, on-refused, append-refused, append-passed, refused-not-passed, passed-append, sized}
 use Rattle.key.specs.declared.Form.{Form}
 use Rattle.key.specs.declared.Form.the-variants.{Block, Malformed}
 use Rattle.key.specs.Form.{formOf}
@@ -25,11 +25,11 @@ use Rattle.map.proofs.Steps.{step-malformed, step-early, step-late, ste
 module _ (m : ℕ) (keys : List ℕ) (classes : ℕ) where
   pub sizes-refused : {n p : ℕ} → verdict (sizeRows m (length keys) classes) ≡ refusal.Refused n p → verdict (mapRows m keys classes) ≡ refusal.Refused n p
   unfolding mapRows
-  sizes-refused e = append-refused _ _ e
+  sizes-refused e = append-refused refusal.Refused _ _ _ e
 
   pub sizes-passed : verdict (sizeRows m (length keys) classes) ≡ Passed → verdict (mapRows m keys classes) ≡ verdict (recordRows m 0 0 keys)
   unfolding mapRows
-  sizes-passed e = append-passed _ _ e
+  sizes-passed e = append-passed refusal.Refused _ _ _ e
 
   pub check-refused : {n p : ℕ} → verdict (mapRows m keys classes) ≡ refusal.Refused n p → checkOf m keys classes ≡ Refused n p
   unfolding checkOf
@@ -41,13 +41,10 @@ module _ (m : ℕ) (keys : List ℕ) (classes : ℕ) where
 
 -- ---- the records
 
-never : {n p : ℕ} {A : Type 0} → refusal.Refused n p ≡ Passed → A
-never e = absurd (let z : _≡_ {A = ℕ} 0 1 = cc in omega arith)
-
 follow-on : (m n at k : ℕ) (ks : List ℕ) (f : Form) → formOf m k ≡ f
     → ((e : ℕ) → e ≤ 4 ^ m → (verdict (recordRows m (suc n) e ks) ≡ Passed) ↔ Follow m e ks)
     → (verdict (recordRows m n at (k ∷ ks)) ≡ Passed) ↔ Follow m at (k ∷ ks)
-follow-on m n at k ks Malformed e ih = (λ v. never (sym (step-malformed m n at k ks e) ∙ v), from)
+follow-on m n at k ks Malformed e ih = (λ v. absurd (refused-not-passed (sym (step-malformed m n at k ks e) ∙ v)), from)
   where
     from : Follow m at (k ∷ ks) → verdict (recordRows m n at (k ∷ ks)) ≡ Passed
     from (next b q F) = absurd (let z : _≡_ {A = ℕ} 0 1 = cc in omega arith)
@@ -60,8 +57,8 @@ follow-on m n at k ks (Block i s) e ih = (to (decLt s at) (decLt at s), from)
     rest = ih (s + 4 ^ i) (block-lies b .span)
 
     to : Dec (s < at) → Dec (at < s) → verdict (recordRows m n at (k ∷ ks)) ≡ Passed → Follow m at (k ∷ ks)
-    to (yes l) d v = never (sym (step-early m n at k ks b l) ∙ v)
-    to (no g) (yes l) v = never (sym (step-late m n at k ks b l) ∙ v)
+    to (yes l) d v = absurd (refused-not-passed (sym (step-early m n at k ks b l) ∙ v))
+    to (no g) (yes l) v = absurd (refused-not-passed (sym (step-late m n at k ks b l) ∙ v))
     to (no g) (no h) v =
         let q : s ≡ at = omega (arith, g, h) in
         next (rw q at b) (ap (λ (x : ℕ). x + 4 ^ i) q) (rest .0 (sym (step-next m n at k ks b q) ∙ v))
@@ -73,7 +70,7 @@ follow : (m n at : ℕ) (keys : List ℕ) → at ≤ 4 ^ m → (verdict (recordR
 follow m n at [] l = (to (decLt at (4 ^ m)), from)
   where
     to : Dec (at < 4 ^ m) → verdict (recordRows m n at []) ≡ Passed → Follow m at []
-    to (yes h) v = never (sym (step-short m n at h) ∙ v)
+    to (yes h) v = absurd (refused-not-passed (sym (step-short m n at h) ∙ v))
     to (no g) v = let e : at ≡ 4 ^ m = omega (arith, g) in full e
 
     from : Follow m at [] → verdict (recordRows m n at []) ≡ Passed
