@@ -1,10 +1,9 @@
 # What a user does, a target each.
-.PHONY: demo test check format
+.PHONY: lib test check format
 
-# The window program on the reference case. It is not built yet.
-demo:
-	@echo 'make demo: there is no window program yet; README.md says what there is' >&2
-	@false
+# The library for C: target/staticlib/liblutniorad.a. Its header is include/lutniorad.h.
+lib:
+	rt staticlib lutniorad
 
 # Every test there is: the gate.
 test:

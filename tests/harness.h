@@ -1,0 +1,84 @@
+/*
+ * What the cases stand on: calls of the library and of the independent program side by side, with every answer and
+ * every byte of every slice compared; random numbers; and the run over the groups of cases.
+ *
+ * TO ADD AN OPERATION that both programs have, write in harness.c, beside those of the others:
+ *   - one pair of function pointers: a member of `program`, and its function in `library` and in `reference`;
+ *   - one run_ function, which hands the slices of a call to that member in the order of its parameters;
+ *   - one row: the operation's name, its run_ function, whether it takes m, how many slices it takes, and for each its
+ *     name and the bytes in a cell, 1 or 4.
+ * Declare the row below with the others. MOST_SLICES is as many slices as any of them has. A case then fills in a
+ * `call` of the operation and hands it to `compare`.
+ *
+ * TO ADD A GROUP OF CASES, write one function that runs them all, and give it a row in the table that `run_groups` is
+ * handed. Its place there decides the numbers of its cases. Each case begins with `begin_case`, is left out where that
+ * is false, and makes all that it needs after that: so it can be run alone.
+ */
+#ifndef HARNESS_H
+#define HARNESS_H
+
+#include "lutniorad.h"
+
+#include <stdbool.h>
+
+#define COUNT(array) (sizeof(array) / sizeof *(array))
+
+/* ---- Random numbers ---- */
+
+uint64_t random_number(void);
+
+size_t below(size_t n); /* from 0 to n - 1 */
+
+/* ---- Calls ---- */
+
+typedef struct operation operation;
+
+extern const operation CHECK, READ, WRITE;
+
+enum { MOST_SLICES = 3 };
+
+/*
+ * A slice of a call before it is laid out. One that the call writes has no content, and garbage will stand in it.
+ * Of a vast slice, one of about VAST cells, only the first CELLS_OF_VAST need be there.
+ */
+typedef struct {
+    const void *content;
+    size_t length;
+} given;
+
+enum { CELLS_OF_VAST = 64 };
+#define VAST ((size_t)1 << 32)
+
+typedef struct {
+    const operation *operation;
+    uint32_t m;
+    given slices[MOST_SLICES];
+} call;
+
+/* One call, once with each garbage. Of every slice, written by the call or not, all cells and guards are compared. */
+lutniorad_answer compare(call c);
+
+/* The library's slice after the last call, by its place among the parameters. */
+const void *left(size_t i);
+
+/* ---- Cases ---- */
+
+/* Every case begins with this. Its random numbers hang on the seed and its own number alone. False: leave it out. */
+bool begin_case(void);
+
+/* What a case asks of the last call beyond the comparison. If it is not so, the program shows the call and ends. */
+void require(bool holds, const char *otherwise);
+void require_answer(lutniorad_answer got, const char *whose, lutniorad_answer expected);
+
+/* ---- Groups of cases ---- */
+
+typedef struct {
+    const char *name;
+    void (*run)(void);
+    bool random; /* other cases with another seed */
+} group;
+
+/* Runs what the arguments of the program ask for, and returns its status. */
+int run_groups(const group *groups, size_t n_groups, int argc, char **argv);
+
+#endif

@@ -1,0 +1,278 @@
+#include "maps.h"
+
+#include "harness.h"
+#include "reference.h"
+
+#include <string.h>
+
+/* ---- Maps ---- */
+
+void copy_records(map *to, uint32_t m, size_t q, const void *keys, const void *classes)
+{
+    to->m = m;
+    to->q = q;
+    memcpy(to->keys, keys, q * sizeof *to->keys);
+    memcpy(to->classes, classes, q * sizeof *to->classes);
+}
+
+void copy_map(map *to, const map *from)
+{
+    copy_records(to, from->m, from->q, from->keys, from->classes);
+}
+
+uint32_t power_of_5(uint32_t exponent)
+{
+    uint32_t power = 1;
+    for (uint32_t i = 0; i < exponent; i++)
+        power *= 5;
+    return power;
+}
+
+/* ---- Sound maps ---- */
+
+size_t most_cuts(uint32_t exponent)
+{
+    return (((size_t)1 << 2 * exponent) - 1) / 3;
+}
+
+/* Appends the records of a block of side 2^exponent that is cut so many times, 1 + 3 * cuts of them. */
+static void cut_block(map *a, shape how, uint32_t exponent, uint32_t key, size_t cuts)
+{
+    if (cuts == 0) {
+        a->keys[a->q++] = key;
+        return;
+    }
+    cuts--;
+    for (uint32_t digit = 1; digit <= 4; digit++) {
+        size_t most = most_cuts(exponent - 1);
+        size_t later = (4 - digit) * most; /* the quadrants after this one take no more */
+        size_t least = cuts > later ? cuts - later : 0;
+        size_t greatest = cuts < most ? cuts : most;
+        size_t share = how == EVEN     ? cuts / (5 - digit)
+                       : how == RAGGED ? least + below(greatest - least + 1)
+                       : below(2) == 0 ? least
+                                       : greatest;
+        cut_block(a, how, exponent - 1, key + digit * power_of_5(exponent - 1), share);
+        cuts -= share;
+    }
+}
+
+void make_map(map *a, uint32_t m, shape how, size_t cuts)
+{
+    a->m = m;
+    a->q = 0;
+    cut_block(a, how, m, 0, cuts);
+    for (size_t i = 0; i < a->q; i++)
+        a->classes[i] = (uint8_t)random_number();
+}
+
+void make_random_map(map *a)
+{
+    uint32_t m = (uint32_t)below(13);
+    size_t most = most_cuts(m < 8 ? m : 8);
+    size_t cuts = below(20) == 0 ? most : below((most >> below(16)) + 1);
+    make_map(a, m, (shape)below(SHAPES), cuts);
+}
+
+const size_t pictures[] = {1, 2, 17};
+
+void make_picture(map *a, uint32_t m, size_t number)
+{
+    a->m = m;
+    a->q = 0;
+    if (number == 0)
+        cut_block(a, EVEN, m, 0, 0);
+    for (uint32_t digit = 1; number > 0 && digit <= 4; digit++)
+        cut_block(a, EVEN, m - 1, digit * power_of_5(m - 1), (number - 1) >> (digit - 1) & 1);
+}
+
+void paint(map *a, int how)
+{
+    for (size_t i = 0; i < a->q; i++)
+        a->classes[i] = (uint8_t)(how == RISING ? i + 1 : how == ALL_0 ? 0 : how == ALL_255 ? 255 : random_number());
+}
+
+/* ---- Damaged maps ---- */
+
+static void insert_record(map *a, size_t i, uint32_t key)
+{
+    memmove(a->keys + i + 1, a->keys + i, (a->q - i) * sizeof *a->keys);
+    memmove(a->classes + i + 1, a->classes + i, a->q - i);
+    a->keys[i] = key;
+    a->classes[i] = 0;
+    a->q++;
+}
+
+static void drop(map *a, size_t i)
+{
+    a->q--;
+    memmove(a->keys + i, a->keys + i + 1, (a->q - i) * sizeof *a->keys);
+    memmove(a->classes + i, a->classes + i + 1, a->q - i);
+}
+
+static void repeat(map *a, size_t i)
+{
+    insert_record(a, i, a->keys[i]);
+}
+
+void append(map *a, size_t i)
+{
+    insert_record(a, a->q, a->keys[i]);
+}
+
+static void end_early(map *a, size_t i)
+{
+    a->q = i;
+}
+
+static void swap_with_next(map *a, size_t i)
+{
+    size_t next = (i + 1) % a->q;
+    uint32_t key = a->keys[i];
+    a->keys[i] = a->keys[next];
+    a->keys[next] = key;
+}
+
+/* What a 1 is worth at the place of the key's last digit that is not 0; of key 0, 5^m. */
+static uint32_t last_place(uint32_t m, uint32_t key)
+{
+    uint32_t place = 1;
+    while (place < power_of_5(m) && key / place % 5 == 0)
+        place *= 5;
+    return place;
+}
+
+static void take_parent(map *a, size_t i)
+{
+    uint32_t place = last_place(a->m, a->keys[i]);
+    a->keys[i] -= a->keys[i] / place % 5 * place;
+}
+
+static void take_first_child(map *a, size_t i)
+{
+    a->keys[i] += last_place(a->m, a->keys[i]) / 5;
+}
+
+static void take_next_key(map *a, size_t i)
+{
+    a->keys[i]++;
+}
+
+static void take_previous_key(map *a, size_t i)
+{
+    a->keys[i]--;
+}
+
+static void clear_some_digit(map *a, size_t i)
+{
+    uint32_t place = power_of_5((uint32_t)below(a->m + 1));
+    a->keys[i] -= a->keys[i] / place % 5 * place;
+}
+
+static void take_some_key(map *a, size_t i)
+{
+    a->keys[i] = (uint32_t)below(power_of_5(a->m));
+}
+
+static void take_any_number(map *a, size_t i)
+{
+    a->keys[i] = (uint32_t)random_number();
+}
+
+void become_a_quadrant(map *a, size_t i)
+{
+    for (size_t k = 0; k < a->q; k++)
+        a->keys[k] += (uint32_t)(i % 4 + 1) * power_of_5(a->m);
+    a->m++;
+}
+
+static void (*const damages[])(map *, size_t) = {
+    drop,
+    repeat,
+    append,
+    end_early,
+    swap_with_next,
+    take_parent,
+    take_first_child,
+    take_next_key,
+    take_previous_key,
+    clear_some_digit,
+    take_some_key,
+    take_any_number,
+    become_a_quadrant,
+};
+
+const size_t n_damages = COUNT(damages);
+
+void damage(map *a, size_t how, size_t i)
+{
+    damages[how](a, i);
+}
+
+/* Some record of a map, often one of the first or the last. */
+static size_t some_record(const map *a)
+{
+    size_t any = below(a->q), few = below(a->q < 4 ? a->q : 4), kind = below(4);
+    return kind == 0 ? few : kind == 1 ? a->q - 1 - few : any;
+}
+
+void damage_at_random(map *a)
+{
+    for (size_t times = 1 + below(2); times > 0 && a->q > 0; times--) {
+        size_t how = below(n_damages);
+        damage(a, how, some_record(a));
+    }
+}
+
+/* ---- Files ---- */
+
+size_t length_of_file(size_t q)
+{
+    return HEADER + 5 * q;
+}
+
+size_t make_file(uint8_t file[ROOM_FOR_FILE], const map *a)
+{
+    size_t n = reference_write(a->m, a->keys, a->q, a->classes, a->q, file, ROOM_FOR_FILE).first;
+    memset(file + n, 0, 16);
+    return n;
+}
+
+void set_field(uint8_t *file, size_t field, uint32_t value)
+{
+    for (size_t i = 0; i < 4; i++)
+        file[4 * field + i] = (uint8_t)(value >> 8 * i);
+}
+
+static uint32_t right_value(size_t field, uint32_t m, size_t q)
+{
+    const size_t values[FIELDS] = {length_of_file(q), m, q, HEADER, HEADER + 4 * q};
+    return (uint32_t)values[field];
+}
+
+void set_header(uint8_t *file, uint32_t m, size_t q)
+{
+    for (size_t field = 0; field < FIELDS; field++)
+        set_field(file, field, right_value(field, m, q));
+}
+
+/*
+ * What a field is set to: its right value times one number and plus another. The first is the right value itself.
+ * Others look like it when some of the 32 bits are left out, when the bytes are turned round, or when a product wraps.
+ */
+static const struct {
+    uint32_t times, plus;
+} spoils[] = {
+    {1, 0},          {1, 1},        {0, 0},        {0, 13},    {0, UINT32_MAX}, {1, UINT32_MAX},
+    {1, 4},          {1, 5},        {0, 1},        {0, 12},    {0, 19},         {0, 20},
+    {0, 25},         {1, 256},      {0, 65535},    {0, 65536}, {0, 65537},      {1, 65536},
+    {1, 1u << 30},   {0, 1u << 31}, {1, 1u << 31}, {256, 0},   {1u << 24, 0},   {0, UINT32_MAX - 3},
+    {0, 0x33333333}, {5, 0},
+};
+
+const size_t n_spoils = COUNT(spoils);
+
+uint32_t spoiled(const map *a, size_t field, size_t k)
+{
+    return right_value(field, a->m, a->q) * spoils[k].times + spoils[k].plus;
+}

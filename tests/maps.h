@@ -1,0 +1,89 @@
+/*
+ * What the cases are made of: maps, sound and damaged, and house files, right and spoiled.
+ */
+#ifndef MAPS_H
+#define MAPS_H
+
+#include <stddef.h>
+#include <stdint.h>
+
+/* ---- Maps ---- */
+
+enum { MOST_RECORDS = 65536, ROOM_FOR_RECORDS = MOST_RECORDS + 8 };
+
+typedef struct {
+    uint32_t m;
+    size_t q;
+    uint32_t keys[ROOM_FOR_RECORDS];
+    uint8_t classes[ROOM_FOR_RECORDS];
+} map;
+
+void copy_records(map *to, uint32_t m, size_t q, const void *keys, const void *classes);
+
+void copy_map(map *to, const map *from);
+
+uint32_t power_of_5(uint32_t exponent);
+
+/* ---- Sound maps ---- */
+
+/* How many blocks can be cut in four, one after the other, in a block of side 2^exponent. */
+size_t most_cuts(uint32_t exponent);
+
+/* How the cuts are dealt out to the four quadrants: all to as few as will take them, evenly, or at random. */
+typedef enum { DEEP, EVEN, RAGGED, SHAPES } shape;
+
+/* A map of 1 + 3 * cuts records, with random classes. */
+void make_map(map *a, uint32_t m, shape how, size_t cuts);
+
+/* Of every size: as often few records as many, and now and then as many as there can be. */
+void make_random_map(map *a);
+
+/* How many pictures each m up to 2 has. 0 is one block; each other is cut in four, and then the quadrants of a mask. */
+extern const size_t pictures[3];
+
+/* One of the pictures, its classes as they were. */
+void make_picture(map *a, uint32_t m, size_t number);
+
+enum { RISING, ALL_0, ALL_255, RANDOM, PAINTS };
+
+void paint(map *a, int how);
+
+/* ---- Damaged maps ---- */
+
+/* The damages, by number: each spoils a map at record i. */
+extern const size_t n_damages;
+
+void damage(map *a, size_t how, size_t i);
+
+/* One or two damages at some records, often at one of the first or the last. */
+void damage_at_random(map *a);
+
+/* Two of the damages. The first appends the key of record i. */
+void append(map *a, size_t i);
+
+/* The same records in a quadrant of a picture of twice the side. */
+void become_a_quadrant(map *a, size_t i);
+
+/* ---- Files ---- */
+
+enum { HEADER = 20, ROOM_FOR_FILE = HEADER + 5 * ROOM_FOR_RECORDS };
+
+size_t length_of_file(size_t q);
+
+/* The file of a map, and zeros after it for the slices that are longer. Returns the length of the file. */
+size_t make_file(uint8_t file[ROOM_FOR_FILE], const map *a);
+
+enum { FIELDS = 5 }; /* of the header, numbered from 0 */
+
+void set_field(uint8_t *file, size_t field, uint32_t value);
+
+/* The header as it must be. */
+void set_header(uint8_t *file, uint32_t m, size_t q);
+
+/* The spoils, by number: each is a value for a field in the file of a map. The first is the right one. */
+extern const size_t n_spoils;
+enum { CHIEF_SPOILS = 5 }; /* the first five */
+
+uint32_t spoiled(const map *a, size_t field, size_t k);
+
+#endif
