@@ -3,13 +3,14 @@
 use mathlib.Core.Path.{_≡_, refl, sym, ap, _∙_}
 use mathlib.Core.Logic.{_↔_}
 use mathlib.Core.Bool.{Bool, true, false, not, cond, _||_}
-use mathlib.Core.List.{List, [], _∷_, _++_, append-assoc}
+use mathlib.Core.List.{List, [], _∷_, _++_, append-assoc, append-nil}
 use Prim.Native.Nat.{ℕ, _+_, _≤_, _<_}
+use native.Mathlib.Nat.{zero-add}
 use native.Mathlib.Numerals.{add-one}
 use native.Mathlib.Omega.{arith}
 use lib.Dec.{eqb, ltb}
 use lib.ListN.{length, take, drop, set, length-append, length-drop}
-use lib.Seq.{take-at, drop-at, set-at, drop-drop, drop-cons}
+use lib.Seq.{take-at, drop-at, set-at, drop-drop, drop-cons, drop-length, sets, sets-eq}
 use borrow.Author.Tests.{ltb-false, eqb-false, eqb-true, lt-ltb, le-ltb, eq-eqb, ne-eqb, not-false}
 use Rattle.answers.specs.declared.Verdict.{Verdict}
 use Rattle.answers.specs.declared.Verdict.the-variants.{Passed, Refused}
@@ -24,13 +25,15 @@ module _ {A : Type 0} (refuse : ℕ → ℕ → A) where
   unfolding answer
   answer-none a = refl
 
-  pub row-held : {b : Bool} (n p : ℕ) (rs : List Row) (a : A) → b ≡ true → answer refuse (row b n p ∷ rs) a ≡ refuse n p
+  pub answer-row : (b : Bool) (n p : ℕ) (rs : List Row) (a : A) → answer refuse (row b n p ∷ rs) a ≡ cond b (refuse n p) (answer refuse rs a)
   unfolding answer
-  row-held n p rs a e = rw e
+  answer-row b n p rs a = refl
+
+  pub row-held : {b : Bool} (n p : ℕ) (rs : List Row) (a : A) → b ≡ true → answer refuse (row b n p ∷ rs) a ≡ refuse n p
+  row-held n p rs a e = rw answer-row (rw e)
 
   pub row-clear : {b : Bool} (n p : ℕ) (rs : List Row) (a : A) → b ≡ false → answer refuse (row b n p ∷ rs) a ≡ answer refuse rs a
-  unfolding answer
-  row-clear n p rs a e = rw e
+  row-clear n p rs a e = rw answer-row (rw e)
 
   answer-append : (rs ss : List Row) (a : A) → answer refuse (rs ++ ss) a ≡ answer refuse rs (answer refuse ss a)
   unfolding answer
@@ -157,3 +160,17 @@ module _ (xs zs : List ℕ) where
   pub overwrite-set : (y : ℕ) → length xs < length zs → set (overwrite xs zs) (length xs) y ≡ overwrite (xs ++ (y ∷ [])) zs
   unfolding overwrite
   overwrite-set y l = ap (λ (t : List ℕ). set (xs ++ t) (length xs) y) (drop-cons zs (length xs) 0 l) ∙ set-at xs _ _ y _ refl ∙ rw (length-append, append-assoc, add-one)
+
+  -- an answer in a part that is lent, and the cells beyond the part
+  pub overwrite-part : xs ++ drop (length xs) zs ≡ overwrite xs zs
+  unfolding overwrite
+  overwrite-part = refl
+
+  pub overwrite-all : length xs ≡ length zs → overwrite xs zs ≡ xs
+  unfolding overwrite
+  overwrite-all e = rw (e, drop-length, append-nil)
+
+  -- stores one after the other, from the first cell on
+  pub overwrite-sets : length xs ≤ length zs → sets zs 0 xs ≡ overwrite xs zs
+  unfolding overwrite
+  overwrite-sets l = sets-eq xs zs 0 (rw zero-add l) ∙ rw zero-add

@@ -1,9 +1,13 @@
 -- The numbers that cross to C: for each case of an operation's answer, its refusal and place, or its values.
 -- Assumes nothing.
 use Prim.Native.Nat.{ℕ}
-use Rattle.lutniorad.specs.declared.Answer.{Answer}
 use Rattle.map.specs.declared.Checked.{Checked}
 use Rattle.map.specs.declared.Checked.the-variants as checked
+use Rattle.house.specs.declared.Reading.{Reading}
+use Rattle.house.specs.declared.Reading.the-variants as reading
+use Rattle.house.specs.declared.Writing.{Writing}
+use Rattle.house.specs.declared.Writing.the-variants as writing
+use Rattle.lutniorad.specs.declared.Answer.{Answer}
 
 -- an answer has no refusal and no place
 abbrev pub values : ℕ → ℕ → Answer
@@ -13,6 +17,14 @@ values first second = record { refusal = 0; place = 0; first = first; second = s
 abbrev pub refused : ℕ → ℕ → Answer
 refused number place = record { refusal = number; place = place; first = 0; second = 0 }
 
-abbrev pub ofCheck : Checked → Answer
-ofCheck (checked.Sound count) = values count 0
-ofCheck (checked.Refused number place) = refused number place
+abbrev pub ofChecked : Checked → Answer
+ofChecked (checked.Sound count) = values count 0
+ofChecked (checked.Refused number place) = refused number place
+
+abbrev pub ofReading : Reading → Answer
+ofReading (reading.Read m count) = values m count
+ofReading (reading.Refused number place) = refused number place
+
+abbrev pub ofWriting : Writing → Answer
+ofWriting (writing.Written length) = values length 0
+ofWriting (writing.Refused number place) = refused number place

@@ -1,9 +1,10 @@
 // The C face: every exported function, and nothing else. include/lutniorad.h says for C what stands here.
+use house::Reading;
+use house::Writing;
 use map::Checked;
 ghost use mathlib.Core.Path.{_≡_};
-ghost use lib.ListN.{length};
-ghost use Rattle.map.specs.Check.{checkOf};
-ghost use Rattle.lutniorad.specs.Numbers.{values, refused, ofCheck};
+ghost use Rattle.lutniorad.specs.Numbers.{values, refused};
+ghost use Rattle.lutniorad.specs.Calls.{Check, Read, Write};
 
 #[repr(C)]
 pub struct Answer {
@@ -39,11 +40,33 @@ impl Answer {
 
 #[no_mangle]
 pub extern "C" fn lutniorad_check(m: u32, keys: &[u32], classes: &[u8]) -> Answer
-    ensures { λ r. ⌜ r ≡ ofCheck (checkOf m (now (keys .entry)) (length (now (classes .entry)))) ⌝ }
+    ensures { λ r. ⌜ Check m (now (keys .entry)) (now (classes .entry)) r ⌝ }
 {
     let checked = map::check(m, keys, classes);
     match checked {
         Checked::Sound { count } => Answer::values(count, 0),
         Checked::Refused { number, place } => Answer::refused(number, place),
+    }
+}
+
+#[no_mangle]
+pub extern "C" fn lutniorad_read(file: &[u8], keys: &mut [u32], classes: &mut [u8]) -> Answer
+    ensures { λ r. ⌜ Read (now (file .entry)) (now (keys .entry)) (now (classes .entry)) r (now (keys .exit)) (now (classes .exit)) ⌝ }
+{
+    let reading = house::read(file, keys, classes);
+    match reading {
+        Reading::Read { m, count } => Answer::values(m, count),
+        Reading::Refused { number, place } => Answer::refused(number, place),
+    }
+}
+
+#[no_mangle]
+pub extern "C" fn lutniorad_write(m: u32, keys: &[u32], classes: &[u8], out: &mut [u8]) -> Answer
+    ensures { λ r. ⌜ Write m (now (keys .entry)) (now (classes .entry)) (now (out .entry)) r (now (out .exit)) ⌝ }
+{
+    let writing = house::write(m, keys, classes, out);
+    match writing {
+        Writing::Written { length } => Answer::values(length, 0),
+        Writing::Refused { number, place } => Answer::refused(number, place),
     }
 }

@@ -1,0 +1,191 @@
+-- The laws of the house file: little-endian numbers both ways, and the two round trips, over the definitions that the contracts cite.
+-- Assumes nothing.
+use mathlib.Core.Path.{_≡_, refl, sym, _∙_}
+use mathlib.Core.List.{List, [], _∷_, _++_, append-assoc}
+use Prim.Native.Nat.{ℕ, zero, suc, _+_, _*_, _/_, _%_, _^_, _≤_, _<_}
+use native.Mathlib.Omega.{arith}
+use lib.ListN.{length, take, drop, getD, length-append, length-take, length-drop}
+use lib.Seq.{take-add, take-all, drop-at, drop-drop, getD-drop}
+use borrow.Author.Tests.{le-ltb}
+use Rattle.answers.specs.Sizes.{Sized}
+use Rattle.answers.specs.Cells.{overwrite}
+use Rattle.answers.proofs.Laws.{sized, take-overwrite}
+use Rattle.house.specs.declared.Reading.{Reading}
+use Rattle.house.specs.declared.Reading.the-variants as reading
+use Rattle.house.specs.declared.Writing.{Writing}
+use Rattle.house.specs.declared.Writing.the-variants as writing
+use Rattle.house.specs.File.{header, fileOf, fileM, fileQ, fileKeys, fileClasses, afterRead, readOf, afterWrite, writeOf}
+use Rattle.house.proofs.Tables.{Laid, laid, read-laid, write-sized, read-accepted, write-accepted}
+use Rattle.house.specs.Numbers.{bytes, number, bytesOf, numbers, Below}
+use Rattle.house.proofs.Steps.{length-bytes, length-bytesOf, length-numbers}
+
+-- ---- little-endian numbers, at every width
+
+pub number-bytes : (n x : ℕ) (rest : List ℕ) → x < 256 ^ n → number n (bytes n x ++ rest) ≡ x
+unfolding number bytes
+number-bytes zero x rest l = omega arith
+number-bytes (suc n) x rest l =
+    let less : x / 256 < 256 ^ n = omega arith in
+    rw (number-bytes n (x / 256) rest less) (omega arith)
+
+below-rest : {n b : ℕ} {bs : List ℕ} → Below n (b ∷ bs) → Below n bs
+below-rest l = record { at = λ i. l .at (suc i) }
+
+below-drop : (k : ℕ) {n : ℕ} {bs : List ℕ} → Below n bs → Below n (drop k bs)
+below-drop k {n} {bs} l = record { at = λ i. rw getD-drop (l .at (k + i)) }
+
+pub bytes-number : (n : ℕ) (bs : List ℕ) → Below 256 bs → n ≤ length bs → bytes n (number n bs) ≡ take n bs
+unfolding number bytes
+bytes-number zero bs l m = refl
+bytes-number (suc n) [] l m = absurd (omega arith)
+bytes-number (suc n) (b ∷ bs) l m =
+    let low : (b + 256 * number n bs) % 256 ≡ b = omega (arith, l .at 0) in
+    let high : (b + 256 * number n bs) / 256 ≡ number n bs = omega (arith, l .at 0) in
+    rw (low, high, bytes-number n bs (below-rest l) (omega arith))
+
+pub numbers-bytesOf : (xs rest : List ℕ) → Below (2 ^ 32) xs → numbers (length xs) (bytesOf xs ++ rest) ≡ xs
+unfolding numbers bytesOf
+numbers-bytesOf [] rest l = refl
+numbers-bytesOf (x ∷ xs) rest l =
+    rw (append-assoc, number-bytes 4 x (bytesOf xs ++ rest) (l .at 0), drop-at (bytes 4 x) (bytesOf xs ++ rest) 4 (length-bytes 4 x), numbers-bytesOf xs rest (below-rest l))
+
+pub bytesOf-numbers : (n : ℕ) (bs : List ℕ) → Below 256 bs → 4 * n ≤ length bs → bytesOf (numbers n bs) ≡ take (4 * n) bs
+unfolding numbers bytesOf
+bytesOf-numbers zero bs l m = refl
+bytesOf-numbers (suc n) bs l m =
+    let e : 4 * suc n ≡ 4 + 4 * n = omega arith in
+    rw (bytes-number 4 bs l (omega arith), bytesOf-numbers n (drop 4 bs) (below-drop 4 l) (rw length-drop (omega arith)), e, take-add)
+
+-- ---- the parts of a file
+
+module _ (m : ℕ) (keys classes : List ℕ) where
+  pub length-file : length classes ≡ length keys → length (fileOf m keys classes) ≡ 20 + 5 * length keys
+  unfolding fileOf header
+  length-file e = simp (length-append, length-bytesOf) (omega arith)
+
+  file-is : fileOf m keys classes ≡ bytesOf (header m (length keys)) ++ (bytesOf keys ++ classes)
+  unfolding fileOf
+  file-is = append-assoc (bytesOf (header m (length keys))) (bytesOf keys) classes
+
+  header-drop : drop 20 (fileOf m keys classes) ≡ bytesOf keys ++ classes
+  unfolding header
+  header-drop = rw file-is (drop-at (bytesOf (header m (length keys))) (bytesOf keys ++ classes) 20 (rw length-bytesOf))
+
+  keys-drop : drop (20 + 4 * length keys) (fileOf m keys classes) ≡ classes
+  keys-drop = rw (← drop-drop (4 * length keys) 20 (fileOf m keys classes), header-drop) (drop-at (bytesOf keys) classes (4 * length keys) (length-bytesOf keys))
+
+below-none : {n : ℕ} → 0 < n → Below n []
+below-none l = record { at = λ i. l }
+
+below-more : {n x : ℕ} {xs : List ℕ} → x < n → Below n xs → Below n (x ∷ xs)
+below-more {n} {x} {xs} l h = record { at = at }
+  where
+    at : (i : ℕ) → getD (x ∷ xs) i 0 < n
+    at zero = l
+    at (suc i) = h .at i
+
+-- ---- what was written is read
+
+module _ (m : ℕ) (keys classes : List ℕ) (size : Sized m (length keys) (length classes)) (small : Below (2 ^ 32) keys) where
+  header-read : header m (length keys) ≡ numbers 5 (fileOf m keys classes)
+  unfolding header
+  header-read = rw (file-is m keys classes) (sym (numbers-bytesOf (header m (length keys)) (bytesOf keys ++ classes) below))
+    where
+      below : Below (2 ^ 32) (header m (length keys))
+      below = below-more (omega (arith, size .most)) (below-more (omega (arith, size .small)) (below-more (omega (arith, size .most)) (below-more (omega arith) (below-more (omega (arith, size .most)) (below-none (omega arith))))))
+
+  header-laid : Laid (length (fileOf m keys classes)) (header m (length keys))
+  unfolding header
+  header-laid = record {
+    total = sym (length-file m keys classes (sym (size .same)));
+    size = record { small = size .small; same = refl; some = size .some; most = size .most };
+    full = length-file m keys classes (sym (size .same));
+    keys = refl;
+    classes = refl;
+  }
+
+  pub written-read : (ks cs : List ℕ) → length keys ≤ length ks → length keys ≤ length cs
+      → readOf (fileOf m keys classes) ks cs ≡ afterRead (reading.Read m (length keys)) (overwrite keys ks) (overwrite classes cs)
+  unfolding header
+  written-read ks cs k l =
+      read-laid (fileOf m keys classes) ks cs header-read (omega (arith, length-file m keys classes (sym (size .same)))) (laid _ _ .1 header-laid)
+      ∙ rw (
+        le-ltb (length ks) (length keys) k,
+        le-ltb (length cs) (length keys) l,
+        header-drop m keys classes,
+        keys-drop m keys classes,
+        numbers-bytesOf keys classes small,
+        take-all (length keys) classes (omega (arith, size .same)),
+      )
+
+-- the same through a lent slice: the bytes that a call of `write` answered for
+pub written-read-lent : (m : ℕ) (keys classes out : List ℕ) {n : ℕ} {out′ : List ℕ} → Below (2 ^ 32) keys → writeOf m keys classes out ≡ afterWrite (writing.Written n) out′
+    → (ks cs : List ℕ) → length keys ≤ length ks → length keys ≤ length cs
+    → readOf (take n out′) ks cs ≡ afterRead (reading.Read m (length keys)) (overwrite keys ks) (overwrite classes cs)
+written-read-lent m keys classes out {n} {out′} small e ks cs k l =
+    let g = write-accepted m keys classes out e in
+    let len : n ≡ length (fileOf m keys classes) = sym (g .n-is) ∙ sym (length-file m keys classes (sym (g .size .same))) in
+    let back : take n out′ ≡ fileOf m keys classes = rw (len, ← g .out-is) (take-overwrite (fileOf m keys classes) out) in
+    rw back (written-read m keys classes (g .size) small ks cs k l)
+
+-- ---- what was read is written
+
+module _ (file : List ℕ) (right : Laid (length file) (numbers 5 file)) where
+  header-again : header (fileM file) (fileQ file) ≡ numbers 5 file
+  unfolding header fileM fileQ numbers
+  header-again = cc
+
+  length-again : length file ≡ 20 + 5 * fileQ file
+  unfolding fileQ
+  length-again = right .full
+
+  length-keys : length (fileKeys file) ≡ fileQ file
+  unfolding fileKeys
+  length-keys = length-numbers (fileQ file) (drop 20 file)
+
+  length-classes : length (fileClasses file) ≡ fileQ file
+  unfolding fileClasses
+  length-classes = simp (length-take, length-drop) (omega (arith, length-again))
+
+  sized-again : Sized (fileM file) (length (fileKeys file)) (length (fileClasses file))
+  unfolding fileM fileQ
+  sized-again = record {
+    small = right .size .small;
+    same = length-keys ∙ sym length-classes;
+    some = rw length-keys (right .size .some);
+    most = rw length-keys (right .size .most);
+  }
+
+  file-again : Below 256 file → fileOf (fileM file) (fileKeys file) (fileClasses file) ≡ file
+  unfolding fileOf fileKeys fileClasses
+  file-again low =
+      let q : ℕ = fileQ file in
+      let head : bytesOf (numbers 5 file) ≡ take 20 file = bytesOf-numbers 5 file low (omega (arith, length-again)) in
+      let keys : bytesOf (numbers q (drop 20 file)) ≡ take (4 * q) (drop 20 file) =
+      bytesOf-numbers q (drop 20 file) (below-drop 20 low) (rw length-drop (omega (arith, length-again))) in
+      rw (length-numbers, header-again, head, keys, ← take-add 20 (4 * q) file, ← take-add (20 + 4 * q) q file)
+      (take-all (20 + 4 * q + q) file (omega (arith, length-again)))
+
+  write-again : Below 256 file → (out : List ℕ) → length file ≤ length out
+      → writeOf (fileM file) (fileKeys file) (fileClasses file) out ≡ afterWrite (writing.Written (length file)) (overwrite file out)
+  write-again low out l =
+      let n : 20 + 5 * length (fileKeys file) ≡ length file = omega (arith, length-again, length-keys) in
+      write-sized (fileM file) (fileKeys file) (fileClasses file) out (sized .1 sized-again) ∙ rw (n, le-ltb (length out) (length file) l, file-again low)
+
+pub read-written : (file ks cs : List ℕ) {m q : ℕ} {ks′ cs′ : List ℕ} → Below 256 file → readOf file ks cs ≡ afterRead (reading.Read m q) ks′ cs′
+    → (out : List ℕ) → length file ≤ length out → writeOf m (take q ks′) (take q cs′) out ≡ afterWrite (writing.Written (length file)) (overwrite file out)
+read-written file ks cs {m} {q} {ks′} {cs′} low e out l =
+    let t = read-accepted file ks cs e in
+    let keys : take q ks′ ≡ fileKeys file = rw (← t .q-is, ← length-keys file (t .right), ← t .keys-are) (take-overwrite (fileKeys file) ks) in
+    let classes : take q cs′ ≡ fileClasses file = rw (← t .q-is, ← length-classes file (t .right), ← t .classes-are) (take-overwrite (fileClasses file) cs) in
+    rw (keys, classes, ← t .m-is) (write-again file (t .right) low out l)
+
+-- ---- no second answer fits a contract
+
+pub read-one : (file keys classes : List ℕ) {r s : Reading} {ks ks′ cs cs′ : List ℕ} → afterRead r ks cs ≡ readOf file keys classes → afterRead s ks′ cs′ ≡ readOf file keys classes
+    → afterRead r ks cs ≡ afterRead s ks′ cs′
+read-one file keys classes a b = a ∙ sym b
+
+pub write-one : (m : ℕ) (keys classes out : List ℕ) {r s : Writing} {o o′ : List ℕ} → afterWrite r o ≡ writeOf m keys classes out → afterWrite s o′ ≡ writeOf m keys classes out
+    → afterWrite r o ≡ afterWrite s o′
+write-one m keys classes out a b = a ∙ sym b

@@ -1,0 +1,130 @@
+-- Numbers in lent cells, one after the other: what the loops do in a turn.
+-- Assumes nothing.
+use mathlib.Core.Path.{_≡_, refl, sym, ap, subst, _∙_}
+use mathlib.Core.List.{List, [], _∷_, _++_, append-assoc, append-nil}
+use Prim.Native.Nat.{ℕ, zero, suc, _+_, _-_, _*_, _/_, _≤_, _<_}
+use native.Mathlib.Numerals.{add-one}
+use native.Mathlib.Omega.{arith}
+use lib.ListN.{length, take, drop, set, getD, length-append, length-drop, drop-of-length-le}
+use borrow.Rule.Slice.PartMut.{putMid}
+use lib.Seq.{drop-drop, take-all, take-suc, length-take-le}
+use Rattle.answers.specs.Cells.{overwrite}
+use Rattle.answers.proofs.Laws.{overwrite-set, overwrite-append, overwrite-length, overwrite-part, overwrite-all}
+use Rattle.house.specs.Numbers.{bytes, number, bytesOf, numbers}
+
+-- ---- numbers of four bytes
+
+pub number-four : (bs : List ℕ) → getD bs 0 0 + 256 * (getD bs 1 0 + 256 * (getD bs 2 0 + 256 * getD bs 3 0)) ≡ number 4 bs
+unfolding number
+number-four [] = refl
+number-four (a ∷ []) = refl
+number-four (a ∷ b ∷ []) = refl
+number-four (a ∷ b ∷ c ∷ []) = refl
+number-four (a ∷ b ∷ c ∷ d ∷ bs) = omega arith
+
+pub length-bytes : (n x : ℕ) → length (bytes n x) ≡ n
+unfolding bytes
+length-bytes zero x = refl
+length-bytes (suc n) x = ap suc (length-bytes n (x / 256))
+
+pub length-bytesOf : (xs : List ℕ) → length (bytesOf xs) ≡ 4 * length xs
+unfolding bytesOf
+length-bytesOf [] = refl
+length-bytesOf (x ∷ xs) = simp (length-append, length-bytes, length-bytesOf xs) (omega arith)
+
+pub bytesOf-append : (xs ys : List ℕ) → bytesOf (xs ++ ys) ≡ bytesOf xs ++ bytesOf ys
+unfolding bytesOf
+bytesOf-append [] ys = refl
+bytesOf-append (x ∷ xs) ys = rw (bytesOf-append xs ys, append-assoc)
+
+pub length-numbers : (n : ℕ) (bs : List ℕ) → length (numbers n bs) ≡ n
+unfolding numbers
+length-numbers zero bs = refl
+length-numbers (suc n) bs = ap suc (length-numbers n (drop 4 bs))
+
+pub numbers-next : (n : ℕ) (bs : List ℕ) → numbers (suc n) bs ≡ numbers n bs ++ (number 4 (drop (4 * n) bs) ∷ [])
+unfolding numbers
+numbers-next zero bs = refl
+numbers-next (suc n) bs =
+    let e : 4 * suc n ≡ 4 + 4 * n = omega arith in
+    rw (e, ← drop-drop (4 * n) 4 bs, ← numbers-next n (drop 4 bs))
+
+-- ---- the part of a slice from a place to its end
+
+pub rest : (i : ℕ) (xs : List ℕ) → take (length xs - i) (drop i xs) ≡ drop i xs
+rest i xs = take-all (length xs - i) (drop i xs) (simp length-drop (omega arith))
+
+-- lent, and come back as ys
+pub rest-back : (i : ℕ) (xs ys : List ℕ) → i ≤ length xs → putMid i (length xs - i) xs ys ≡ take i xs ++ ys
+rest-back i xs ys l =
+    let all : length (drop i xs) ≤ length xs - i = simp length-drop (omega arith) in
+    rw (drop-of-length-le (drop i xs) all, append-nil)
+
+-- ---- cells that are filled from the first on
+
+pub record Filling (part cells₀ cells : List ℕ) : Type 0 where
+  pub is : cells ≡ overwrite part cells₀
+  pub room : length part ≤ length cells₀
+  pub same : length cells ≡ length cells₀
+
+pub filling : (part cells₀ cells : List ℕ) → length part ≤ length cells₀ → cells ≡ overwrite part cells₀ → Filling part cells₀ cells
+filling part cells₀ cells l e = record { is = e; room = l; same = ap length e ∙ overwrite-length part cells₀ l }
+
+pub filling-first : (cells : List ℕ) → Filling [] cells cells
+filling-first cells = record { is = overwrite-part [] cells; room = omega arith; same = refl }
+
+module _ {part cells₀ cells : List ℕ} (f : Filling part cells₀ cells) (i : ℕ) (e : length part ≡ i) where
+  pub filling-cell : (y : ℕ) → i < length cells₀ → Filling (part ++ (y ∷ [])) cells₀ (set cells i y)
+  filling-cell y l =
+      filling _ cells₀ _ (simp length-append (omega arith))
+      (ap (λ (t : List ℕ). set t i y) (f .is) ∙ rw (← e) (overwrite-set part cells₀ y (rw e l)))
+
+  -- a part from i on was lent, and zs was written from its first cell on
+  pub filling-part : {ys : List ℕ} (zs : List ℕ) → ys ≡ overwrite zs (take (length cells - i) (drop i cells)) → i + length zs ≤ length cells₀
+      → Filling (part ++ zs) cells₀ (putMid i (length cells - i) cells ys)
+  filling-part {ys} zs w l =
+      filling _ cells₀ _ (simp length-append (omega arith))
+      (rest-back i cells ys (omega (arith, f .same, f .room))
+      ∙ rw (w, rest i cells) (ap (λ (t : List ℕ). take i t ++ overwrite zs (drop i t)) (f .is) ∙ rw (← e) (overwrite-append part cells₀ zs)))
+
+-- the first q cells were lent
+pub filling-front : (from cells : List ℕ) (q : ℕ) {ys : List ℕ} → ys ≡ numbers (length (take q cells)) from → q ≤ length cells
+    → ys ++ drop q cells ≡ overwrite (numbers q from) cells
+filling-front from cells q {ys} e l =
+    let n : length (numbers q from) ≡ q = length-numbers q from in
+    rw (e, length-take-le q cells l, ← overwrite-part, n)
+
+-- ---- a turn of each loop, and its end
+
+module _ (from : List ℕ) (i : ℕ) {cells₀ cells : List ℕ} (f : Filling (take i from) cells₀ cells) where
+  pub copy-next : i < length from → i < length cells₀ → Filling (take (i + 1) from) cells₀ (set cells i (getD from i 0))
+  copy-next l m =
+      let e : take i from ++ (getD from i 0 ∷ []) ≡ take (i + 1) from = rw (add-one, take-suc from i 0) in
+      subst (λ (part : List ℕ). Filling part cells₀ (set cells i (getD from i 0))) e
+      (filling-cell f i (length-take-le i from (omega arith)) (getD from i 0) m)
+
+  pub copy-last : length from ≤ i → cells ≡ overwrite from cells₀
+  copy-last l = f .is ∙ rw (take-all i from l)
+
+module _ (from : List ℕ) (i : ℕ) {cells₀ cells : List ℕ} (f : Filling (numbers i from) cells₀ cells) where
+  pub get-next : {y : ℕ} → y ≡ number 4 (take (length from - 4 * i) (drop (4 * i) from)) → i < length cells₀ → Filling (numbers (i + 1) from) cells₀ (set cells i y)
+  get-next {y} e l =
+      let next : numbers i from ++ (y ∷ []) ≡ numbers (i + 1) from = rw (add-one, numbers-next i from, e, rest (4 * i) from) in
+      subst (λ (part : List ℕ). Filling part cells₀ (set cells i y)) next (filling-cell f i (length-numbers i from) y l)
+
+  pub get-last : length cells₀ ≡ i → cells ≡ numbers (length cells₀) from
+  get-last e = f .is ∙ overwrite-all (numbers i from) cells₀ (length-numbers i from ∙ sym e) ∙ rw e
+
+module _ (from : List ℕ) (i : ℕ) {cells₀ cells : List ℕ} (f : Filling (bytesOf (take i from)) cells₀ cells) where
+  pub put-next : {ys : List ℕ} → ys ≡ overwrite (bytes 4 (getD from i 0)) (take (length cells - 4 * i) (drop (4 * i) cells)) → i < length from
+      → 4 * length from ≤ length cells₀ → Filling (bytesOf (take (i + 1) from)) cells₀ (putMid (4 * i) (length cells - 4 * i) cells ys)
+  unfolding bytesOf
+  put-next {ys} e l m =
+      let y : ℕ = getD from i 0 in
+      let part : bytesOf (take i from) ++ bytes 4 y ≡ bytesOf (take (i + 1) from) = rw (add-one, take-suc from i 0, bytesOf-append, append-nil) in
+      let n : length (bytesOf (take i from)) ≡ 4 * i = length-bytesOf (take i from) ∙ rw (length-take-le i from (omega arith)) in
+      subst (λ (t : List ℕ). Filling t cells₀ (putMid (4 * i) (length cells - 4 * i) cells ys)) part
+      (filling-part f (4 * i) n (bytes 4 y) e (rw length-bytes (omega arith)))
+
+  pub put-last : length from ≤ i → cells ≡ overwrite (bytesOf from) cells₀
+  put-last l = f .is ∙ rw (take-all i from l)

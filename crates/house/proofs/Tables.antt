@@ -1,0 +1,156 @@
+-- What the tables of refusals answer, once the part that another function answers for is known.
+-- Assumes nothing.
+use mathlib.Core.Path.{_≡_, ap, _∙_}
+use mathlib.Core.Logic.{_↔_}
+use mathlib.Core.Bool.{not, cond, _||_}
+use mathlib.Core.List.{List, []}
+use Prim.Native.Nat.{ℕ, _+_, _*_, _≤_, _<_}
+use native.Mathlib.Omega.{arith}
+use lib.Dec.{eqb, ltb}
+use lib.ListN.{length, take, drop, getD}
+use borrow.Author.Tests.{lt-ltb, le-ltb, ltb-false, eq-eqb, eqb-true, not-false}
+use Rattle.answers.specs.declared.Verdict.the-variants as verdict-of
+use Rattle.answers.specs.Rows.{answer, verdict}
+use Rattle.answers.specs.Sizes.{sizeRows, Sized}
+use Rattle.answers.specs.Cells.{overwrite}
+use Rattle.answers.proofs.Laws.{answer-none, answer-row, append-passed, append-refused, accepted, passed-row, passed-append, neither, sized}
+use Rattle.house.specs.declared.Reading.the-variants as reading
+use Rattle.house.specs.declared.Writing.the-variants as writing
+use Rattle.house.specs.Numbers.{numbers}
+use Rattle.house.specs.File.{layoutRows, readRows, writeRows, fileOf, fileM, fileQ, fileKeys, fileClasses, AfterRead, afterRead, readOf, AfterWrite, afterWrite, writeOf}
+
+-- ---- the layout
+
+-- none of its refusals holds
+pub record Laid (n : ℕ) (fields : List ℕ) : Type 0 where
+  pub total : getD fields 0 0 ≡ n
+  pub size : Sized (getD fields 1 0) (getD fields 2 0) (getD fields 2 0)
+  pub full : n ≡ 20 + 5 * getD fields 2 0
+  pub keys : getD fields 3 0 ≡ 20
+  pub classes : getD fields 4 0 ≡ 20 + 4 * getD fields 2 0
+
+module _ (n : ℕ) (fields : List ℕ) where
+  pub layout-refused : {k p : ℕ} → verdict (sizeRows (getD fields 1 0) (getD fields 2 0) (getD fields 2 0)) ≡ verdict-of.Refused k p
+      → verdict (layoutRows n fields) ≡ cond (not (eqb (getD fields 0 0) n)) (verdict-of.Refused 9 0) (verdict-of.Refused k p)
+  unfolding layoutRows
+  layout-refused h = rw (answer-row, append-refused verdict-of.Refused _ _ _ h)
+
+  pub layout-sized : verdict (sizeRows (getD fields 1 0) (getD fields 2 0) (getD fields 2 0)) ≡ verdict-of.Passed
+      → verdict (layoutRows n fields)
+      ≡ cond (not (eqb (getD fields 0 0) n)) (verdict-of.Refused 9 0)
+      (cond (not (eqb n (20 + 5 * getD fields 2 0))) (verdict-of.Refused 9 8)
+      (cond (not (eqb (getD fields 3 0) 20)) (verdict-of.Refused 9 12)
+      (cond (not (eqb (getD fields 4 0) (20 + 4 * getD fields 2 0))) (verdict-of.Refused 9 16) verdict-of.Passed)))
+  unfolding layoutRows
+  layout-sized h = rw (answer-row, append-passed verdict-of.Refused _ _ _ h) (simp (answer-row, answer-none))
+
+  pub laid : (verdict (layoutRows n fields) ≡ verdict-of.Passed) ↔ Laid n fields
+  unfolding layoutRows
+  laid = (to, λ l. layout-sized (sized .1 (l .size)) ∙ simp (eq-eqb _ _ (l .total), eq-eqb _ _ (l .full), eq-eqb _ _ (l .keys), eq-eqb _ _ (l .classes)))
+    where
+      to : verdict (layoutRows n fields) ≡ verdict-of.Passed → Laid n fields
+      to e =
+          let a = passed-row (not (eqb (getD fields 0 0) n)) 9 0 _ .0 e in
+          let b = passed-append (sizeRows (getD fields 1 0) (getD fields 2 0) (getD fields 2 0)) _ .0 (a .1) in
+          let c = passed-row (not (eqb n (20 + 5 * getD fields 2 0))) 9 8 _ .0 (b .1) in
+          let d = passed-row (not (eqb (getD fields 3 0) 20)) 9 12 _ .0 (c .1) in
+          let f = passed-row (not (eqb (getD fields 4 0) (20 + 4 * getD fields 2 0))) 9 16 _ .0 (d .1) in
+          record {
+            total = eqb-true _ _ (not-false _ (a .0));
+            size = sized .0 (b .0);
+            full = eqb-true _ _ (not-false _ (c .0));
+            keys = eqb-true _ _ (not-false _ (d .0));
+            classes = eqb-true _ _ (not-false _ (f .0));
+          }
+
+-- ---- reading
+
+module _ (file keys classes : List ℕ) where
+  pub read-short : length file < 20 → readOf file keys classes ≡ afterRead (reading.Refused 9 0) keys classes
+  unfolding readOf readRows
+  read-short l = rw answer-row (rw (lt-ltb (length file) 20 l))
+
+  module _ {fields : List ℕ} (e : fields ≡ numbers 5 file) (l : 20 ≤ length file) where
+    pub read-refused : {n p : ℕ} → verdict (layoutRows (length file) fields) ≡ verdict-of.Refused n p
+        → readOf file keys classes ≡ afterRead (reading.Refused n p) keys classes
+    unfolding readOf readRows
+    read-refused h = rw answer-row (rw (le-ltb (length file) 20 l) (append-refused _ _ _ _ (rw e at h)))
+
+    pub read-laid : verdict (layoutRows (length file) fields) ≡ verdict-of.Passed
+        → readOf file keys classes
+        ≡ cond (ltb (length keys) (getD fields 2 0) || ltb (length classes) (getD fields 2 0)) (afterRead (reading.Refused 8 (getD fields 2 0)) keys classes)
+        (afterRead (reading.Read (getD fields 1 0) (getD fields 2 0)) (overwrite (numbers (getD fields 2 0) (drop 20 file)) keys)
+        (overwrite (take (getD fields 2 0) (drop (20 + 4 * getD fields 2 0) file)) classes))
+    unfolding readOf readRows fileM fileQ fileKeys fileClasses
+    read-laid h = rw e (rw answer-row (rw (le-ltb (length file) 20 l) (append-passed _ _ _ _ (rw e at h) ∙ rw (answer-row, answer-none))))
+
+-- ---- writing
+
+module _ (m : ℕ) (keys classes out : List ℕ) where
+  pub write-refused : {n p : ℕ} → verdict (sizeRows m (length keys) (length classes)) ≡ verdict-of.Refused n p
+      → writeOf m keys classes out ≡ afterWrite (writing.Refused n p) out
+  unfolding writeOf writeRows
+  write-refused e = append-refused _ _ _ _ e
+
+  pub write-sized : verdict (sizeRows m (length keys) (length classes)) ≡ verdict-of.Passed
+      → writeOf m keys classes out
+      ≡ cond (ltb (length out) (20 + 5 * length keys)) (afterWrite (writing.Refused 8 (20 + 5 * length keys)) out)
+      (afterWrite (writing.Written (20 + 5 * length keys)) (overwrite (fileOf m keys classes) out))
+  unfolding writeOf writeRows
+  write-sized e = append-passed _ _ _ _ e ∙ rw (answer-row, answer-none)
+
+-- ---- a call that was accepted
+
+pub record Taken (file keys classes : List ℕ) (m q : ℕ) (keys′ classes′ : List ℕ) : Type 0 where
+  pub long : 20 ≤ length file
+  pub right : Laid (length file) (numbers 5 file)
+  pub keys-room : fileQ file ≤ length keys
+  pub classes-room : fileQ file ≤ length classes
+  pub m-is : fileM file ≡ m
+  pub q-is : fileQ file ≡ q
+  pub keys-are : overwrite (fileKeys file) keys ≡ keys′
+  pub classes-are : overwrite (fileClasses file) classes ≡ classes′
+
+pub read-accepted : (file keys classes : List ℕ) {m q : ℕ} {keys′ classes′ : List ℕ} → readOf file keys classes ≡ afterRead (reading.Read m q) keys′ classes′
+    → Taken file keys classes m q keys′ classes′
+unfolding readOf readRows
+read-accepted file keys classes {m} {q} {keys′} {classes′} e =
+    let a = accepted (λ (n p : ℕ). afterRead (reading.Refused n p) keys classes) (readRows file (length keys) (length classes))
+    (afterRead (reading.Read (fileM file) (fileQ file)) (overwrite (fileKeys file) keys) (overwrite (fileClasses file) classes))
+    (λ n p f. let g : reading.Refused n p ≡ reading.Read m q = ap (λ (x : AfterRead). x .answer) f in let z : _≡_ {A = ℕ} 0 1 = cc in omega arith) e in
+    let b = passed-row (ltb (length file) 20) 9 0 _ .0 (a .0) in
+    let c = passed-append (layoutRows (length file) (numbers 5 file)) _ .0 (b .1) in
+    let d = neither _ _ (passed-row (ltb (length keys) (fileQ file) || ltb (length classes) (fileQ file)) 8 (fileQ file) [] .0 (c .1) .0) in
+    let done : reading.Read (fileM file) (fileQ file) ≡ reading.Read m q = ap (λ (x : AfterRead). x .answer) (a .1) in
+    record {
+      long = ltb-false (length file) 20 (b .0);
+      right = laid _ _ .0 (c .0);
+      keys-room = ltb-false _ _ (d .0);
+      classes-room = ltb-false _ _ (d .1);
+      m-is = cc;
+      q-is = cc;
+      keys-are = ap (λ (x : AfterRead). x .keys) (a .1);
+      classes-are = ap (λ (x : AfterRead). x .classes) (a .1);
+    }
+
+pub record Given (m : ℕ) (keys classes out : List ℕ) (n : ℕ) (out′ : List ℕ) : Type 0 where
+  pub size : Sized m (length keys) (length classes)
+  pub room : 20 + 5 * length keys ≤ length out
+  pub n-is : 20 + 5 * length keys ≡ n
+  pub out-is : overwrite (fileOf m keys classes) out ≡ out′
+
+pub write-accepted : (m : ℕ) (keys classes out : List ℕ) {n : ℕ} {out′ : List ℕ} → writeOf m keys classes out ≡ afterWrite (writing.Written n) out′
+    → Given m keys classes out n out′
+unfolding writeOf writeRows
+write-accepted m keys classes out {n} e =
+    let a = accepted (λ (n p : ℕ). afterWrite (writing.Refused n p) out) (writeRows m (length keys) (length classes) (length out))
+    (afterWrite (writing.Written (20 + 5 * length keys)) (overwrite (fileOf m keys classes) out))
+    (λ k p f. let g : writing.Refused k p ≡ writing.Written n = ap (λ (x : AfterWrite). x .answer) f in let z : _≡_ {A = ℕ} 0 1 = cc in omega arith) e in
+    let b = passed-append (sizeRows m (length keys) (length classes)) _ .0 (a .0) in
+    let done : writing.Written (20 + 5 * length keys) ≡ writing.Written n = ap (λ (x : AfterWrite). x .answer) (a .1) in
+    record {
+      size = sized .0 (b .0);
+      room = ltb-false _ _ (passed-row (ltb (length out) (20 + 5 * length keys)) 8 (20 + 5 * length keys) [] .0 (b .1) .0);
+      n-is = cc;
+      out-is = ap (λ (x : AfterWrite). x .out) (a .1);
+    }

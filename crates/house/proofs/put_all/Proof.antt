@@ -1,0 +1,76 @@
+-- `house::put_all` meets its contract. The invariant: the bytes so far are overwritten by those of as many cells. The measure is how many cells are left.
+-- Assumes nothing.
+use Prim.Native.Nat.{_≤_, _-_}
+use native.Mathlib.Omega.{arith}
+use borrow.Author.Needs.{needs}
+use lib.ListN.{length, take, length-take, length-drop}
+use Rattle.house.specs.Numbers.{bytesOf}
+use Rattle.house.proofs.Steps.{Filling, filling-first, put-next, put-last}
+use Rattle.house.proofs.put_all.Statement.{statement}
+use Rattle.house.proofs.put_all.Tie as tie
+
+abbrev Inv-loop : tie.InvT-loop
+Inv-loop cells to₀ i₀ to i = (i ≤ length cells) × Filling (bytesOf (take i cells)) to₀ to
+
+abbrev μ-loop : tie.MeasureT-loop
+μ-loop cells to₀ i₀ to i = length cells - i
+
+loop-holds : tie.Need-loop-holds Inv-loop μ-loop
+unfolding bytesOf
+loop-holds c = (omega arith, filling-first _)
+
+mul-at : tie.Need-mul-at Inv-loop μ-loop
+mul-at c = search needs
+
+mul-put : tie.Need-mul-put Inv-loop μ-loop
+mul-put c = search needs
+
+shared-slice-read-put : tie.Need-shared-slice-read-put Inv-loop μ-loop
+shared-slice-read-put c = search needs
+
+sub-put : tie.Need-sub-put Inv-loop μ-loop
+sub-put c = search needs
+
+part-put-start : tie.Need-part-put-start Inv-loop μ-loop
+part-put-start c = search needs
+
+part-put-end : tie.Need-part-put-end Inv-loop μ-loop
+part-put-end c = search needs
+
+put-requires : tie.Need-put-requires Inv-loop μ-loop
+put-requires c κs = simp (length-take, length-drop) (omega arith)
+
+add-i : tie.Need-add-i Inv-loop μ-loop
+add-i c = search needs
+
+loop-less : tie.Need-loop-less Inv-loop μ-loop
+loop-less c = search needs
+
+loop-again : tie.Need-loop-again Inv-loop μ-loop
+loop-again c = (search needs, put-next (c .before .before .before .before .before .before .before .before .before .args .cells .now) (c .before .before .before .before .before .before .loop .i) (c .before .before .before .before .before .before .loop .inv .1) (c .before .before .put .ensures) (search needs) (search needs))
+
+same-length : tie.Need-same-length Inv-loop μ-loop
+same-length c = search needs
+
+returns : tie.Need-returns Inv-loop μ-loop
+returns c = put-last (c .before .before .before .before .args .cells .now) (c .before .loop .i) (c .before .loop .inv .1) (c .loop-test .left)
+
+pub put-all-spec : {M : Type 1} → statement M
+put-all-spec =
+    tie.close
+    (tie.spec
+    Inv-loop
+    μ-loop
+    loop-holds
+    mul-at
+    mul-put
+    shared-slice-read-put
+    sub-put
+    part-put-start
+    part-put-end
+    put-requires
+    add-i
+    loop-less
+    loop-again
+    same-length
+    returns)

@@ -1,0 +1,17 @@
+-- No second answer fits a call: two outcomes that both meet its contract are one.
+-- Assumes nothing.
+use mathlib.Core.Path.{_≡_, sym, _∙_}
+use mathlib.Core.List.{List}
+use Prim.Native.Nat.{ℕ}
+use Rattle.lutniorad.specs.declared.Answer.{Answer}
+use Rattle.lutniorad.specs.Calls.{Check, Read, Write}
+
+pub check-one : {m : ℕ} {keys classes : List ℕ} {r s : Answer} → Check m keys classes r → Check m keys classes s → r ≡ s
+check-one a b = a .answer ∙ sym (b .answer)
+
+pub read-one : {file keys classes ks ks′ cs cs′ : List ℕ} {r s : Answer} → Read file keys classes r ks cs → Read file keys classes s ks′ cs′
+    → (r ≡ s) × (ks ≡ ks′) × (cs ≡ cs′)
+read-one a b = (a .answer ∙ sym (b .answer), a .keys-after ∙ sym (b .keys-after), a .classes-after ∙ sym (b .classes-after))
+
+pub write-one : {m : ℕ} {keys classes out o o′ : List ℕ} {r s : Answer} → Write m keys classes out r o → Write m keys classes out s o′ → (r ≡ s) × (o ≡ o′)
+write-one a b = (a .answer ∙ sym (b .answer), a .out-after ∙ sym (b .out-after))
