@@ -1,4 +1,5 @@
--- The laws of the house file: little-endian numbers both ways, and the two round trips, over the definitions that the contracts cite.
+-- The laws of the house file, over the definitions that the contracts cite: little-endian numbers both ways, the two round trips,
+-- and that no second answer fits.
 -- Assumes nothing.
 use mathlib.Core.Path.{_≡_, refl, sym, _∙_}
 use mathlib.Core.List.{List, [], _∷_, _++_, append-assoc}
@@ -14,10 +15,28 @@ use Rattle.house.specs.declared.Reading.{Reading}
 use Rattle.house.specs.declared.Reading.the-variants as reading
 use Rattle.house.specs.declared.Writing.{Writing}
 use Rattle.house.specs.declared.Writing.the-variants as writing
-use Rattle.house.specs.File.{header, fileOf, fileM, fileQ, fileKeys, fileClasses, afterRead, readOf, afterWrite, writeOf}
-use Rattle.house.proofs.Tables.{Laid, laid, read-laid, write-sized, read-accepted, write-accepted}
 use Rattle.house.specs.Numbers.{bytes, number, bytesOf, numbers, Below}
+use Rattle.house.specs.File.{header, fileOf, fileM, fileQ, fileKeys, fileClasses, afterRead, readOf, afterWrite, writeOf}
 use Rattle.house.proofs.Steps.{length-bytes, length-bytesOf, length-numbers}
+use Rattle.house.proofs.Tables.{Laid, laid, read-laid, write-sized, read-accepted, write-accepted}
+
+-- ---- cells below a bound
+
+below-none : {n : ℕ} → 0 < n → Below n []
+below-none l = record { at = λ i. l }
+
+below-more : {n x : ℕ} {xs : List ℕ} → x < n → Below n xs → Below n (x ∷ xs)
+below-more {n} {x} {xs} l h = record { at = at }
+  where
+    at : (i : ℕ) → getD (x ∷ xs) i 0 < n
+    at zero = l
+    at (suc i) = h .at i
+
+below-rest : {n b : ℕ} {bs : List ℕ} → Below n (b ∷ bs) → Below n bs
+below-rest l = record { at = λ i. l .at (suc i) }
+
+below-drop : (k : ℕ) {n : ℕ} {bs : List ℕ} → Below n bs → Below n (drop k bs)
+below-drop k {n} {bs} l = record { at = λ i. rw getD-drop (l .at (k + i)) }
 
 -- ---- little-endian numbers, at every width
 
@@ -27,12 +46,6 @@ number-bytes zero x rest l = omega arith
 number-bytes (suc n) x rest l =
     let less : x / 256 < 256 ^ n = omega arith in
     rw (number-bytes n (x / 256) rest less) (omega arith)
-
-below-rest : {n b : ℕ} {bs : List ℕ} → Below n (b ∷ bs) → Below n bs
-below-rest l = record { at = λ i. l .at (suc i) }
-
-below-drop : (k : ℕ) {n : ℕ} {bs : List ℕ} → Below n bs → Below n (drop k bs)
-below-drop k {n} {bs} l = record { at = λ i. rw getD-drop (l .at (k + i)) }
 
 pub bytes-number : (n : ℕ) (bs : List ℕ) → Below 256 bs → n ≤ length bs → bytes n (number n bs) ≡ take n bs
 unfolding number bytes
@@ -73,16 +86,6 @@ module _ (m : ℕ) (keys classes : List ℕ) where
 
   keys-drop : drop (20 + 4 * length keys) (fileOf m keys classes) ≡ classes
   keys-drop = rw (← drop-drop (4 * length keys) 20 (fileOf m keys classes), header-drop) (drop-at (bytesOf keys) classes (4 * length keys) (length-bytesOf keys))
-
-below-none : {n : ℕ} → 0 < n → Below n []
-below-none l = record { at = λ i. l }
-
-below-more : {n x : ℕ} {xs : List ℕ} → x < n → Below n xs → Below n (x ∷ xs)
-below-more {n} {x} {xs} l h = record { at = at }
-  where
-    at : (i : ℕ) → getD (x ∷ xs) i 0 < n
-    at zero = l
-    at (suc i) = h .at i
 
 -- ---- what was written is read
 

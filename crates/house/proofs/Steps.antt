@@ -1,4 +1,4 @@
--- Numbers in lent cells, one after the other: what the loops do in a turn.
+-- Lent cells that are filled, one cell or one part behind the other: what a turn of each loop does.
 -- Assumes nothing.
 use mathlib.Core.Path.{_≡_, refl, sym, ap, subst, _∙_}
 use mathlib.Core.List.{List, [], _∷_, _++_, append-assoc, append-nil}
@@ -6,8 +6,8 @@ use Prim.Native.Nat.{ℕ, zero, suc, _+_, _-_, _*_, _/_, _≤_, _<_}
 use native.Mathlib.Numerals.{add-one}
 use native.Mathlib.Omega.{arith}
 use lib.ListN.{length, take, drop, set, getD, length-append, length-drop, drop-of-length-le}
-use borrow.Rule.Slice.PartMut.{putMid}
 use lib.Seq.{drop-drop, take-all, take-suc, length-take-le}
+use borrow.Rule.Slice.PartMut.{putMid}
 use Rattle.answers.specs.Cells.{overwrite}
 use Rattle.answers.proofs.Laws.{overwrite-set, overwrite-append, overwrite-length, overwrite-part, overwrite-all}
 use Rattle.house.specs.Numbers.{bytes, number, bytesOf, numbers}
@@ -55,8 +55,8 @@ pub rest : (i : ℕ) (xs : List ℕ) → take (length xs - i) (drop i xs) ≡ dr
 rest i xs = take-all (length xs - i) (drop i xs) (simp length-drop (omega arith))
 
 -- lent, and come back as ys
-pub rest-back : (i : ℕ) (xs ys : List ℕ) → i ≤ length xs → putMid i (length xs - i) xs ys ≡ take i xs ++ ys
-rest-back i xs ys l =
+pub rest-back : (i : ℕ) (xs ys : List ℕ) → putMid i (length xs - i) xs ys ≡ take i xs ++ ys
+rest-back i xs ys =
     let all : length (drop i xs) ≤ length xs - i = simp length-drop (omega arith) in
     rw (drop-of-length-le (drop i xs) all, append-nil)
 
@@ -84,7 +84,7 @@ module _ {part cells₀ cells : List ℕ} (f : Filling part cells₀ cells) (i :
       → Filling (part ++ zs) cells₀ (putMid i (length cells - i) cells ys)
   filling-part {ys} zs w l =
       filling _ cells₀ _ (simp length-append (omega arith))
-      (rest-back i cells ys (omega (arith, f .same, f .room))
+      (rest-back i cells ys
       ∙ rw (w, rest i cells) (ap (λ (t : List ℕ). take i t ++ overwrite zs (drop i t)) (f .is) ∙ rw (← e) (overwrite-append part cells₀ zs)))
 
 -- the first q cells were lent

@@ -1,19 +1,19 @@
--- What the tables of refusals answer, once the part that another function answers for is known.
+-- What the tables of refusals answer, where it is known what the table within them says.
 -- Assumes nothing.
 use mathlib.Core.Path.{_≡_, ap, _∙_}
 use mathlib.Core.Logic.{_↔_}
 use mathlib.Core.Bool.{not, cond, _||_}
-use mathlib.Core.List.{List, []}
+use mathlib.Core.List.{List}
 use Prim.Native.Nat.{ℕ, _+_, _*_, _≤_, _<_}
 use native.Mathlib.Omega.{arith}
 use lib.Dec.{eqb, ltb}
 use lib.ListN.{length, take, drop, getD}
-use borrow.Author.Tests.{lt-ltb, le-ltb, ltb-false, eq-eqb, eqb-true, not-false}
+use borrow.Author.Tests.{lt-ltb, le-ltb, eq-eqb, eqb-true, not-false}
 use Rattle.answers.specs.declared.Verdict.the-variants as verdict-of
 use Rattle.answers.specs.Rows.{answer, verdict}
 use Rattle.answers.specs.Sizes.{sizeRows, Sized}
 use Rattle.answers.specs.Cells.{overwrite}
-use Rattle.answers.proofs.Laws.{answer-none, answer-row, append-passed, append-refused, accepted, passed-row, passed-append, neither, sized}
+use Rattle.answers.proofs.Laws.{answer-none, answer-row, append-passed, append-refused, accepted, passed-row, passed-append, sized}
 use Rattle.house.specs.declared.Reading.the-variants as reading
 use Rattle.house.specs.declared.Writing.the-variants as writing
 use Rattle.house.specs.Numbers.{numbers}
@@ -99,13 +99,10 @@ module _ (m : ℕ) (keys classes out : List ℕ) where
   unfolding writeOf writeRows
   write-sized e = append-passed _ _ _ _ e ∙ rw (answer-row, answer-none)
 
--- ---- a call that was accepted
+-- ---- what is known of a call that was accepted
 
 pub record Taken (file keys classes : List ℕ) (m q : ℕ) (keys′ classes′ : List ℕ) : Type 0 where
-  pub long : 20 ≤ length file
   pub right : Laid (length file) (numbers 5 file)
-  pub keys-room : fileQ file ≤ length keys
-  pub classes-room : fileQ file ≤ length classes
   pub m-is : fileM file ≡ m
   pub q-is : fileQ file ≡ q
   pub keys-are : overwrite (fileKeys file) keys ≡ keys′
@@ -120,13 +117,9 @@ read-accepted file keys classes {m} {q} {keys′} {classes′} e =
     (λ n p f. let g : reading.Refused n p ≡ reading.Read m q = ap (λ (x : AfterRead). x .answer) f in let z : _≡_ {A = ℕ} 0 1 = cc in omega arith) e in
     let b = passed-row (ltb (length file) 20) 9 0 _ .0 (a .0) in
     let c = passed-append (layoutRows (length file) (numbers 5 file)) _ .0 (b .1) in
-    let d = neither _ _ (passed-row (ltb (length keys) (fileQ file) || ltb (length classes) (fileQ file)) 8 (fileQ file) [] .0 (c .1) .0) in
     let done : reading.Read (fileM file) (fileQ file) ≡ reading.Read m q = ap (λ (x : AfterRead). x .answer) (a .1) in
     record {
-      long = ltb-false (length file) 20 (b .0);
       right = laid _ _ .0 (c .0);
-      keys-room = ltb-false _ _ (d .0);
-      classes-room = ltb-false _ _ (d .1);
       m-is = cc;
       q-is = cc;
       keys-are = ap (λ (x : AfterRead). x .keys) (a .1);
@@ -135,7 +128,6 @@ read-accepted file keys classes {m} {q} {keys′} {classes′} e =
 
 pub record Given (m : ℕ) (keys classes out : List ℕ) (n : ℕ) (out′ : List ℕ) : Type 0 where
   pub size : Sized m (length keys) (length classes)
-  pub room : 20 + 5 * length keys ≤ length out
   pub n-is : 20 + 5 * length keys ≡ n
   pub out-is : overwrite (fileOf m keys classes) out ≡ out′
 
@@ -150,7 +142,6 @@ write-accepted m keys classes out {n} e =
     let done : writing.Written (20 + 5 * length keys) ≡ writing.Written n = ap (λ (x : AfterWrite). x .answer) (a .1) in
     record {
       size = sized .0 (b .0);
-      room = ltb-false _ _ (passed-row (ltb (length out) (20 + 5 * length keys)) 8 (20 + 5 * length keys) [] .0 (b .1) .0);
       n-is = cc;
       out-is = ap (λ (x : AfterWrite). x .out) (a .1);
     }

@@ -1,12 +1,13 @@
 // The house file: bytes to cells and back. It knows neither keys nor maps: what the cells hold is not looked at.
 use answers::Verdict;
 ghost use mathlib.Core.Path.{_≡_};
-ghost use Prim.Native.Nat.{_*_, _≤_};
-ghost use lib.ListN.{length};
+ghost use Prim.Native.Nat.{_+_, _*_, _≤_};
+ghost use lib.ListN.{length, take, drop};
 ghost use Rattle.answers.specs.Rows.{verdict};
+ghost use Rattle.answers.specs.Sizes.{Sized};
 ghost use Rattle.answers.specs.Cells.{overwrite};
 ghost use Rattle.house.specs.Numbers.{bytes, number, bytesOf, numbers};
-ghost use Rattle.house.specs.File.{layoutRows, afterRead, readOf, afterWrite, writeOf};
+ghost use Rattle.house.specs.File.{layoutRows, fileOf, afterRead, readOf, afterWrite, writeOf};
 
 // What reading a file answers: m and the number of records, or a refusal.
 pub enum Reading {
@@ -109,6 +110,17 @@ fn layout(length: usize, fields: [u32; 5]) -> Verdict
     Verdict::Passed
 }
 
+// Fills the first q cells of each slice, from a file of q records.
+fn get_parts(file: &[u8], q: usize, keys: &mut [u32], classes: &mut [u8])
+    requires { ⌜ (length (now file) ≡ 20 + 5 * q) × (q ≤ length (now keys)) × (q ≤ length (now classes)) ⌝ }
+    ensures { λ r. ⌜ now (keys .exit) ≡ overwrite (numbers q (drop 20 (now (file .entry)))) (now (keys .entry)) ⌝ }
+    ensures { λ r. ⌜ now (classes .exit) ≡ overwrite (take q (drop (20 + 4 * q) (now (file .entry)))) (now (classes .entry)) ⌝ }
+{
+    get_all(&file[20..], &mut keys[..q]);
+    let start = 20 + 4 * q;
+    copy(&file[start..], classes);
+}
+
 // Reads the layout only: a map is checked by the call that uses it.
 pub fn read(file: &[u8], keys: &mut [u32], classes: &mut [u8]) -> Reading
     ensures { λ r. ⌜ afterRead r (now (keys .exit)) (now (classes .exit)) ≡ readOf (now (file .entry)) (now (keys .entry)) (now (classes .entry)) ⌝ }
@@ -139,13 +151,25 @@ pub fn read(file: &[u8], keys: &mut [u32], classes: &mut [u8]) -> Reading
             place: count,
         };
     }
-    get_all(&file[20..], &mut keys[..q]);
-    let start = 20 + 4 * q;
-    copy(&file[start..], classes);
+    get_parts(file, q, keys, classes);
     Reading::Read {
         m: fields[1],
         count,
     }
+}
+
+// Fills the first bytes of a slice that has room for the file.
+fn put_parts(m: u32, keys: &[u32], classes: &[u8], out: &mut [u8])
+    requires { ⌜ Sized m (length (now keys)) (length (now classes)) × (20 + 5 * length (now keys) ≤ length (now out)) ⌝ }
+    ensures { λ r. ⌜ now (out .exit) ≡ overwrite (fileOf m (now (keys .entry)) (now (classes .entry))) (now (out .entry)) ⌝ }
+{
+    let q = keys.len();
+    let length = 20 + 5 * q;
+    let at = 20 + 4 * q;
+    let fields = [length as u32, m, q as u32, 20, at as u32];
+    put_all(&fields, out);
+    put_all(keys, &mut out[20..]);
+    copy(classes, &mut out[at..]);
 }
 
 pub fn write(m: u32, keys: &[u32], classes: &[u8], out: &mut [u8]) -> Writing
@@ -163,11 +187,7 @@ pub fn write(m: u32, keys: &[u32], classes: &[u8], out: &mut [u8]) -> Writing
             place: length as u32,
         };
     }
-    let at = 20 + 4 * q;
-    let fields = [length as u32, m, q as u32, 20, at as u32];
-    put_all(&fields, out);
-    put_all(keys, &mut out[20..]);
-    copy(classes, &mut out[at..]);
+    put_parts(m, keys, classes, out);
     Writing::Written {
         length: length as u32,
     }

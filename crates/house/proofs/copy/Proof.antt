@@ -36,7 +36,7 @@ same-length : tie.Need-same-length Inv-loop μ-loop
 same-length c = search needs
 
 returns : tie.Need-returns Inv-loop μ-loop
-returns c = copy-last (c .before .before .args .from .now) (c .before .loop .i) (c .before .loop .inv .1) (c .loop-test .left)
+returns c = copy-last (c .before .before .args .from .now) (c .before .loop .i) (c .before .loop .inv .1) (omega (arith, c .loop-test .left))
 
 pub copy-spec : {M : Type 1} → statement M
 copy-spec =

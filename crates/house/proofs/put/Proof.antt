@@ -30,10 +30,10 @@ cast-to-4 : tie.Need-cast-to-4
 cast-to-4 c = search needs
 
 slice-write-to-4 : tie.Need-slice-write-to-4
-slice-write-to-4 c = search needs
+slice-write-to-4 c = simp length-set (omega arith)
 
 same-length : tie.Need-same-length
-same-length c = search needs
+same-length c = simp length-set
 
 returns : tie.Need-returns
 unfolding bytes

@@ -53,7 +53,7 @@ same-length : tie.Need-same-length Inv-loop μ-loop
 same-length c = search needs
 
 returns : tie.Need-returns Inv-loop μ-loop
-returns c = put-last (c .before .before .before .before .args .cells .now) (c .before .loop .i) (c .before .loop .inv .1) (c .loop-test .left)
+returns c = put-last (c .before .before .before .before .args .cells .now) (c .before .loop .i) (c .before .loop .inv .1) (omega (arith, c .loop-test .left))
 
 pub put-all-spec : {M : Type 1} → statement M
 put-all-spec =

@@ -1,18 +1,16 @@
--- `house::read` meets its contract: each refusal rewrites with the tests that led there; the two slices are filled from the file's two parts.
+-- `house::read` meets its contract: each return rewrites with the tests that led there.
 -- Assumes nothing.
 use mathlib.Core.Path.{_≡_, sym, _∙_}
-use mathlib.Core.List.{List, _++_}
-use Prim.Native.Nat.{ℕ, _+_, _*_, _-_}
+use mathlib.Core.List.{List}
+use Prim.Native.Nat.{ℕ, _≤_}
 use native.Mathlib.Omega.{arith}
-use lib.ListN.{length, take, drop, getD, length-take, length-drop}
+use lib.ListN.{length, getD}
 use borrow.Author.Needs.{needs}
 use borrow.Author.Tests.{lt-ltb, le-ltb}
 use Rattle.answers.specs.Rows.{verdict}
-use Rattle.answers.specs.Cells.{overwrite}
 use Rattle.answers.specs.declared.Verdict.the-variants.{Passed}
 use Rattle.house.specs.Numbers.{numbers}
 use Rattle.house.specs.File.{layoutRows}
-use Rattle.house.proofs.Steps.{rest, filling-front}
 use Rattle.house.proofs.Tables.{Laid, laid, read-short, read-refused, read-laid}
 use Rattle.house.proofs.read.Statement.{statement}
 use Rattle.house.proofs.read.Tie as tie
@@ -29,7 +27,7 @@ module _ (c : tie.Start) where
   classes = c .args .classes .now
 
 returns : tie.Need-returns
-returns c = simp (read-short (file (c .before .before .before .before)) (keys (c .before .before .before .before)) (classes (c .before .before .before .before)) (c .if1 .taken))
+returns c = simp (read-short (file (c .before .before .before .before)) (keys (c .before .before .before .before)) (classes (c .before .before .before .before)) (omega (arith, c .if1 .taken)))
 
 slice-aggregate-get-all : tie.Need-slice-aggregate-get-all
 slice-aggregate-get-all c = search needs
@@ -40,6 +38,10 @@ get-all-requires c κs = search needs
 fields-are : (c : tie.After-get-all) → c .get-all .last .1 .0 ≡ numbers 5 (file (c .before .before .before .before .before .before))
 fields-are c = c .get-all .ensures
 
+-- a file that is not too short
+long : (c : tie.After-get-all) → 20 ≤ length (file (c .before .before .before .before .before .before))
+long c = omega (arith, c .before .before .if1 .left)
+
 layout-requires : tie.Need-layout-requires
 layout-requires c κs = search needs
 
@@ -47,7 +49,10 @@ enum-known-verdict : tie.Need-enum-known-verdict
 enum-known-verdict c = search needs
 
 returns-2 : tie.Need-returns-2
-returns-2 c = simp (read-refused (file (c .before .before .before .before .before .before .before .before .before .before .before)) (keys (c .before .before .before .before .before .before .before .before .before .before .before)) (classes (c .before .before .before .before .before .before .before .before .before .before .before)) (fields-are (c .before .before .before .before .before)) (c .before .before .before .before .before .before .before .if1 .left) (sym (c .before .before .before .layout .ensures) ∙ c .before .verdict .given .1))
+returns-2 c =
+    let start = c .before .before .before .before .before .before .before .before .before .before .before in
+    let header = c .before .before .before .before .before in
+    simp (read-refused (file start) (keys start) (classes start) (fields-are header) (long header) (sym (c .before .before .before .layout .ensures) ∙ c .before .verdict .given .1))
 
 enum-told : tie.Need-enum-told
 enum-told c = search needs
@@ -79,69 +84,22 @@ cast-q : tie.Need-cast-q
 cast-q c = omega (arith, right c .size .most)
 
 returns-3 : tie.Need-returns-3
-returns-3 c = simp (read-laid (file (entry (c .before))) (keys (entry (c .before))) (classes (entry (c .before))) (fields-are (header (c .before))) (header (c .before) .before .before .if1 .left) (passed (c .before)), lt-ltb _ _ (c .if2 .taken))
+returns-3 c =
+    let told = c .before in
+    let start = entry told in
+    simp (read-laid (file start) (keys start) (classes start) (fields-are (header told)) (long (header told)) (passed told), lt-ltb (length (keys start)) (q told) (omega (arith, c .if2 .taken)))
 
 returns-4 : tie.Need-returns-4
-returns-4 c = simp (read-laid (file (entry (c .before .before))) (keys (entry (c .before .before))) (classes (entry (c .before .before))) (fields-are (header (c .before .before))) (header (c .before .before) .before .before .if1 .left) (passed (c .before .before)), le-ltb _ _ (c .before .if2 .left), lt-ltb _ _ (c .if3 .taken))
+returns-4 c =
+    let told = c .before .before in
+    let start = entry told in
+    simp (read-laid (file start) (keys start) (classes start) (fields-are (header told)) (long (header told)) (passed told), le-ltb (length (keys start)) (q told) (omega (arith, c .before .if2 .left)), lt-ltb (length (classes start)) (q told) (omega (arith, c .before .if2 .left, c .if3 .taken, right told .size .some)))
 
-sub-get-all : tie.Need-sub-get-all
-sub-get-all c = search needs
+get-parts-requires : tie.Need-get-parts-requires
+get-parts-requires c κs = (right (c .before .before .before .before) .full, omega (arith, c .before .before .before .if2 .left), omega (arith, c .before .before .if3 .left))
 
-part-get-all-start : tie.Need-part-get-all-start
-part-get-all-start c = search needs
-
-part-get-all-end : tie.Need-part-get-all-end
-part-get-all-end c = search needs
-
-slice-relend-prefix-get-all : tie.Need-slice-relend-prefix-get-all
-slice-relend-prefix-get-all c = search needs
-
-slice-aggregate-get-all-2 : tie.Need-slice-aggregate-get-all-2
-slice-aggregate-get-all-2 c = simp length-take (omega arith)
-
-get-all-requires-2 : tie.Need-get-all-requires-2
-get-all-requires-2 c κs = simp (length-take, length-drop) (omega (arith, right (c .before .before .before .before) .full))
-
-module _ (c : tie.After-get-all2) where
-  abbrev before-keys : tie.After-enum-told
-  before-keys = c .before .before .before .before .before
-
-  keys-got : c .get-all2 .last .1 .0 ++ drop (q before-keys) (keys (entry before-keys)) ≡ overwrite (numbers (q before-keys) (drop 20 (file (entry before-keys)))) (keys (entry before-keys))
-  keys-got =
-      filling-front (drop 20 (file (entry before-keys))) (keys (entry before-keys)) (q before-keys) (c .get-all2 .ensures ∙ rw (rest 20 (file (entry before-keys)))) (c .before .before .before .before .if2 .left)
-
-mul-start : tie.Need-mul-start
-mul-start c = search needs
-
-add-start : tie.Need-add-start
-add-start c = search needs
-
-sub-copy : tie.Need-sub-copy
-sub-copy c = omega (arith, right (c .before .before .before .before .before .before .before) .full)
-
-part-copy-start : tie.Need-part-copy-start
-part-copy-start c = omega (arith, right (c .before .before .before .before .before .before .before) .full)
-
-part-copy-end : tie.Need-part-copy-end
-part-copy-end c = search needs
-
-copy-requires : tie.Need-copy-requires
-copy-requires c κs = simp (length-take, length-drop) (omega (arith, right (c .before .before .before .before .before .before .before .before .before) .full))
-
-module _ (c : tie.After-copy) where
-  abbrev before-classes : tie.After-enum-told
-  before-classes = before-keys (c .before .before .before .before .before)
-
-  abbrev at : ℕ
-  at = 20 + 4 * q before-classes
-
-  classes-got : c .copy .last .1 .0 ≡ overwrite (take (q before-classes) (drop at (file (entry before-classes)))) (classes (entry before-classes))
-  classes-got =
-      let n : length (file (entry before-classes)) - at ≡ q before-classes = omega (arith, right before-classes .full) in
-      c .copy .ensures ∙ rw n
-
-array-read-t19 : tie.Need-array-read-t19
-array-read-t19 c = search needs
+array-read-t18 : tie.Need-array-read-t18
+array-read-t18 c = search needs
 
 same-length : tie.Need-same-length
 same-length c = search needs
@@ -151,9 +109,9 @@ same-length-2 c = search needs
 
 returns-5 : tie.Need-returns-5
 returns-5 c =
-    let copied = c .before .before in
-    let told = before-classes copied in
-    simp (read-laid (file (entry (told))) (keys (entry (told))) (classes (entry (told))) (fields-are (header (told))) (header (told) .before .before .if1 .left) (passed (told)), le-ltb _ _ (c .before .before .before .before .before .before .before .before .before .before .before .if2 .left), le-ltb _ _ (c .before .before .before .before .before .before .before .before .before .before .if3 .left)) (cc (keys-got (c .before .before .before .before .before .before .before), classes-got copied))
+    let told = c .before .before .before .before .before .before .before .before .before in
+    let start = entry told in
+    simp (read-laid (file start) (keys start) (classes start) (fields-are (header told)) (long (header told)) (passed told), le-ltb (length (keys start)) (q told) (omega (arith, c .before .before .before .before .before .before .before .before .if2 .left)), le-ltb (length (classes start)) (q told) (omega (arith, c .before .before .before .before .before .before .before .if3 .left)), c .before .before .before .before .get-parts .ensures .0, c .before .before .before .before .get-parts .ensures .1)
 
 pub read-spec : {M : Type 1} → statement M
 read-spec =
@@ -170,19 +128,8 @@ read-spec =
     cast-q
     returns-3
     returns-4
-    sub-get-all
-    part-get-all-start
-    part-get-all-end
-    slice-relend-prefix-get-all
-    slice-aggregate-get-all-2
-    get-all-requires-2
-    mul-start
-    add-start
-    sub-copy
-    part-copy-start
-    part-copy-end
-    copy-requires
-    array-read-t19
+    get-parts-requires
+    array-read-t18
     same-length
     same-length-2
     returns-5)
