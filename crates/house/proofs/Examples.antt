@@ -9,7 +9,7 @@ use Rattle.answers.specs.Sizes.{wrongCount, sizeRows}
 use Rattle.answers.specs.Cells.{overwrite}
 use Rattle.house.specs.declared.Reading.the-variants as reading
 use Rattle.house.specs.declared.Writing.the-variants as writing
-use Rattle.house.specs.Numbers.{bytes, number, bytesOf, numbers}
+use Rattle.numbers.specs.Numbers.{bytes, number, bytesOf, numbers}
 use Rattle.house.specs.File.{header, fileOf, layoutRows, readRows, fileM, fileQ, fileKeys, fileClasses, afterRead, readOf, writeRows, afterWrite, writeOf}
 
 abbrev keys : List ℕ

@@ -3,21 +3,19 @@
 -- Assumes nothing.
 use mathlib.Core.Path.{_≡_, refl, sym, _∙_}
 use mathlib.Core.List.{List, [], _∷_, _++_, append-assoc}
-use Prim.Native.Nat.{ℕ, zero, suc, _+_, _*_, _/_, _%_, _^_, _≤_, _<_}
+use Prim.Native.Nat.{ℕ, zero, suc, _+_, _*_, _^_, _≤_, _<_}
 use native.Mathlib.Omega.{arith}
 use lib.ListN.{length, take, drop, getD, length-append, length-take, length-drop}
-use lib.Seq.{take-add, take-all, drop-at, drop-drop, getD-drop}
+use lib.Seq.{take-add, take-all, drop-at, drop-drop}
 use borrow.Author.Tests.{le-ltb}
 use Rattle.answers.specs.Sizes.{Sized}
 use Rattle.answers.specs.Cells.{overwrite}
 use Rattle.answers.proofs.Laws.{sized, take-overwrite}
-use Rattle.house.specs.declared.Reading.{Reading}
+use Rattle.numbers.specs.Numbers.{bytesOf, numbers, Below}
+use Rattle.numbers.proofs.Laws.{numbers-bytesOf, bytesOf-numbers, below-drop, length-bytesOf, length-numbers}
 use Rattle.house.specs.declared.Reading.the-variants as reading
-use Rattle.house.specs.declared.Writing.{Writing}
 use Rattle.house.specs.declared.Writing.the-variants as writing
-use Rattle.house.specs.Numbers.{bytes, number, bytesOf, numbers, Below}
 use Rattle.house.specs.File.{header, fileOf, fileM, fileQ, fileKeys, fileClasses, afterRead, readOf, afterWrite, writeOf}
-use Rattle.house.proofs.Steps.{length-bytes, length-bytesOf, length-numbers}
 use Rattle.house.proofs.Tables.{Laid, laid, read-laid, write-sized, read-accepted, write-accepted}
 
 -- ---- cells below a bound
@@ -31,43 +29,6 @@ below-more {n} {x} {xs} l h = record { at = at }
     at : (i : ℕ) → getD (x ∷ xs) i 0 < n
     at zero = l
     at (suc i) = h .at i
-
-below-rest : {n b : ℕ} {bs : List ℕ} → Below n (b ∷ bs) → Below n bs
-below-rest l = record { at = λ i. l .at (suc i) }
-
-below-drop : (k : ℕ) {n : ℕ} {bs : List ℕ} → Below n bs → Below n (drop k bs)
-below-drop k {n} {bs} l = record { at = λ i. rw getD-drop (l .at (k + i)) }
-
--- ---- little-endian numbers, at every width
-
-pub number-bytes : (n x : ℕ) (rest : List ℕ) → x < 256 ^ n → number n (bytes n x ++ rest) ≡ x
-unfolding number bytes
-number-bytes zero x rest l = omega arith
-number-bytes (suc n) x rest l =
-    let less : x / 256 < 256 ^ n = omega arith in
-    rw (number-bytes n (x / 256) rest less) (omega arith)
-
-pub bytes-number : (n : ℕ) (bs : List ℕ) → Below 256 bs → n ≤ length bs → bytes n (number n bs) ≡ take n bs
-unfolding number bytes
-bytes-number zero bs l m = refl
-bytes-number (suc n) [] l m = absurd (omega arith)
-bytes-number (suc n) (b ∷ bs) l m =
-    let low : (b + 256 * number n bs) % 256 ≡ b = omega (arith, l .at 0) in
-    let high : (b + 256 * number n bs) / 256 ≡ number n bs = omega (arith, l .at 0) in
-    rw (low, high, bytes-number n bs (below-rest l) (omega arith))
-
-pub numbers-bytesOf : (xs rest : List ℕ) → Below (2 ^ 32) xs → numbers (length xs) (bytesOf xs ++ rest) ≡ xs
-unfolding numbers bytesOf
-numbers-bytesOf [] rest l = refl
-numbers-bytesOf (x ∷ xs) rest l =
-    rw (append-assoc, number-bytes 4 x (bytesOf xs ++ rest) (l .at 0), drop-at (bytes 4 x) (bytesOf xs ++ rest) 4 (length-bytes 4 x), numbers-bytesOf xs rest (below-rest l))
-
-pub bytesOf-numbers : (n : ℕ) (bs : List ℕ) → Below 256 bs → 4 * n ≤ length bs → bytesOf (numbers n bs) ≡ take (4 * n) bs
-unfolding numbers bytesOf
-bytesOf-numbers zero bs l m = refl
-bytesOf-numbers (suc n) bs l m =
-    let e : 4 * suc n ≡ 4 + 4 * n = omega arith in
-    rw (bytes-number 4 bs l (omega arith), bytesOf-numbers n (drop 4 bs) (below-drop 4 l) (rw length-drop (omega arith)), e, take-add)
 
 -- ---- the parts of a file
 
@@ -133,10 +94,19 @@ written-read-lent m keys classes out {n} {out′} small e ks cs k l =
 
 -- ---- what was read is written
 
+five : (xs : List ℕ) → length xs ≡ 5 → xs ≡ getD xs 0 0 ∷ getD xs 1 0 ∷ getD xs 2 0 ∷ getD xs 3 0 ∷ getD xs 4 0 ∷ []
+five [] e = absurd (omega arith)
+five (a ∷ []) e = absurd (omega arith)
+five (a ∷ b ∷ []) e = absurd (omega arith)
+five (a ∷ b ∷ c ∷ []) e = absurd (omega arith)
+five (a ∷ b ∷ c ∷ d ∷ []) e = absurd (omega arith)
+five (a ∷ b ∷ c ∷ d ∷ f ∷ []) e = refl
+five (a ∷ b ∷ c ∷ d ∷ f ∷ g ∷ xs) e = absurd (omega arith)
+
 module _ (file : List ℕ) (right : Laid (length file) (numbers 5 file)) where
   header-again : header (fileM file) (fileQ file) ≡ numbers 5 file
-  unfolding header fileM fileQ numbers
-  header-again = cc
+  unfolding header fileM fileQ
+  header-again = sym (five (numbers 5 file) (length-numbers 5 file) ∙ cc)
 
   length-again : length file ≡ 20 + 5 * fileQ file
   unfolding fileQ
@@ -182,13 +152,3 @@ read-written file ks cs {m} {q} {ks′} {cs′} low e out l =
     let keys : take q ks′ ≡ fileKeys file = rw (← t .q-is, ← length-keys file (t .right), ← t .keys-are) (take-overwrite (fileKeys file) ks) in
     let classes : take q cs′ ≡ fileClasses file = rw (← t .q-is, ← length-classes file (t .right), ← t .classes-are) (take-overwrite (fileClasses file) cs) in
     rw (keys, classes, ← t .m-is) (write-again file (t .right) low out l)
-
--- ---- no second answer fits a contract
-
-pub read-one : (file keys classes : List ℕ) {r s : Reading} {ks ks′ cs cs′ : List ℕ} → afterRead r ks cs ≡ readOf file keys classes → afterRead s ks′ cs′ ≡ readOf file keys classes
-    → afterRead r ks cs ≡ afterRead s ks′ cs′
-read-one file keys classes a b = a ∙ sym b
-
-pub write-one : (m : ℕ) (keys classes out : List ℕ) {r s : Writing} {o o′ : List ℕ} → afterWrite r o ≡ writeOf m keys classes out → afterWrite s o′ ≡ writeOf m keys classes out
-    → afterWrite r o ≡ afterWrite s o′
-write-one m keys classes out a b = a ∙ sym b

@@ -1,4 +1,3 @@
-mod Steps
 mod Tables
 mod Examples
 pub mod Laws

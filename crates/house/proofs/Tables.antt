@@ -16,7 +16,7 @@ use Rattle.answers.specs.Cells.{overwrite}
 use Rattle.answers.proofs.Laws.{answer-none, answer-row, append-passed, append-refused, accepted, passed-row, passed-append, sized}
 use Rattle.house.specs.declared.Reading.the-variants as reading
 use Rattle.house.specs.declared.Writing.the-variants as writing
-use Rattle.house.specs.Numbers.{numbers}
+use Rattle.numbers.specs.Numbers.{numbers}
 use Rattle.house.specs.File.{layoutRows, readRows, writeRows, fileOf, fileM, fileQ, fileKeys, fileClasses, AfterRead, afterRead, readOf, AfterWrite, afterWrite, writeOf}
 
 -- ---- the layout

@@ -2,13 +2,16 @@
 -- Assumes nothing.
 use mathlib.Core.Path.{_≡_, _∙_}
 use mathlib.Core.List.{List, _++_}
-use Prim.Native.Nat.{ℕ, _+_, _*_, _-_}
+use Prim.Native.Nat.{ℕ, _+_, _*_, _-_, _≤_}
 use native.Mathlib.Omega.{arith}
 use lib.ListN.{length, take, drop, length-take, length-drop}
+use lib.Seq.{length-take-le}
 use borrow.Author.Needs.{needs}
 use Rattle.answers.specs.Cells.{overwrite}
-use Rattle.house.specs.Numbers.{numbers}
-use Rattle.house.proofs.Steps.{rest, filling-front}
+use Rattle.numbers.specs.Numbers.{numbers}
+use Rattle.answers.proofs.Laws.{overwrite-part}
+use Rattle.answers.proofs.Filling.{rest}
+use Rattle.numbers.proofs.Laws.{length-numbers}
 use Rattle.house.proofs.get_parts.Statement.{statement}
 use Rattle.house.proofs.get_parts.Tie as tie
 
@@ -47,6 +50,13 @@ part-copy-end c = search needs
 
 copy-requires : tie.Need-copy-requires
 copy-requires c κs = search needs
+
+-- the first q cells were lent
+filling-front : (from cells : List ℕ) (q : ℕ) {ys : List ℕ} → ys ≡ numbers (length (take q cells)) from → q ≤ length cells
+    → ys ++ drop q cells ≡ overwrite (numbers q from) cells
+filling-front from cells q {ys} e l =
+    let n : length (numbers q from) ≡ q = length-numbers q from in
+    rw (e, length-take-le q cells l, ← overwrite-part, n)
 
 -- the arguments
 module _ (c : tie.Start) where

@@ -8,9 +8,10 @@ use lib.ListN.{length, length-append}
 use borrow.Rule.Slice.PartMut.{putMid}
 use borrow.Author.Needs.{needs}
 use Rattle.answers.specs.Cells.{overwrite}
-use Rattle.house.specs.Numbers.{bytesOf}
+use Rattle.numbers.specs.Numbers.{bytesOf}
 use Rattle.house.specs.File.{header, fileOf}
-use Rattle.house.proofs.Steps.{Filling, filling, filling-part, length-bytesOf}
+use Rattle.answers.proofs.Filling.{Filling, filling, filling-part}
+use Rattle.numbers.proofs.Laws.{length-bytesOf}
 use Rattle.house.proofs.put_parts.Statement.{statement}
 use Rattle.house.proofs.put_parts.Tie as tie
 

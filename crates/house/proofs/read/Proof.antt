@@ -9,7 +9,7 @@ use borrow.Author.Needs.{needs}
 use borrow.Author.Tests.{lt-ltb, le-ltb}
 use Rattle.answers.specs.Rows.{verdict}
 use Rattle.answers.specs.declared.Verdict.the-variants.{Passed}
-use Rattle.house.specs.Numbers.{numbers}
+use Rattle.numbers.specs.Numbers.{numbers}
 use Rattle.house.specs.File.{layoutRows}
 use Rattle.house.proofs.Tables.{Laid, laid, read-short, read-refused, read-laid}
 use Rattle.house.proofs.read.Statement.{statement}

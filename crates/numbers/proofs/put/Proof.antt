@@ -1,12 +1,12 @@
--- `house::put` meets its contract: four stores, one after the other, are one over the first four cells.
+-- `numbers::put` meets its contract: four stores, one after the other, are one over the first four cells.
 -- Assumes nothing.
 use borrow.Author.Needs.{needs}
 use native.Mathlib.Omega.{arith}
 use lib.ListN.{length-set}
 use Rattle.answers.proofs.Laws.{overwrite-sets}
-use Rattle.house.specs.Numbers.{bytes}
-use Rattle.house.proofs.put.Statement.{statement}
-use Rattle.house.proofs.put.Tie as tie
+use Rattle.numbers.specs.Numbers.{bytes}
+use Rattle.numbers.proofs.put.Statement.{statement}
+use Rattle.numbers.proofs.put.Tie as tie
 
 cast-to : tie.Need-cast-to
 cast-to c = search needs

@@ -1,12 +1,13 @@
--- `house::copy` meets its contract. The invariant: the cells so far are overwritten by as many of `from`. The measure is how many are left.
+-- `numbers::copy` meets its contract. The invariant: the cells so far are overwritten by as many of `from`. The measure is how many are left.
 -- Assumes nothing.
 use Prim.Native.Nat.{_≤_, _-_}
 use native.Mathlib.Omega.{arith}
 use borrow.Author.Needs.{needs}
 use lib.ListN.{length, take}
-use Rattle.house.proofs.Steps.{Filling, filling-first, copy-next, copy-last}
-use Rattle.house.proofs.copy.Statement.{statement}
-use Rattle.house.proofs.copy.Tie as tie
+use Rattle.answers.proofs.Filling.{Filling, filling-first}
+use Rattle.numbers.proofs.Steps.{copy-next, copy-last}
+use Rattle.numbers.proofs.copy.Statement.{statement}
+use Rattle.numbers.proofs.copy.Tie as tie
 
 abbrev Inv-loop : tie.InvT-loop
 Inv-loop from to₀ i₀ to i = (i ≤ length from) × Filling (take i from) to₀ to

@@ -1,16 +1,17 @@
--- Lent cells that are filled, one cell or one part behind the other: what a turn of each loop does.
+-- Numbers one after the other: what the loops do in a turn.
 -- Assumes nothing.
 use mathlib.Core.Path.{_≡_, refl, sym, ap, subst, _∙_}
 use mathlib.Core.List.{List, [], _∷_, _++_, append-assoc, append-nil}
 use Prim.Native.Nat.{ℕ, zero, suc, _+_, _-_, _*_, _/_, _≤_, _<_}
 use native.Mathlib.Numerals.{add-one}
 use native.Mathlib.Omega.{arith}
-use lib.ListN.{length, take, drop, set, getD, length-append, length-drop, drop-of-length-le}
+use lib.ListN.{length, take, drop, set, getD, length-append}
 use lib.Seq.{drop-drop, take-all, take-suc, length-take-le}
 use borrow.Rule.Slice.PartMut.{putMid}
 use Rattle.answers.specs.Cells.{overwrite}
-use Rattle.answers.proofs.Laws.{overwrite-set, overwrite-append, overwrite-length, overwrite-part, overwrite-all}
-use Rattle.house.specs.Numbers.{bytes, number, bytesOf, numbers}
+use Rattle.answers.proofs.Laws.{overwrite-all}
+use Rattle.answers.proofs.Filling.{rest, Filling, filling-cell, filling-part}
+use Rattle.numbers.specs.Numbers.{bytes, number, bytesOf, numbers}
 
 -- ---- numbers of four bytes
 
@@ -48,51 +49,6 @@ numbers-next zero bs = refl
 numbers-next (suc n) bs =
     let e : 4 * suc n ≡ 4 + 4 * n = omega arith in
     rw (e, ← drop-drop (4 * n) 4 bs, ← numbers-next n (drop 4 bs))
-
--- ---- the part of a slice from a place to its end
-
-pub rest : (i : ℕ) (xs : List ℕ) → take (length xs - i) (drop i xs) ≡ drop i xs
-rest i xs = take-all (length xs - i) (drop i xs) (simp length-drop (omega arith))
-
--- lent, and come back as ys
-pub rest-back : (i : ℕ) (xs ys : List ℕ) → putMid i (length xs - i) xs ys ≡ take i xs ++ ys
-rest-back i xs ys =
-    let all : length (drop i xs) ≤ length xs - i = simp length-drop (omega arith) in
-    rw (drop-of-length-le (drop i xs) all, append-nil)
-
--- ---- cells that are filled from the first on
-
-pub record Filling (part cells₀ cells : List ℕ) : Type 0 where
-  pub is : cells ≡ overwrite part cells₀
-  pub room : length part ≤ length cells₀
-  pub same : length cells ≡ length cells₀
-
-pub filling : (part cells₀ cells : List ℕ) → length part ≤ length cells₀ → cells ≡ overwrite part cells₀ → Filling part cells₀ cells
-filling part cells₀ cells l e = record { is = e; room = l; same = ap length e ∙ overwrite-length part cells₀ l }
-
-pub filling-first : (cells : List ℕ) → Filling [] cells cells
-filling-first cells = record { is = overwrite-part [] cells; room = omega arith; same = refl }
-
-module _ {part cells₀ cells : List ℕ} (f : Filling part cells₀ cells) (i : ℕ) (e : length part ≡ i) where
-  pub filling-cell : (y : ℕ) → i < length cells₀ → Filling (part ++ (y ∷ [])) cells₀ (set cells i y)
-  filling-cell y l =
-      filling _ cells₀ _ (simp length-append (omega arith))
-      (ap (λ (t : List ℕ). set t i y) (f .is) ∙ rw (← e) (overwrite-set part cells₀ y (rw e l)))
-
-  -- a part from i on was lent, and zs was written from its first cell on
-  pub filling-part : {ys : List ℕ} (zs : List ℕ) → ys ≡ overwrite zs (take (length cells - i) (drop i cells)) → i + length zs ≤ length cells₀
-      → Filling (part ++ zs) cells₀ (putMid i (length cells - i) cells ys)
-  filling-part {ys} zs w l =
-      filling _ cells₀ _ (simp length-append (omega arith))
-      (rest-back i cells ys
-      ∙ rw (w, rest i cells) (ap (λ (t : List ℕ). take i t ++ overwrite zs (drop i t)) (f .is) ∙ rw (← e) (overwrite-append part cells₀ zs)))
-
--- the first q cells were lent
-pub filling-front : (from cells : List ℕ) (q : ℕ) {ys : List ℕ} → ys ≡ numbers (length (take q cells)) from → q ≤ length cells
-    → ys ++ drop q cells ≡ overwrite (numbers q from) cells
-filling-front from cells q {ys} e l =
-    let n : length (numbers q from) ≡ q = length-numbers q from in
-    rw (e, length-take-le q cells l, ← overwrite-part, n)
 
 -- ---- a turn of each loop, and its end
 

@@ -1,19 +1,20 @@
--- `house::put_all` meets its contract. The invariant: the bytes so far are overwritten by those of as many cells. The measure is how many cells are left.
+-- `numbers::put_all` meets its contract. The invariant: the bytes so far are overwritten by those of as many numbers. The measure is how many are left.
 -- Assumes nothing.
 use Prim.Native.Nat.{_≤_, _-_}
 use native.Mathlib.Omega.{arith}
 use borrow.Author.Needs.{needs}
 use lib.ListN.{length, take, length-take, length-drop}
-use Rattle.house.specs.Numbers.{bytesOf}
-use Rattle.house.proofs.Steps.{Filling, filling-first, put-next, put-last}
-use Rattle.house.proofs.put_all.Statement.{statement}
-use Rattle.house.proofs.put_all.Tie as tie
+use Rattle.numbers.specs.Numbers.{bytesOf}
+use Rattle.answers.proofs.Filling.{Filling, filling-first}
+use Rattle.numbers.proofs.Steps.{put-next, put-last}
+use Rattle.numbers.proofs.put_all.Statement.{statement}
+use Rattle.numbers.proofs.put_all.Tie as tie
 
 abbrev Inv-loop : tie.InvT-loop
-Inv-loop cells to₀ i₀ to i = (i ≤ length cells) × Filling (bytesOf (take i cells)) to₀ to
+Inv-loop list to₀ i₀ to i = (i ≤ length list) × Filling (bytesOf (take i list)) to₀ to
 
 abbrev μ-loop : tie.MeasureT-loop
-μ-loop cells to₀ i₀ to i = length cells - i
+μ-loop list to₀ i₀ to i = length list - i
 
 loop-holds : tie.Need-loop-holds Inv-loop μ-loop
 unfolding bytesOf
@@ -47,13 +48,13 @@ loop-less : tie.Need-loop-less Inv-loop μ-loop
 loop-less c = search needs
 
 loop-again : tie.Need-loop-again Inv-loop μ-loop
-loop-again c = (search needs, put-next (c .before .before .before .before .before .before .before .before .before .args .cells .now) (c .before .before .before .before .before .before .loop .i) (c .before .before .before .before .before .before .loop .inv .1) (c .before .before .put .ensures) (search needs) (search needs))
+loop-again c = (search needs, put-next (c .before .before .before .before .before .before .before .before .before .args .list .now) (c .before .before .before .before .before .before .loop .i) (c .before .before .before .before .before .before .loop .inv .1) (c .before .before .put .ensures) (search needs) (search needs))
 
 same-length : tie.Need-same-length Inv-loop μ-loop
 same-length c = search needs
 
 returns : tie.Need-returns Inv-loop μ-loop
-returns c = put-last (c .before .before .before .before .args .cells .now) (c .before .loop .i) (c .before .loop .inv .1) (omega (arith, c .loop-test .left))
+returns c = put-last (c .before .before .before .before .args .list .now) (c .before .loop .i) (c .before .loop .inv .1) (omega (arith, c .loop-test .left))
 
 pub put-all-spec : {M : Type 1} → statement M
 put-all-spec =

@@ -1,13 +1,14 @@
--- `house::get_all` meets its contract. The invariant: the cells so far are overwritten by as many numbers. The measure is how many are left.
+-- `numbers::get_all` meets its contract. The invariant: the cells so far are overwritten by as many numbers. The measure is how many are left.
 -- Assumes nothing.
 use Prim.Native.Nat.{_≤_, _-_}
 use native.Mathlib.Omega.{arith}
 use borrow.Author.Needs.{needs}
 use lib.ListN.{length, length-take, length-drop}
-use Rattle.house.specs.Numbers.{numbers}
-use Rattle.house.proofs.Steps.{Filling, filling-first, get-next, get-last}
-use Rattle.house.proofs.get_all.Statement.{statement}
-use Rattle.house.proofs.get_all.Tie as tie
+use Rattle.numbers.specs.Numbers.{numbers}
+use Rattle.answers.proofs.Filling.{Filling, filling-first}
+use Rattle.numbers.proofs.Steps.{get-next, get-last}
+use Rattle.numbers.proofs.get_all.Statement.{statement}
+use Rattle.numbers.proofs.get_all.Tie as tie
 
 abbrev Inv-loop : tie.InvT-loop
 Inv-loop from cells₀ i₀ cells i = (i ≤ length cells₀) × Filling (numbers i from) cells₀ cells
