@@ -13,7 +13,7 @@ use Rattle.key.specs.Blocks.{Names, Among}
 use Rattle.key.proofs.Laws.{one-block, block-lies, holds-same, place-lt}
 use Rattle.map.specs.Spans.{holds}
 use Rattle.map.specs.Sound.{Follow}
-use Rattle.map.specs.Records.{SomeRecord, Holder, recordOf, exponentOf, Tiling}
+use Rattle.map.specs.Records.{SomeRecord, Holder, recordOf, exponentOf, Tiling, pixelRecord, pixelExponent}
 use Rattle.map.proofs.Order.{record-at, holder, one-holder}
 use Rattle.map.proofs.Stretches.{stretch-of, stretch-begins}
 use Rattle.map.proofs.Tests.{exponent-is, holds-is}
@@ -62,17 +62,15 @@ module _ {m : ℕ} {keys : List ℕ} (F : Follow m 0 keys) where
           rw (o .0, o .1) (K .has)
 
   -- a map is a tiling
-  pub tiling : Tiling m
+  pub tiling : Tiling m (pixelRecord m keys) (pixelExponent m keys)
   tiling = record {
-    rec = λ r c. recordOf m keys (place r c);
-    exponent = λ r c. exponentOf m keys (place r c);
     small = λ p. let H = pixel-holder p in rw (exponent-of H) (block-lies (H .is .names) .small);
     law = λ p q. law p q (pixel-holder p) (pixel-holder q);
   }
     where
       law : {r c y x : ℕ} → Pixel m r c → Pixel m y x → Holder m keys (place r c) → Holder m keys (place y x)
-          → (recordOf m keys (place r c) ≡ recordOf m keys (place y x))
-          ↔ ((r / 2 ^ exponentOf m keys (place r c) ≡ y / 2 ^ exponentOf m keys (place r c)) × (c / 2 ^ exponentOf m keys (place r c) ≡ x / 2 ^ exponentOf m keys (place r c)))
+          → (pixelRecord m keys r c ≡ pixelRecord m keys y x)
+          ↔ ((r / 2 ^ pixelExponent m keys r c ≡ y / 2 ^ pixelExponent m keys r c) × (c / 2 ^ pixelExponent m keys r c ≡ x / 2 ^ pixelExponent m keys r c))
       law p q H K =
           let one = share H K in
           let agree = holds-same (H .is .names) p q (H .has) in

@@ -5,7 +5,7 @@ use mathlib.Core.Logic.{_↔_}
 use Prim.Native.Nat.{ℕ, _/_, _^_, _≤_, _<_}
 use mathlib.Core.List.{List}
 use lib.ListN.{length, getD}
-use Rattle.key.specs.Picture.{Pixel}
+use Rattle.key.specs.Picture.{Pixel, place}
 use Rattle.key.specs.Form.{formOf}
 use Rattle.key.specs.Blocks.{Names, Among}
 use Rattle.map.specs.Lists.{before}
@@ -39,9 +39,13 @@ exponentOf m keys q = exponent (formOf m (getD keys (recordOf m keys q) 0))
 
 -- a map as a window sees it: each pixel's record by its number, and the exponent of that record's side. Two pixels have one record exactly when they
 -- agree after division by its side
-pub record Tiling (m : ℕ) : Type 0 where
-  pub rec : ℕ → ℕ → ℕ
-  pub exponent : ℕ → ℕ → ℕ
-  pub small : {r c : ℕ} → Pixel m r c → exponent r c ≤ m
-  pub law : {r c y x : ℕ} → Pixel m r c → Pixel m y x
-      → (rec r c ≡ rec y x) ↔ ((r / 2 ^ exponent r c ≡ y / 2 ^ exponent r c) × (c / 2 ^ exponent r c ≡ x / 2 ^ exponent r c))
+pub record Tiling (m : ℕ) (rec exp : ℕ → ℕ → ℕ) : Type 0 where
+  pub small : {r c : ℕ} → Pixel m r c → exp r c ≤ m
+  pub law : {r c y x : ℕ} → Pixel m r c → Pixel m y x → (rec r c ≡ rec y x) ↔ ((r / 2 ^ exp r c ≡ y / 2 ^ exp r c) × (c / 2 ^ exp r c ≡ x / 2 ^ exp r c))
+
+-- the record of the pixel in row r, column c, and its exponent
+abbrev pub pixelRecord : ℕ → List ℕ → ℕ → ℕ → ℕ
+pixelRecord m keys r c = recordOf m keys (place r c)
+
+abbrev pub pixelExponent : ℕ → List ℕ → ℕ → ℕ → ℕ
+pixelExponent m keys r c = exponentOf m keys (place r c)
