@@ -3,17 +3,17 @@
 use mathlib.Core.Path.{_≡_, ap, _∙_}
 use mathlib.Core.Logic.{_↔_}
 use mathlib.Core.Bool.{not, cond, _||_}
-use mathlib.Core.List.{List}
+use mathlib.Core.List.{List, [], _∷_, _++_}
 use Prim.Native.Nat.{ℕ, _+_, _*_, _≤_, _<_}
 use native.Mathlib.Omega.{arith}
 use lib.Dec.{eqb, ltb}
 use lib.ListN.{length, take, drop, getD}
-use borrow.Author.Tests.{lt-ltb, le-ltb, eq-eqb, eqb-true, not-false}
+use borrow.Author.Tests.{lt-ltb, le-ltb, eq-eqb, ne-eqb, eqb-true, not-false}
 use Rattle.answers.specs.declared.Verdict.the-variants as verdict-of
-use Rattle.answers.specs.Rows.{answer, verdict}
+use Rattle.answers.specs.Rows.{Row, row, answer, verdict}
 use Rattle.answers.specs.Sizes.{sizeRows, Sized}
 use Rattle.answers.specs.Cells.{overwrite}
-use Rattle.answers.proofs.Laws.{answer-none, answer-row, append-passed, append-refused, accepted, passed-row, passed-append, sized}
+use Rattle.answers.proofs.Laws.{answer-none, answer-row, row-held, row-clear, append-passed, append-refused, accepted, passed-row, passed-append, sized}
 use Rattle.house.specs.declared.Reading.the-variants as reading
 use Rattle.house.specs.declared.Writing.the-variants as writing
 use Rattle.numbers.specs.Numbers.{numbers}
@@ -29,32 +29,74 @@ pub record Laid (n : ℕ) (fields : List ℕ) : Type 0 where
   pub keys : getD fields 3 0 ≡ 20
   pub classes : getD fields 4 0 ≡ 20 + 4 * getD fields 2 0
 
+-- what each test of a header decides, one behind the other
 module _ (n : ℕ) (fields : List ℕ) where
-  pub layout-refused : {k p : ℕ} → verdict (sizeRows (getD fields 1 0) (getD fields 2 0) (getD fields 2 0)) ≡ verdict-of.Refused k p
-      → verdict (layoutRows n fields) ≡ cond (not (eqb (getD fields 0 0) n)) (verdict-of.Refused 9 0) (verdict-of.Refused k p)
-  unfolding layoutRows
-  layout-refused h = rw (answer-row, append-refused verdict-of.Refused _ _ _ h)
+  abbrev q : ℕ
+  q = getD fields 2 0
 
-  pub layout-sized : verdict (sizeRows (getD fields 1 0) (getD fields 2 0) (getD fields 2 0)) ≡ verdict-of.Passed
-      → verdict (layoutRows n fields)
-      ≡ cond (not (eqb (getD fields 0 0) n)) (verdict-of.Refused 9 0)
-      (cond (not (eqb n (20 + 5 * getD fields 2 0))) (verdict-of.Refused 9 8)
-      (cond (not (eqb (getD fields 3 0) 20)) (verdict-of.Refused 9 12)
-      (cond (not (eqb (getD fields 4 0) (20 + 4 * getD fields 2 0))) (verdict-of.Refused 9 16) verdict-of.Passed)))
+  -- the rows from one field on
+  from-classes : List Row
+  from-classes = row (not (eqb (getD fields 4 0) (20 + 4 * q))) 9 16 ∷ []
+
+  from-keys : List Row
+  from-keys = row (not (eqb (getD fields 3 0) 20)) 9 12 ∷ from-classes
+
+  from-count : List Row
+  from-count = row (not (eqb n (20 + 5 * q))) 9 8 ∷ from-keys
+
+  pub layout-total : (getD fields 0 0 ≡ n → ⊥) → verdict (layoutRows n fields) ≡ verdict-of.Refused 9 0
   unfolding layoutRows
-  layout-sized h = rw (answer-row, append-passed verdict-of.Refused _ _ _ h) (simp (answer-row, answer-none))
+  layout-total d = row-held _ 9 0 _ _ (ap not (ne-eqb (getD fields 0 0) n d))
+
+  module _ (total : getD fields 0 0 ≡ n) where
+    behind-total : verdict (layoutRows n fields) ≡ verdict (sizeRows (getD fields 1 0) q q ++ from-count)
+    unfolding layoutRows from-classes from-keys from-count
+    behind-total = row-clear _ 9 0 _ _ (ap not (eq-eqb (getD fields 0 0) n total))
+
+    pub layout-refused : {k p : ℕ} → verdict (sizeRows (getD fields 1 0) q q) ≡ verdict-of.Refused k p → verdict (layoutRows n fields) ≡ verdict-of.Refused k p
+    layout-refused h = behind-total ∙ append-refused _ _ _ _ h
+
+    module _ (size : verdict (sizeRows (getD fields 1 0) q q) ≡ verdict-of.Passed) where
+      behind-size : verdict (layoutRows n fields) ≡ verdict from-count
+      behind-size = behind-total ∙ append-passed _ _ _ _ size
+
+      pub layout-length : (n ≡ 20 + 5 * q → ⊥) → verdict (layoutRows n fields) ≡ verdict-of.Refused 9 8
+      unfolding from-count
+      layout-length d = behind-size ∙ row-held _ 9 8 _ _ (ap not (ne-eqb n (20 + 5 * q) d))
+
+      module _ (full : n ≡ 20 + 5 * q) where
+        behind-count : verdict (layoutRows n fields) ≡ verdict from-keys
+        unfolding from-count
+        behind-count = behind-size ∙ row-clear _ 9 8 _ _ (ap not (eq-eqb n (20 + 5 * q) full))
+
+        pub layout-keys : (getD fields 3 0 ≡ 20 → ⊥) → verdict (layoutRows n fields) ≡ verdict-of.Refused 9 12
+        unfolding from-keys
+        layout-keys d = behind-count ∙ row-held _ 9 12 _ _ (ap not (ne-eqb (getD fields 3 0) 20 d))
+
+        module _ (keys : getD fields 3 0 ≡ 20) where
+          behind-keys : verdict (layoutRows n fields) ≡ verdict from-classes
+          unfolding from-keys
+          behind-keys = behind-count ∙ row-clear _ 9 12 _ _ (ap not (eq-eqb (getD fields 3 0) 20 keys))
+
+          pub layout-classes : (getD fields 4 0 ≡ 20 + 4 * q → ⊥) → verdict (layoutRows n fields) ≡ verdict-of.Refused 9 16
+          unfolding from-classes
+          layout-classes d = behind-keys ∙ row-held _ 9 16 _ _ (ap not (ne-eqb (getD fields 4 0) (20 + 4 * q) d))
+
+          layout-right : getD fields 4 0 ≡ 20 + 4 * q → verdict (layoutRows n fields) ≡ verdict-of.Passed
+          unfolding from-classes
+          layout-right e = behind-keys ∙ row-clear _ 9 16 _ _ (ap not (eq-eqb (getD fields 4 0) (20 + 4 * q) e)) ∙ answer-none _ _
 
   pub laid : (verdict (layoutRows n fields) ≡ verdict-of.Passed) ↔ Laid n fields
   unfolding layoutRows
-  laid = (to, λ l. layout-sized (sized .1 (l .size)) ∙ simp (eq-eqb _ _ (l .total), eq-eqb _ _ (l .full), eq-eqb _ _ (l .keys), eq-eqb _ _ (l .classes)))
+  laid = (to, λ l. layout-right (l .total) (sized .1 (l .size)) (l .full) (l .keys) (l .classes))
     where
       to : verdict (layoutRows n fields) ≡ verdict-of.Passed → Laid n fields
       to e =
           let a = passed-row (not (eqb (getD fields 0 0) n)) 9 0 _ .0 e in
-          let b = passed-append (sizeRows (getD fields 1 0) (getD fields 2 0) (getD fields 2 0)) _ .0 (a .1) in
-          let c = passed-row (not (eqb n (20 + 5 * getD fields 2 0))) 9 8 _ .0 (b .1) in
+          let b = passed-append (sizeRows (getD fields 1 0) q q) _ .0 (a .1) in
+          let c = passed-row (not (eqb n (20 + 5 * q))) 9 8 _ .0 (b .1) in
           let d = passed-row (not (eqb (getD fields 3 0) 20)) 9 12 _ .0 (c .1) in
-          let f = passed-row (not (eqb (getD fields 4 0) (20 + 4 * getD fields 2 0))) 9 16 _ .0 (d .1) in
+          let f = passed-row (not (eqb (getD fields 4 0) (20 + 4 * q))) 9 16 _ .0 (d .1) in
           record {
             total = eqb-true _ _ (not-false _ (a .0));
             size = sized .0 (b .0);
