@@ -10,6 +10,7 @@
  */
 #include "harness.h"
 #include "maps.h"
+#include "reference.h"
 
 #include <string.h>
 
@@ -19,10 +20,22 @@
 static map sound, damaged, read_map;
 static uint8_t file[ROOM_FOR_FILE];
 
+/* A map that is taken for sound has each pixel in just one block. Larger pictures would take too long to paint. */
+static void require_painted(const map *a, size_t q)
+{
+    enum { MOST_PAINTED = 6 };
+    static uint32_t raster[1 << 2 * MOST_PAINTED];
+    if (a->m <= MOST_PAINTED)
+        require(reference_raster(a->m, a->keys, q, raster), "a sound map does not paint every pixel once");
+}
+
 static lutniorad_answer compare_check(const map *a, size_t n_keys, size_t n_classes)
 {
     call c = {&CHECK, a->m, {{a->keys, n_keys}, {a->classes, n_classes}}};
-    return compare(c);
+    lutniorad_answer answer = compare(c);
+    if (answer.refusal == 0)
+        require_painted(a, n_keys);
+    return answer;
 }
 
 static lutniorad_answer compare_read(size_t n, size_t n_keys, size_t n_classes)

@@ -1,8 +1,6 @@
 /* All numbers are 64 bits wide, and none here comes near 2^64: nothing wraps. */
 #include "reference.h"
 
-#include <stdbool.h>
-
 enum { MOST_DIGITS = 12, MOST_RECORDS = 65536, HEADER = 20 };
 
 static lutniorad_answer answered(uint64_t first, uint64_t second)
@@ -54,12 +52,30 @@ static uint64_t pixel_in_block(const uint64_t digits[MOST_DIGITS], uint64_t m, u
 }
 
 /* The picture has T rows and T columns, T = 2^m. */
-static uint64_t pixels_of_picture(uint64_t m)
+static uint64_t side_of_picture(uint64_t m)
 {
     uint64_t side = 1;
     for (uint64_t i = 0; i < m; i++)
         side = 2 * side;
-    return side * side;
+    return side;
+}
+
+typedef struct {
+    uint64_t row, col, side;
+} square;
+
+/* Each digit chooses a quadrant of the square so far: 1 NW, 2 NE, 3 SW, 4 SE. A zero leaves it whole. */
+static square block_of(const uint64_t digits[MOST_DIGITS], uint64_t m)
+{
+    square block = {0, 0, side_of_picture(m)};
+    for (uint64_t i = 0; i < m && digits[i] != 0; i++) {
+        block.side = block.side / 2;
+        if (digits[i] == 3 || digits[i] == 4)
+            block.row += block.side;
+        if (digits[i] == 2 || digits[i] == 4)
+            block.col += block.side;
+    }
+    return block;
 }
 
 /* ---- Maps ---- */
@@ -95,9 +111,41 @@ lutniorad_answer reference_check(uint32_t m,
             return refused(5, i);
         ended = pixel_in_block(digits, m, 4) + 1;
     }
-    if (ended != pixels_of_picture(m)) /* the last must end with the picture */
+    if (ended != side_of_picture(m) * side_of_picture(m)) /* the last must end with the picture */
         return refused(5, n_keys);
     return answered(n_keys, 0);
+}
+
+enum { NO_RECORD = MOST_RECORDS };
+
+/* False where a pixel of the block lies in a record already. */
+static bool paint_block(square block, uint64_t side, uint32_t record, uint32_t *raster)
+{
+    for (uint64_t row = block.row; row < block.row + block.side; row++)
+        for (uint64_t col = block.col; col < block.col + block.side; col++) {
+            if (raster[row * side + col] != NO_RECORD)
+                return false;
+            raster[row * side + col] = record;
+        }
+    return true;
+}
+
+bool reference_raster(uint32_t m, const uint32_t *keys, size_t q, uint32_t *raster)
+{
+    uint64_t side = side_of_picture(m);
+    for (uint64_t i = 0; i < side * side; i++)
+        raster[i] = NO_RECORD;
+    for (uint64_t i = 0; i < q; i++) {
+        uint64_t digits[MOST_DIGITS];
+        if (!digits_of(keys[i], m, digits) || !has_the_form(digits, m))
+            return false;
+        if (!paint_block(block_of(digits, m), side, (uint32_t)i, raster))
+            return false;
+    }
+    for (uint64_t i = 0; i < side * side; i++)
+        if (raster[i] == NO_RECORD)
+            return false;
+    return true;
 }
 
 /* ---- The house file ---- */

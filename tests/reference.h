@@ -10,6 +10,8 @@
 
 #include "lutniorad.h"
 
+#include <stdbool.h>
+
 lutniorad_answer reference_check(uint32_t m,
                                  const uint32_t *keys, size_t n_keys,
                                  const uint8_t *classes, size_t n_classes);
@@ -22,5 +24,11 @@ lutniorad_answer reference_write(uint32_t m,
                                  const uint32_t *keys, size_t n_keys,
                                  const uint8_t *classes, size_t n_classes,
                                  uint8_t *out, size_t n_out);
+
+/*
+ * The raster of a map: for each pixel, row by row from the north-west on, the index of the record that it lies in. Every
+ * block is painted pixel by pixel. True where all keys are of the form and every pixel was painted just once.
+ */
+bool reference_raster(uint32_t m, const uint32_t *keys, size_t q, uint32_t *raster);
 
 #endif
