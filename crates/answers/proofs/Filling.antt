@@ -12,12 +12,19 @@ use Rattle.answers.proofs.Laws.{overwrite-set, overwrite-append, overwr
 
 -- ---- the part of a slice from a place to its end
 
-pub rest : (i : ℕ) (xs : List ℕ) → take (length xs - i) (drop i xs) ≡ drop i xs
-rest i xs = take-all (length xs - i) (drop i xs) (simp length-drop (omega arith))
+-- as it is lent
+abbrev pub lent : ℕ → List ℕ → List ℕ
+lent i xs = take (length xs - i) (drop i xs)
 
--- lent, and come back as ys
-pub rest-back : (i : ℕ) (xs ys : List ℕ) → putMid i (length xs - i) xs ys ≡ take i xs ++ ys
-rest-back i xs ys =
+-- the slice, when the part has come back as ys
+abbrev pub back : ℕ → List ℕ → List ℕ → List ℕ
+back i xs ys = putMid i (length xs - i) xs ys
+
+pub lent-is : (i : ℕ) (xs : List ℕ) → lent i xs ≡ drop i xs
+lent-is i xs = take-all (length xs - i) (drop i xs) (simp length-drop (omega arith))
+
+back-is : (i : ℕ) (xs ys : List ℕ) → back i xs ys ≡ take i xs ++ ys
+back-is i xs ys =
     let all : length (drop i xs) ≤ length xs - i = simp length-drop (omega arith) in
     rw (drop-of-length-le (drop i xs) all, append-nil)
 
@@ -40,10 +47,9 @@ module _ {part cells₀ cells : List ℕ} (f : Filling part cells₀ cells) (i :
       filling _ cells₀ _ (simp length-append (omega arith))
       (ap (λ (t : List ℕ). set t i y) (f .is) ∙ rw (← e) (overwrite-set part cells₀ y (rw e l)))
 
-  -- a part from i on was lent, and zs was written from its first cell on
-  pub filling-part : {ys : List ℕ} (zs : List ℕ) → ys ≡ overwrite zs (take (length cells - i) (drop i cells)) → i + length zs ≤ length cells₀
-      → Filling (part ++ zs) cells₀ (putMid i (length cells - i) cells ys)
+  -- the part from i on was lent, and zs was written from its first cell on
+  pub filling-part : {ys : List ℕ} (zs : List ℕ) → ys ≡ overwrite zs (lent i cells) → i + length zs ≤ length cells₀ → Filling (part ++ zs) cells₀ (back i cells ys)
   filling-part {ys} zs w l =
       filling _ cells₀ _ (simp length-append (omega arith))
-      (rest-back i cells ys
-      ∙ rw (w, rest i cells) (ap (λ (t : List ℕ). take i t ++ overwrite zs (drop i t)) (f .is) ∙ rw (← e) (overwrite-append part cells₀ zs)))
+      (back-is i cells ys
+      ∙ rw (w, lent-is i cells) (ap (λ (t : List ℕ). take i t ++ overwrite zs (drop i t)) (f .is) ∙ rw (← e) (overwrite-append part cells₀ zs)))

@@ -94,7 +94,7 @@ passed-append rs ss = (
   λ e. append-passed Refused rs ss Passed (e .0) ∙ e .1,
 )
 
-pub neither : (a b : Bool) → a || b ≡ false → (a ≡ false) × (b ≡ false)
+neither : (a b : Bool) → a || b ≡ false → (a ≡ false) × (b ≡ false)
 neither true b e = absurd (let z : _≡_ {A = ℕ} 0 1 = cc in omega arith)
 neither false b e = (refl, e)
 
@@ -148,7 +148,7 @@ module _ (xs zs : List ℕ) where
   unfolding overwrite
   take-overwrite = take-at xs _ _ refl
 
-  pub drop-overwrite : drop (length xs) (overwrite xs zs) ≡ drop (length xs) zs
+  drop-overwrite : drop (length xs) (overwrite xs zs) ≡ drop (length xs) zs
   unfolding overwrite
   drop-overwrite = drop-at xs _ _ refl
 

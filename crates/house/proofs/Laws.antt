@@ -1,5 +1,4 @@
--- The laws of the house file, over the definitions that the contracts cite: little-endian numbers both ways, the two round trips,
--- and that no second answer fits.
+-- The laws of the house file: its length, and the two round trips, over the definitions that the contracts cite.
 -- Assumes nothing.
 use mathlib.Core.Path.{_≡_, refl, sym, _∙_}
 use mathlib.Core.List.{List, [], _∷_, _++_, append-assoc}
@@ -7,7 +6,6 @@ use Prim.Native.Nat.{ℕ, zero, suc, _+_, _*_, _^_, _≤_, _<_}
 use native.Mathlib.Omega.{arith}
 use lib.ListN.{length, take, drop, getD, length-append, length-take, length-drop}
 use lib.Seq.{take-add, take-all, drop-at, drop-drop}
-use borrow.Author.Tests.{le-ltb}
 use Rattle.answers.specs.Sizes.{Sized}
 use Rattle.answers.specs.Cells.{overwrite}
 use Rattle.answers.proofs.Laws.{sized, take-overwrite}
@@ -16,7 +14,7 @@ use Rattle.numbers.proofs.Laws.{numbers-bytesOf, bytesOf-numbers, below-drop, l
 use Rattle.house.specs.declared.Reading.the-variants as reading
 use Rattle.house.specs.declared.Writing.the-variants as writing
 use Rattle.house.specs.File.{header, fileOf, fileM, fileQ, fileKeys, fileClasses, afterRead, readOf, afterWrite, writeOf}
-use Rattle.house.proofs.Tables.{Laid, laid, read-laid, write-sized, read-accepted, write-accepted}
+use Rattle.house.proofs.Tables.{Laid, laid, read-done, write-done, read-accepted, write-accepted}
 
 -- ---- cells below a bound
 
@@ -72,10 +70,8 @@ module _ (m : ℕ) (keys classes : List ℕ) (size : Sized m (length keys) (leng
       → readOf (fileOf m keys classes) ks cs ≡ afterRead (reading.Read m (length keys)) (overwrite keys ks) (overwrite classes cs)
   unfolding header
   written-read ks cs k l =
-      read-laid (fileOf m keys classes) ks cs header-read (omega (arith, length-file m keys classes (sym (size .same)))) (laid _ _ .1 header-laid)
+      read-done (fileOf m keys classes) ks cs header-read (omega (arith, length-file m keys classes (sym (size .same)))) (laid _ _ .1 header-laid) k l
       ∙ rw (
-        le-ltb (length ks) (length keys) k,
-        le-ltb (length cs) (length keys) l,
         header-drop m keys classes,
         keys-drop m keys classes,
         numbers-bytesOf keys classes small,
@@ -143,7 +139,7 @@ module _ (file : List ℕ) (right : Laid (length file) (numbers 5 file)) where
       → writeOf (fileM file) (fileKeys file) (fileClasses file) out ≡ afterWrite (writing.Written (length file)) (overwrite file out)
   write-again low out l =
       let n : 20 + 5 * length (fileKeys file) ≡ length file = omega (arith, length-again, length-keys) in
-      write-sized (fileM file) (fileKeys file) (fileClasses file) out (sized .1 sized-again) ∙ rw (n, le-ltb (length out) (length file) l, file-again low)
+      write-done (fileM file) (fileKeys file) (fileClasses file) out (sized .1 sized-again) (omega arith) ∙ rw (n, file-again low)
 
 pub read-written : (file ks cs : List ℕ) {m q : ℕ} {ks′ cs′ : List ℕ} → Below 256 file → readOf file ks cs ≡ afterRead (reading.Read m q) ks′ cs′
     → (out : List ℕ) → length file ≤ length out → writeOf m (take q ks′) (take q cs′) out ≡ afterWrite (writing.Written (length file)) (overwrite file out)

@@ -2,9 +2,10 @@
 -- Assumes nothing.
 use mathlib.Core.Path.{_≡_, ap, _∙_}
 use mathlib.Core.Logic.{_↔_}
-use mathlib.Core.Bool.{not, cond, _||_}
+use mathlib.Core.Bool.{true, false, not, _||_}
 use mathlib.Core.List.{List, [], _∷_, _++_}
 use Prim.Native.Nat.{ℕ, _+_, _*_, _≤_, _<_}
+use native.Mathlib.Decide.{decLt}
 use native.Mathlib.Omega.{arith}
 use lib.Dec.{eqb, ltb}
 use lib.ListN.{length, take, drop, getD}
@@ -13,7 +14,7 @@ use Rattle.answers.specs.declared.Verdict.the-variants as verdict-of
 use Rattle.answers.specs.Rows.{Row, row, answer, verdict}
 use Rattle.answers.specs.Sizes.{sizeRows, Sized}
 use Rattle.answers.specs.Cells.{overwrite}
-use Rattle.answers.proofs.Laws.{answer-none, answer-row, row-held, row-clear, append-passed, append-refused, accepted, passed-row, passed-append, sized}
+use Rattle.answers.proofs.Laws.{answer-none, row-held, row-clear, append-passed, append-refused, accepted, passed-row, passed-append, sized}
 use Rattle.house.specs.declared.Reading.the-variants as reading
 use Rattle.house.specs.declared.Writing.the-variants as writing
 use Rattle.numbers.specs.Numbers.{numbers}
@@ -107,24 +108,45 @@ module _ (n : ℕ) (fields : List ℕ) where
 
 -- ---- reading
 
+-- one of two slices is too short
+no-room : (q a b : ℕ) → (q ≤ a → q ≤ b → ⊥) → ltb a q || ltb b q ≡ true
+no-room q a b d = go (decLt a q) (decLt b q)
+  where
+    go : Dec (a < q) → Dec (b < q) → ltb a q || ltb b q ≡ true
+    go (yes h) g = rw (lt-ltb a q h)
+    go (no h) (yes g) = rw (le-ltb a q (omega (arith, h)), lt-ltb b q g)
+    go (no h) (no g) = absurd (d (omega (arith, h)) (omega (arith, g)))
+
 module _ (file keys classes : List ℕ) where
   pub read-short : length file < 20 → readOf file keys classes ≡ afterRead (reading.Refused 9 0) keys classes
   unfolding readOf readRows
-  read-short l = rw answer-row (rw (lt-ltb (length file) 20 l))
+  read-short l = row-held _ 9 0 _ _ (lt-ltb (length file) 20 l)
 
   module _ {fields : List ℕ} (e : fields ≡ numbers 5 file) (l : 20 ≤ length file) where
     pub read-refused : {n p : ℕ} → verdict (layoutRows (length file) fields) ≡ verdict-of.Refused n p
         → readOf file keys classes ≡ afterRead (reading.Refused n p) keys classes
     unfolding readOf readRows
-    read-refused h = rw answer-row (rw (le-ltb (length file) 20 l) (append-refused _ _ _ _ (rw e at h)))
+    read-refused h = row-clear _ 9 0 _ _ (le-ltb (length file) 20 l) ∙ append-refused _ _ _ _ (rw e at h)
 
-    pub read-laid : verdict (layoutRows (length file) fields) ≡ verdict-of.Passed
-        → readOf file keys classes
-        ≡ cond (ltb (length keys) (getD fields 2 0) || ltb (length classes) (getD fields 2 0)) (afterRead (reading.Refused 8 (getD fields 2 0)) keys classes)
-        (afterRead (reading.Read (getD fields 1 0) (getD fields 2 0)) (overwrite (numbers (getD fields 2 0) (drop 20 file)) keys)
-        (overwrite (take (getD fields 2 0) (drop (20 + 4 * getD fields 2 0) file)) classes))
-    unfolding readOf readRows fileM fileQ fileKeys fileClasses
-    read-laid h = rw e (rw answer-row (rw (le-ltb (length file) 20 l) (append-passed _ _ _ _ (rw e at h) ∙ rw (answer-row, answer-none))))
+    module _ (h : verdict (layoutRows (length file) fields) ≡ verdict-of.Passed) where
+      behind-layout : readOf file keys classes
+          ≡ answer (λ n p. afterRead (reading.Refused n p) keys classes) (row (ltb (length keys) (fileQ file) || ltb (length classes) (fileQ file)) 8 (fileQ file) ∷ [])
+          (afterRead (reading.Read (fileM file) (fileQ file)) (overwrite (fileKeys file) keys) (overwrite (fileClasses file) classes))
+      unfolding readOf readRows
+      behind-layout = row-clear _ 9 0 _ _ (le-ltb (length file) 20 l) ∙ append-passed _ _ _ _ (rw e at h)
+
+      pub read-no-room : (getD fields 2 0 ≤ length keys → getD fields 2 0 ≤ length classes → ⊥) → readOf file keys classes ≡ afterRead (reading.Refused 8 (getD fields 2 0)) keys classes
+      unfolding fileQ
+      read-no-room d = rw e (behind-layout ∙ row-held _ 8 _ _ _ (no-room (fileQ file) (length keys) (length classes) (rw e at d)))
+
+      pub read-done : getD fields 2 0 ≤ length keys → getD fields 2 0 ≤ length classes
+          → readOf file keys classes
+          ≡ afterRead (reading.Read (getD fields 1 0) (getD fields 2 0)) (overwrite (numbers (getD fields 2 0) (drop 20 file)) keys)
+          (overwrite (take (getD fields 2 0) (drop (20 + 4 * getD fields 2 0) file)) classes)
+      unfolding fileM fileQ fileKeys fileClasses
+      read-done k c =
+          let room : ltb (length keys) (fileQ file) || ltb (length classes) (fileQ file) ≡ false = rw (le-ltb (length keys) (fileQ file) (rw e at k), le-ltb (length classes) (fileQ file) (rw e at c)) in
+          rw e (behind-layout ∙ row-clear _ 8 _ _ _ room ∙ answer-none _ _)
 
 -- ---- writing
 
@@ -134,12 +156,14 @@ module _ (m : ℕ) (keys classes out : List ℕ) where
   unfolding writeOf writeRows
   write-refused e = append-refused _ _ _ _ e
 
-  pub write-sized : verdict (sizeRows m (length keys) (length classes)) ≡ verdict-of.Passed
-      → writeOf m keys classes out
-      ≡ cond (ltb (length out) (20 + 5 * length keys)) (afterWrite (writing.Refused 8 (20 + 5 * length keys)) out)
-      (afterWrite (writing.Written (20 + 5 * length keys)) (overwrite (fileOf m keys classes) out))
-  unfolding writeOf writeRows
-  write-sized e = append-passed _ _ _ _ e ∙ rw (answer-row, answer-none)
+  module _ (e : verdict (sizeRows m (length keys) (length classes)) ≡ verdict-of.Passed) where
+    pub write-no-room : length out < 20 + 5 * length keys → writeOf m keys classes out ≡ afterWrite (writing.Refused 8 (20 + 5 * length keys)) out
+    unfolding writeOf writeRows
+    write-no-room l = append-passed _ _ _ _ e ∙ row-held _ 8 _ _ _ (lt-ltb (length out) (20 + 5 * length keys) l)
+
+    pub write-done : 20 + 5 * length keys ≤ length out → writeOf m keys classes out ≡ afterWrite (writing.Written (20 + 5 * length keys)) (overwrite (fileOf m keys classes) out)
+    unfolding writeOf writeRows
+    write-done l = append-passed _ _ _ _ e ∙ row-clear _ 8 _ _ _ (le-ltb (length out) (20 + 5 * length keys) l) ∙ answer-none _ _
 
 -- ---- what is known of a call that was accepted
 

@@ -45,8 +45,13 @@ pub record Meets (m : ℕ) (keys : List ℕ) (i s first count : ℕ) : Type 0 wh
 pub record Rising (keys : List ℕ) : Type 0 where
   pub rise : (a b : ℕ) → a < b → b < length keys → getD keys a 0 < getD keys b 0
 
+-- of a list of keys, the first `low` are below x, and those from `high` on are not
+pub record Between (keys : List ℕ) (x low high : ℕ) : Type 0 where
+  pub order : low ≤ high
+  pub room : high ≤ length keys
+  pub below : (n : ℕ) → n < low → getD keys n 0 < x
+  pub over : (n : ℕ) → high ≤ n → n < length keys → x ≤ getD keys n 0
+
 -- the first r keys are below x, and the others are not
-pub record Splits (keys : List ℕ) (x r : ℕ) : Type 0 where
-  pub room : r ≤ length keys
-  pub below : (n : ℕ) → n < r → getD keys n 0 < x
-  pub over : (n : ℕ) → r ≤ n → n < length keys → x ≤ getD keys n 0
+abbrev pub Splits : List ℕ → ℕ → ℕ → Type 0
+Splits keys x r = Between keys x r r

@@ -2,15 +2,14 @@
 -- Assumes nothing.
 use mathlib.Core.Path.{_≡_, refl, sym, ap, subst, _∙_}
 use mathlib.Core.List.{List, [], _∷_, _++_, append-assoc, append-nil}
-use Prim.Native.Nat.{ℕ, zero, suc, _+_, _-_, _*_, _/_, _≤_, _<_}
+use Prim.Native.Nat.{ℕ, zero, suc, _+_, _-_, _*_, _/_, _%_, _≤_, _<_}
 use native.Mathlib.Numerals.{add-one}
 use native.Mathlib.Omega.{arith}
 use lib.ListN.{length, take, drop, set, getD, length-append}
 use lib.Seq.{drop-drop, take-all, take-suc, length-take-le}
-use borrow.Rule.Slice.PartMut.{putMid}
 use Rattle.answers.specs.Cells.{overwrite}
-use Rattle.answers.proofs.Laws.{overwrite-all}
-use Rattle.answers.proofs.Filling.{rest, Filling, filling-cell, filling-part}
+use Rattle.answers.proofs.Laws.{overwrite-all, overwrite-sets}
+use Rattle.answers.proofs.Filling.{lent, back, lent-is, Filling, filling-first, filling-cell, filling-part}
 use Rattle.numbers.specs.Numbers.{bytes, number, bytesOf, numbers}
 
 -- ---- numbers of four bytes
@@ -50,7 +49,27 @@ numbers-next (suc n) bs =
     let e : 4 * suc n ≡ 4 + 4 * n = omega arith in
     rw (e, ← drop-drop (4 * n) 4 bs, ← numbers-next n (drop 4 bs))
 
--- ---- a turn of each loop, and its end
+-- ---- the four stores of `put`
+
+pub four-stores : (x : ℕ) (cells : List ℕ) → 4 ≤ length cells
+    → set (set (set (set cells 0 (x % 256)) 1 (x / 256 % 256)) 2 (x / 256 / 256 % 256)) 3 (x / 256 / 256 / 256 % 256) ≡ overwrite (bytes 4 x) cells
+unfolding bytes
+four-stores x cells l = overwrite-sets (bytes 4 x) cells l
+
+-- ---- each loop: its start, a turn, and its end
+
+pub get-first : (from cells : List ℕ) → Filling (numbers 0 from) cells cells
+unfolding numbers
+get-first from cells = filling-first cells
+
+pub put-first : (cells : List ℕ) → Filling (bytesOf []) cells cells
+unfolding bytesOf
+put-first cells = filling-first cells
+
+-- a loop that writes g of the first i elements of a list has written g of all
+pub list-last : (g : List ℕ → List ℕ) (from : List ℕ) (i : ℕ) {cells₀ cells : List ℕ} → Filling (g (take i from)) cells₀ cells → length from ≤ i
+    → cells ≡ overwrite (g from) cells₀
+list-last g from i f l = f .is ∙ rw (take-all i from l)
 
 module _ (from : List ℕ) (i : ℕ) {cells₀ cells : List ℕ} (f : Filling (take i from) cells₀ cells) where
   pub copy-next : i < length from → i < length cells₀ → Filling (take (i + 1) from) cells₀ (set cells i (getD from i 0))
@@ -59,28 +78,22 @@ module _ (from : List ℕ) (i : ℕ) {cells₀ cells : List ℕ} (f : Filling (t
       subst (λ (part : List ℕ). Filling part cells₀ (set cells i (getD from i 0))) e
       (filling-cell f i (length-take-le i from (omega arith)) (getD from i 0) m)
 
-  pub copy-last : length from ≤ i → cells ≡ overwrite from cells₀
-  copy-last l = f .is ∙ rw (take-all i from l)
-
 module _ (from : List ℕ) (i : ℕ) {cells₀ cells : List ℕ} (f : Filling (numbers i from) cells₀ cells) where
-  pub get-next : {y : ℕ} → y ≡ number 4 (take (length from - 4 * i) (drop (4 * i) from)) → i < length cells₀ → Filling (numbers (i + 1) from) cells₀ (set cells i y)
+  pub get-next : {y : ℕ} → y ≡ number 4 (lent (4 * i) from) → i < length cells₀ → Filling (numbers (i + 1) from) cells₀ (set cells i y)
   get-next {y} e l =
-      let next : numbers i from ++ (y ∷ []) ≡ numbers (i + 1) from = rw (add-one, numbers-next i from, e, rest (4 * i) from) in
+      let next : numbers i from ++ (y ∷ []) ≡ numbers (i + 1) from = rw (add-one, numbers-next i from, e, lent-is (4 * i) from) in
       subst (λ (part : List ℕ). Filling part cells₀ (set cells i y)) next (filling-cell f i (length-numbers i from) y l)
 
   pub get-last : length cells₀ ≡ i → cells ≡ numbers (length cells₀) from
   get-last e = f .is ∙ overwrite-all (numbers i from) cells₀ (length-numbers i from ∙ sym e) ∙ rw e
 
 module _ (from : List ℕ) (i : ℕ) {cells₀ cells : List ℕ} (f : Filling (bytesOf (take i from)) cells₀ cells) where
-  pub put-next : {ys : List ℕ} → ys ≡ overwrite (bytes 4 (getD from i 0)) (take (length cells - 4 * i) (drop (4 * i) cells)) → i < length from
-      → 4 * length from ≤ length cells₀ → Filling (bytesOf (take (i + 1) from)) cells₀ (putMid (4 * i) (length cells - 4 * i) cells ys)
+  pub put-next : {ys : List ℕ} → ys ≡ overwrite (bytes 4 (getD from i 0)) (lent (4 * i) cells) → i < length from
+      → 4 * length from ≤ length cells₀ → Filling (bytesOf (take (i + 1) from)) cells₀ (back (4 * i) cells ys)
   unfolding bytesOf
   put-next {ys} e l m =
       let y : ℕ = getD from i 0 in
       let part : bytesOf (take i from) ++ bytes 4 y ≡ bytesOf (take (i + 1) from) = rw (add-one, take-suc from i 0, bytesOf-append, append-nil) in
       let n : length (bytesOf (take i from)) ≡ 4 * i = length-bytesOf (take i from) ∙ rw (length-take-le i from (omega arith)) in
-      subst (λ (t : List ℕ). Filling t cells₀ (putMid (4 * i) (length cells - 4 * i) cells ys)) part
+      subst (λ (t : List ℕ). Filling t cells₀ (back (4 * i) cells ys)) part
       (filling-part f (4 * i) n (bytes 4 y) e (rw length-bytes (omega arith)))
-
-  pub put-last : length from ≤ i → cells ≡ overwrite (bytesOf from) cells₀
-  put-last l = f .is ∙ rw (take-all i from l)

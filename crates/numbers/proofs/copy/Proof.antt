@@ -5,7 +5,7 @@ use native.Mathlib.Omega.{arith}
 use borrow.Author.Needs.{needs}
 use lib.ListN.{length, take}
 use Rattle.answers.proofs.Filling.{Filling, filling-first}
-use Rattle.numbers.proofs.Steps.{copy-next, copy-last}
+use Rattle.numbers.proofs.Steps.{copy-next, list-last}
 use Rattle.numbers.proofs.copy.Statement.{statement}
 use Rattle.numbers.proofs.copy.Tie as tie
 
@@ -37,7 +37,7 @@ same-length : tie.Need-same-length Inv-loop μ-loop
 same-length c = search needs
 
 returns : tie.Need-returns Inv-loop μ-loop
-returns c = copy-last (c .before .before .args .from .now) (c .before .loop .i) (c .before .loop .inv .1) (omega (arith, c .loop-test .left))
+returns c = list-last (λ xs. xs) (c .before .before .args .from .now) (c .before .loop .i) (c .before .loop .inv .1) (omega (arith, c .loop-test .left))
 
 pub copy-spec : {M : Type 1} → statement M
 copy-spec =

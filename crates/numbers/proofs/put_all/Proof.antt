@@ -5,8 +5,8 @@ use native.Mathlib.Omega.{arith}
 use borrow.Author.Needs.{needs}
 use lib.ListN.{length, take, length-take, length-drop}
 use Rattle.numbers.specs.Numbers.{bytesOf}
-use Rattle.answers.proofs.Filling.{Filling, filling-first}
-use Rattle.numbers.proofs.Steps.{put-next, put-last}
+use Rattle.answers.proofs.Filling.{Filling}
+use Rattle.numbers.proofs.Steps.{put-first, put-next, list-last}
 use Rattle.numbers.proofs.put_all.Statement.{statement}
 use Rattle.numbers.proofs.put_all.Tie as tie
 
@@ -17,8 +17,7 @@ abbrev μ-loop : tie.MeasureT-loop
 μ-loop list to₀ i₀ to i = length list - i
 
 loop-holds : tie.Need-loop-holds Inv-loop μ-loop
-unfolding bytesOf
-loop-holds c = (omega arith, filling-first _)
+loop-holds c = (omega arith, put-first _)
 
 mul-at : tie.Need-mul-at Inv-loop μ-loop
 mul-at c = search needs
@@ -54,7 +53,7 @@ same-length : tie.Need-same-length Inv-loop μ-loop
 same-length c = search needs
 
 returns : tie.Need-returns Inv-loop μ-loop
-returns c = put-last (c .before .before .before .before .args .list .now) (c .before .loop .i) (c .before .loop .inv .1) (omega (arith, c .loop-test .left))
+returns c = list-last bytesOf (c .before .before .before .before .args .list .now) (c .before .loop .i) (c .before .loop .inv .1) (omega (arith, c .loop-test .left))
 
 pub put-all-spec : {M : Type 1} → statement M
 put-all-spec =
