@@ -17,6 +17,7 @@ use Rattle.answers.specs.declared.Verdict.the-variants.{Passed, Refused}
 use Rattle.answers.specs.Rows.{Row, row, answer, verdict}
 use Rattle.answers.specs.Sizes.{wrongCount, sizeRows, Sized}
 use Rattle.answers.specs.Cells.{overwrite}
+use Rattle.answers.proofs.Tests.{never, neither}
 
 -- ---- a table answers row by row, and one table after the other
 
@@ -35,7 +36,7 @@ module _ {A : Type 0} (refuse : ℕ → ℕ → A) where
   pub row-clear : {b : Bool} (n p : ℕ) (rs : List Row) (a : A) → b ≡ false → answer refuse (row b n p ∷ rs) a ≡ answer refuse rs a
   row-clear n p rs a e = rw answer-row (rw e)
 
-  answer-append : (rs ss : List Row) (a : A) → answer refuse (rs ++ ss) a ≡ answer refuse rs (answer refuse ss a)
+  pub answer-append : (rs ss : List Row) (a : A) → answer refuse (rs ++ ss) a ≡ answer refuse rs (answer refuse ss a)
   unfolding answer
   answer-append [] ss a = refl
   answer-append (r ∷ rs) ss a = ap (cond (r .holds) (refuse (r .number) (r .place))) (answer-append rs ss a)
@@ -78,6 +79,17 @@ module _ {A : Type 0} (refuse : ℕ → ℕ → A) where
       go Passed p q = (p, q)
       go (Refused n p) q h = absurd (never n p h)
 
+-- one part of an outcome, by itself
+pub answer-part : {A B : Type 0} (part : A → B) (refuse : ℕ → ℕ → A) (rs : List Row) (a : A) → part (answer refuse rs a) ≡ answer (λ n p. part (refuse n p)) rs (part a)
+unfolding answer
+answer-part part refuse [] a = refl
+answer-part {A} {B} part refuse (r ∷ rs) a = go (r .holds) (answer-part part refuse rs a)
+  where
+    go : (t : Bool) → part (answer refuse rs a) ≡ answer (λ n p. part (refuse n p)) rs (part a)
+        → part (cond t (refuse (r .number) (r .place)) (answer refuse rs a)) ≡ cond t (part (refuse (r .number) (r .place))) (answer (λ n p. part (refuse n p)) rs (part a))
+    go true ih = refl
+    go false ih = ih
+
 -- ---- a table that has passed
 
 pub refused-not-passed : {n p : ℕ} → Refused n p ≡ Passed → ⊥
@@ -85,7 +97,7 @@ refused-not-passed e = let z : _≡_ {A = ℕ} 0 1 = cc in omega arith
 
 pub passed-row : (b : Bool) (n p : ℕ) (rs : List Row) → (verdict (row b n p ∷ rs) ≡ Passed) ↔ ((b ≡ false) × (verdict rs ≡ Passed))
 unfolding answer
-passed-row true n p rs = (λ e. absurd (refused-not-passed e), λ e. absurd (let z : _≡_ {A = ℕ} 0 1 = cc in omega arith))
+passed-row true n p rs = (λ e. absurd (refused-not-passed e), λ e. never (e .0))
 passed-row false n p rs = (λ e. (refl, e), λ e. e .1)
 
 pub passed-append : (rs ss : List Row) → (verdict (rs ++ ss) ≡ Passed) ↔ ((verdict rs ≡ Passed) × (verdict ss ≡ Passed))
@@ -93,10 +105,6 @@ passed-append rs ss = (
   λ e. accepted Refused rs (verdict ss) (λ n p q. refused-not-passed q) (sym (answer-append Refused rs ss Passed) ∙ e),
   λ e. append-passed Refused rs ss Passed (e .0) ∙ e .1,
 )
-
-neither : (a b : Bool) → a || b ≡ false → (a ≡ false) × (b ≡ false)
-neither true b e = absurd (let z : _≡_ {A = ℕ} 0 1 = cc in omega arith)
-neither false b e = (refl, e)
 
 -- ---- the sizes of a map
 
@@ -160,6 +168,14 @@ module _ (xs zs : List ℕ) where
   pub overwrite-set : (y : ℕ) → length xs < length zs → set (overwrite xs zs) (length xs) y ≡ overwrite (xs ++ (y ∷ [])) zs
   unfolding overwrite
   overwrite-set y l = ap (λ (t : List ℕ). set (xs ++ t) (length xs) y) (drop-cons zs (length xs) 0 l) ∙ set-at xs _ _ y _ refl ∙ rw (length-append, append-assoc, add-one)
+
+  -- only the cells beyond the answer matter, so writing it once more changes nothing
+  pub overwrite-same : (ys : List ℕ) → drop (length xs) ys ≡ drop (length xs) zs → overwrite xs ys ≡ overwrite xs zs
+  unfolding overwrite
+  overwrite-same ys e = ap (λ (t : List ℕ). xs ++ t) e
+
+  pub overwrite-again : overwrite xs (overwrite xs zs) ≡ overwrite xs zs
+  overwrite-again = overwrite-same _ drop-overwrite
 
   -- an answer in a part that is lent, and the cells beyond the part
   pub overwrite-part : xs ++ drop (length xs) zs ≡ overwrite xs zs

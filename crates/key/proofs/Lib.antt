@@ -1,3 +1,4 @@
+mod Lists
 mod Table
 mod Bits
 mod Powers

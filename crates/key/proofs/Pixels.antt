@@ -2,7 +2,7 @@
 -- Assumes nothing.
 use mathlib.Core.Path.{_≡_, refl, sym, ap, _∙_, subst, subst₂}
 use Prim.Native.Nat.{ℕ, zero, suc, _+_, _-_, _*_, _/_, _%_, _^_, _≤_, _<_}
-use native.Mathlib.Nat.{pow-suc, add-mul, mul-assoc, mul-comm, zero-mul, zero-add, suc-add, sub-add-cancel, mod-lt, mul-div-cancel-left}
+use native.Mathlib.Nat.{pow-suc, add-mul, mul-assoc, mul-comm, zero-mul, zero-add, suc-add, sub-add-cancel, mod-lt, mul-div-cancel-left, div-add-mod'}
 use native.Mathlib.Numerals.{one-add}
 use native.Mathlib.Omega.{arith}
 use lib.Arith.{digits-div}
@@ -43,6 +43,14 @@ place-lt {k} {r} {c} p = omega (arith, spread-lt 3 k r (p .row), spread-lt 3 k c
 
 pub place-div : (i r c : ℕ) → place r c / 4 ^ i ≡ place (r / 2 ^ i) (c / 2 ^ i)
 place-div i r c = ap (λ (n : ℕ). n / 4 ^ i) (place-split i r c) ∙ digits-div _ (place-lt (fine i r c))
+
+-- a block's first place is its corner's
+pub corner-place : (i r c : ℕ) → r / 2 ^ i * 2 ^ i ≡ r → c / 2 ^ i * 2 ^ i ≡ c → place r c / 4 ^ i * 4 ^ i ≡ place r c
+corner-place i r c er ec =
+    let zr : r % 2 ^ i ≡ 0 = omega (arith, div-add-mod' r (2 ^ i)) in
+    let zc : c % 2 ^ i ≡ 0 = omega (arith, div-add-mod' c (2 ^ i)) in
+    let split : place r c ≡ place (r / 2 ^ i) (c / 2 ^ i) * 4 ^ i + place 0 0 = rw (zr, zc) at (place-split i r c) in
+    rw place-div (omega (arith, place-lt {k = 0} {r = 0} {c = 0} (omega arith)))
 
 place-step : (r c : ℕ) → place r c ≡ 4 * place (r / 2) (c / 2) + (2 * (r % 2) + c % 2)
 unfolding place

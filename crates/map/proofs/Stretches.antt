@@ -1,19 +1,15 @@
 -- A test that passes on one stretch of a list: `before` is where it begins, `howMany` how long it is. By induction over the list.
 -- Assumes nothing.
-use mathlib.Core.Path.{_≡_, refl}
+use mathlib.Core.Path.{_≡_}
 use mathlib.Core.Logic.{_↔_}
 use mathlib.Core.Bool.{Bool, true, false}
 use mathlib.Core.List.{List, [], _∷_}
 use Prim.Native.Nat.{ℕ, zero, suc, _-_, _≤_, _<_}
 use native.Mathlib.Omega.{arith}
 use lib.ListN.{length, getD}
+use Rattle.answers.proofs.Tests.{refuted}
 use Rattle.key.specs.Blocks.{Among}
 use Rattle.map.specs.Lists.{before, howMany}
-
--- a test that cannot pass fails
-refuted : (b : Bool) → (b ≡ true → ⊥) → b ≡ false
-refuted true h = absurd (h refl)
-refuted false h = refl
 
 module _ (p : ℕ → Bool) where
   -- the test fails before a, passes from there to z, and fails from z on

@@ -1,24 +1,28 @@
 -- What the tests on spans tell of blocks that are named.
 -- Assumes nothing.
-use mathlib.Core.Path.{_≡_, refl, ap}
+use mathlib.Core.Path.{_≡_, ap}
 use mathlib.Core.Logic.{_↔_}
-use mathlib.Core.Bool.{Bool, true, false, _&&_}
+use mathlib.Core.Bool.{true}
 use Prim.Native.Nat.{ℕ, _+_, _^_}
-use native.Mathlib.Omega.{arith}
 use lib.Dec.{leb, ltb}
 use borrow.Author.Tests.{ltb-true, leb-true, lt-ltb, le-leb}
+use Rattle.answers.proofs.Tests.{both}
 use Rattle.key.specs.Form.{formOf}
 use Rattle.key.specs.Blocks.{Names, Among}
 use Rattle.map.specs.Spans.{exponent, start, end, holds, overlap}
 use Rattle.map.specs.Runs.{Overlap}
 
-both : (a b : Bool) → (a && b ≡ true) ↔ ((a ≡ true) × (b ≡ true))
-both true b = (λ e. (refl, e), λ e. e .1)
-both false b = (λ e. (e, absurd (let z : _≡_ {A = ℕ} 0 1 = cc in omega arith)), λ e. e .0)
-
 pub exponent-is : {m k i s : ℕ} → Names m k i s → exponent (formOf m k) ≡ i
 unfolding exponent
 exponent-is b = ap exponent (b .is)
+
+pub start-is : {m k i s : ℕ} → Names m k i s → start (formOf m k) ≡ s
+unfolding start
+start-is b = ap start (b .is)
+
+pub end-is : {m k i s : ℕ} → Names m k i s → end (formOf m k) ≡ s + 4 ^ i
+unfolding end
+end-is b = ap end (b .is)
 
 pub holds-is : (q : ℕ) {m k i s : ℕ} → Names m k i s → (holds q (formOf m k) ≡ true) ↔ Among s (4 ^ i) q
 unfolding holds start end
