@@ -1,0 +1,5 @@
+pub mod Window
+pub mod Lists
+pub mod Blocks
+pub mod Walk
+pub mod Decompose
