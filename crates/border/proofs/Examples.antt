@@ -1,0 +1,84 @@
+-- Worked examples of openings, computed from the definitions. P1's map has m = 2 and the keys 5, 11, 12, 13, 14, 15, 20; its window is 0 1 3 3.
+-- Assumes nothing.
+use mathlib.Core.Path.{_≡_, refl}
+use mathlib.Core.List.{List, [], _∷_}
+use Prim.Native.Nat.{ℕ}
+use lib.ListN.{length, take}
+use Rattle.answers.specs.Rows.{answer}
+use Rattle.answers.specs.Sizes.{wrongCount, sizeRows}
+use Rattle.answers.specs.Cells.{overwrite}
+use Rattle.key.specs.Lists.{upFrom}
+use Rattle.key.specs.Spread.{spreadTo, spread}
+use Rattle.key.specs.Picture.{place}
+use Rattle.key.specs.Key.{pixelKey, blockKey}
+use Rattle.key.specs.Form.{from, formOf}
+use Rattle.window.specs.declared.Window.{Window}
+use Rattle.window.specs.Window.{window, beyond, outside, windowRows}
+use Rattle.window.specs.Lists.{keep}
+use Rattle.window.specs.Blocks.{floor, lies, fits, greatest, exponent, corner, across, rows, isCorner, maximal}
+use Rattle.window.specs.Decompose.{keyOf, keysOf}
+use Rattle.map.specs.Spans as spans
+use Rattle.map.specs.Check.{recordRows, mapRows}
+use Rattle.map.specs.Lists.{before, howMany}
+use Rattle.map.specs.Records.{recordOf, exponentOf}
+use Rattle.map.specs.Runs.{runOf}
+use Rattle.border.specs.declared.Stepped.the-variants as stepped
+use Rattle.border.specs.declared.Opened.the-variants.{Done, Refused}
+use Rattle.border.specs.Openings.{any, indices, within, isHanded, Opening, opening, openFrom, handedAfter, openings, handsOut, cellsOf}
+use Rattle.border.specs.Cells.{filled, raised}
+use Rattle.border.specs.Step.{afterStep, stepOf}
+use Rattle.border.specs.Open.{useRows, spent, afterOpen, accepted, openOf}
+
+abbrev keys : List ℕ
+keys = 5 ∷ 11 ∷ 12 ∷ 13 ∷ 14 ∷ 15 ∷ 20 ∷ []
+
+abbrev W : Window
+W = window 0 1 3 3
+
+abbrev made : ℕ → ℕ → ℕ → Opening
+made key first count = record { key = key; first = first; count = count }
+
+-- old contents of a border and of an answer slice
+abbrev old : List ℕ
+old = 90 ∷ 91 ∷ 92 ∷ 93 ∷ 94 ∷ 95 ∷ 96 ∷ 97 ∷ 98 ∷ 99 ∷ 100 ∷ 101 ∷ 102 ∷ []
+
+pub record Examples : Type 0 where
+  pub p1 : openings 2 2 keys W ≡ made 7 0 1 ∷ made 10 1 4 ∷ made 17 5 1 ∷ made 21 6 1 ∷ []
+  pub p1-openings : length (openings 2 2 keys W) ≡ 4
+  pub p1-records : handsOut (openings 2 2 keys W) ≡ 7
+  pub p5 : openings 2 2 keys (window 0 0 4 4) ≡ made 0 0 7 ∷ []
+  pub p6 : openings 0 0 (0 ∷ []) (window 0 0 1 1) ≡ made 0 0 1 ∷ []
+  -- one record over all: the first block opens it, and all others are skipped
+  pub single : openings 2 2 (0 ∷ []) W ≡ made 7 0 1 ∷ []
+  -- P1's first steps: block 7 raises the cell of its column to the bottom of record 0; block 9, after block 10, is skipped
+  pub step-7 : stepOf 2 2 keys W (0, 1) (0 ∷ 0 ∷ 0 ∷ []) ≡ afterStep (stepped.Opened 0 1) (2 ∷ 0 ∷ 0 ∷ [])
+  pub step-10 : stepOf 2 2 keys W (0, 2) (2 ∷ 0 ∷ 0 ∷ []) ≡ afterStep (stepped.Opened 1 4) (2 ∷ 2 ∷ 2 ∷ [])
+  pub step-9 : stepOf 2 2 keys W (1, 1) (2 ∷ 2 ∷ 2 ∷ []) ≡ afterStep stepped.Skipped (2 ∷ 2 ∷ 2 ∷ [])
+  -- borders of two and of three cells, answer slices of 11 and of 12 cells
+  pub narrow : openOf 2 keys 7 W (take 2 old) old ≡ afterOpen (Refused 7 3) (take 2 old) old
+  pub short : openOf 2 keys 7 W (take 3 old) (take 11 old) ≡ afterOpen (Refused 8 12) (3 ∷ 3 ∷ 3 ∷ []) (take 11 old)
+  pub done : openOf 2 keys 7 W (take 4 old) old ≡ afterOpen (Done 4 7) (3 ∷ 3 ∷ 3 ∷ 93 ∷ []) (7 ∷ 0 ∷ 1 ∷ 10 ∷ 1 ∷ 4 ∷ 17 ∷ 5 ∷ 1 ∷ 21 ∷ 6 ∷ 1 ∷ 102 ∷ [])
+  -- refusals in their order: the map's, then the window's, then the border's
+  pub map-first : openOf 2 (take 6 keys) 6 (window 0 0 0 0) [] [] ≡ afterOpen (Refused 5 6) [] []
+  pub window-next : openOf 2 keys 7 (window 2 0 3 1) [] [] ≡ afterOpen (Refused 6 0) [] []
+  pub large : openOf 13 [] 7 (window 0 0 0 0) [] [] ≡ afterOpen (Refused 1 0) [] []
+
+pub examples : Examples
+unfolding answer wrongCount sizeRows overwrite upFrom spreadTo spread place pixelKey blockKey from formOf beyond outside windowRows keep floor lies fits greatest exponent corner across rows isCorner maximal keyOf keysOf spans.malformed spans.exponent spans.start spans.end spans.holds spans.overlap recordRows mapRows before howMany recordOf exponentOf runOf any indices within isHanded opening openFrom handedAfter openings handsOut cellsOf filled raised stepOf useRows spent accepted openOf
+examples = record {
+  p1 = refl;
+  p1-openings = refl;
+  p1-records = refl;
+  p5 = refl;
+  p6 = refl;
+  single = refl;
+  step-7 = refl;
+  step-10 = refl;
+  step-9 = refl;
+  narrow = refl;
+  short = refl;
+  done = refl;
+  map-first = refl;
+  window-next = refl;
+  large = refl;
+}

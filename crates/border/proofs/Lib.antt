@@ -1,0 +1,14 @@
+mod Lists
+mod Filled
+mod Written
+mod Sweep
+mod Stays
+mod Overlaps
+mod Fold
+mod Handing
+mod Chosen
+mod Steps
+mod Tables
+mod Examples
+pub mod Laws
+mod Passes

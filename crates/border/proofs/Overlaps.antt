@@ -1,0 +1,187 @@
+-- The records that overlap a maximal block are those of its pixels. Spans share a place exactly when blocks share a pixel.
+-- Assumes nothing.
+use mathlib.Core.Path.{_≡_, sym, _∙_}
+use mathlib.Core.Logic.{_↔_}
+use mathlib.Core.Bool.{true, _&&_}
+use mathlib.Core.List.{List, List·Memᴰ}
+use Prim.Native.Nat.{ℕ, suc, max, _+_, _^_, _≤_, _<_}
+use native.Mathlib.Nat.{pow-le-pow-right, zero-lt-suc}
+use native.Mathlib.Decide.{decLe, decLt}
+use native.Mathlib.Omega.{arith}
+use lib.Dec.{leb}
+use borrow.Author.Tests.{leb-true, le-leb}
+use lib.ListN.{length, getD}
+use Rattle.key.specs.Picture.{Pixel, place, PixelAt}
+use Rattle.key.specs.Form.{formOf}
+use Rattle.key.specs.Blocks.{Names, Among, Inside as Covers, Stand, within as lies-in, around, after, before}
+use Rattle.key.proofs.Laws.{block-lies, blocks-stand, holds-same, place-onto, pow-least, up-in}
+use Rattle.window.specs.declared.Window.{Window}
+use Rattle.window.specs.Window.{Px, In, Inside}
+use Rattle.window.specs.Blocks.{Same, exponent, corner}
+use Rattle.window.specs.Decompose.{keyOf}
+use Rattle.window.proofs.Laws.{same-div, fits-all, exponent-fits, same→corner, corner→same, pixel-in, key-named}
+use Rattle.map.specs.Sound.{Follow}
+use Rattle.map.specs.Records.{Record, SomeRecord, Holder, pixelRecord, pixelExponent}
+use Rattle.map.specs.Runs.{runOf, BlockOf, Overlap, Meets}
+use Rattle.answers.proofs.Tests.{both}
+use Rattle.map.proofs.Laws.{record-at, apart, block-records, record-of, exponent-of, pixel-holder, start-is, end-is}
+use Rattle.border.specs.Openings.{indices, met, within}
+use Rattle.border.specs.Step.{Corner}
+
+-- ---- a block in another
+
+within-is : {m a i s b j t : ℕ} → Names m a i s → Names m b j t → (within (formOf m a) (formOf m b) ≡ true) ↔ Covers t (4 ^ j) s (4 ^ i)
+unfolding within
+within-is {i = i} {s = s} {j = j} {t = t} x y = rw (start-is x, end-is x, start-is y, end-is y) (
+  λ e. let h = tests .0 e in record { least = leb-true t s (h .0); most = leb-true (s + 4 ^ i) (t + 4 ^ j) (h .1) },
+  λ h. tests .1 (le-leb t s (h .least), le-leb (s + 4 ^ i) (t + 4 ^ j) (h .most)),
+)
+  where
+    tests : (leb t s && leb (s + 4 ^ i) (t + 4 ^ j) ≡ true) ↔ ((leb t s ≡ true) × (leb (s + 4 ^ i) (t + 4 ^ j) ≡ true))
+    tests = both _ _
+
+-- the larger of two sizes has the larger exponent
+size-le : {i j : ℕ} → 4 ^ i ≤ 4 ^ j → i ≤ j
+size-le {i} {j} h = go (decLe i j)
+  where
+    go : Dec (i ≤ j) → i ≤ j
+    go (yes l) = l
+    go (no g) = absurd (omega (arith, pow-le-pow-right {n = 4} (zero-lt-suc 3) {i = suc j} {j = i} (omega (arith, g)), pow-least 3 j))
+
+-- ---- the records of a block
+
+-- record n is that of a pixel of the block with corner b
+pub record OfPixel (m top : ℕ) (keys : List ℕ) (W : Window) (b : Px) (n : ℕ) : Type 0 where
+  pub at : Px
+  pub inside : In W at
+  pub block : corner W top at ≡ b
+  pub is : pixelRecord m keys (at .0) (at .1) ≡ n
+
+module _ {m top : ℕ} {keys : List ℕ} (F : Follow m 0 keys) {W : Window} (I : Inside m W) (small : top ≤ m) {b : Px} (C : Corner W top b) where
+  -- the block with corner b: its exponent, its first place, and what meets it
+  abbrev i : ℕ
+  i = exponent W top b
+
+  abbrev s : ℕ
+  s = place (b .0) (b .1)
+
+  named : Names m (keyOf m top W b) i s
+  named = key-named I small (C .inside) (C .own)
+
+  meets : Meets m keys i s (runOf m keys (keyOf m top W b) .first) (runOf m keys (keyOf m top W b) .count)
+  meets = block-records F named
+
+  -- its span has the places of its pixels
+  spans : {p : Px} → Pixel m (p .0) (p .1) → Among s (4 ^ i) (place (p .0) (p .1)) ↔ Same i b p
+  spans {p} v =
+      let own : Among s (4 ^ i) s = omega (arith, pow-least 3 i) in
+      let h = holds-same named (pixel-in I (C .inside)) v own in
+      (λ l. same-div .1 (h .0 l), λ e. h .1 (same-div .0 e))
+
+  block-same : {p : Px} → In W p → corner W top p ≡ b → Same i b p
+  block-same v e = corner→same W top (C .inside) v (C .own ∙ sym e)
+
+  -- a record that has a place of the block is that of one of its pixels
+  shared : {n j t q : ℕ} → Record m keys n j t → Among s (4 ^ i) q → Among t (4 ^ j) q → OfPixel m top keys W b n
+  shared {n} {j} {t} {q} R h k = go (place-onto m q (omega (arith, block-lies named .span)))
+    where
+      go : PixelAt m q → OfPixel m top keys W b n
+      go a =
+          let p : Px = (a .row, a .col) in
+          let same : Same i b p = spans (a .pixel) .0 (rw (a .is) h) in
+          let H : Holder m keys (place (a .row) (a .col)) = record { index = n; exponent = j; start = t; is = R; has = rw (a .is) k } in
+          record {
+            at = p;
+            inside = fits-all (exponent-fits W top (C .inside)) p same;
+            block = sym (same→corner W top (C .inside) same) ∙ C .own;
+            is = record-of F H;
+          }
+
+  pub met-pixels : (n : ℕ) → List·Memᴰ n (met m keys (keyOf m top W b)) ↔ OfPixel m top keys W b n
+  unfolding indices
+  met-pixels n = (λ l. to (up-in _ _ n .0 l), λ o. up-in _ _ n .1 (from o))
+    where
+      to : Among (runOf m keys (keyOf m top W b) .first) (runOf m keys (keyOf m top W b) .count) n → OfPixel m top keys W b n
+      to h = go (record-at F n (omega (arith, meets .room)))
+        where
+          go : SomeRecord m keys n → OfPixel m top keys W b n
+          go R =
+              let o = meets .exactly (R .is) .1 h in
+              shared {q = max s (R .start)} (R .is) (omega (arith, pow-least 3 i)) (omega (arith, pow-least 3 (R .exponent)))
+
+      from : OfPixel m top keys W b n → Among (runOf m keys (keyOf m top W b) .first) (runOf m keys (keyOf m top W b) .count) n
+      from o =
+          let H = pixel-holder F (pixel-in I (o .inside)) in
+          let k = spans (pixel-in I (o .inside)) .1 (block-same (o .inside) (o .block)) in
+          let a = meets .exactly (H .is) .0 (omega (arith, H .has)) in
+          rw (sym (o .is) ∙ record-of F H) a
+
+  -- the first of them holds the corner
+  pub met-first : runOf m keys (keyOf m top W b) .first ≡ pixelRecord m keys (b .0) (b .1)
+  met-first = go (decLt first (H .index))
+    where
+      first : ℕ
+      first = runOf m keys (keyOf m top W b) .first
+
+      H : Holder m keys s
+      H = pixel-holder F (pixel-in I (C .inside))
+
+      R : SomeRecord m keys first
+      R = record-at F first (omega (arith, meets .some, meets .room))
+
+      a : Among first (runOf m keys (keyOf m top W b) .count) (H .index)
+      a = meets .exactly (H .is) .0 (omega (arith, H .has, pow-least 3 i))
+
+      o : Overlap s (4 ^ i) (R .start) (4 ^ R .exponent)
+      o = meets .exactly (R .is) .1 (omega (arith, meets .some))
+
+      go : Dec (first < H .index) → first ≡ pixelRecord m keys (b .0) (b .1)
+      go (yes l) = absurd (omega (arith, apart F first (H .index) (R .is) (H .is) l, o, H .has))
+      go (no g) = rw (record-of F H) (omega (arith, a, g))
+
+  pub met-some : 1 ≤ runOf m keys (keyOf m top W b) .count
+  met-some = meets .some
+
+  pub met-room : runOf m keys (keyOf m top W b) .first + runOf m keys (keyOf m top W b) .count ≤ length keys
+  met-room = meets .room
+
+  pub met-inside : (n : ℕ) → List·Memᴰ n (met m keys (keyOf m top W b)) → n < length keys
+  unfolding indices
+  met-inside n l = omega (arith, up-in _ _ n .0 l, meets .room)
+
+  -- ---- the block, and the record of its corner
+
+  pub block-key : BlockOf m (keyOf m top W b) (exponent W top b)
+  block-key = record { start = s; names = named }
+
+  pub first-key : BlockOf m (getD keys (runOf m keys (keyOf m top W b) .first) 0) (pixelExponent m keys (b .0) (b .1))
+  first-key =
+      let H = pixel-holder F (pixel-in I (C .inside)) in
+      rw (met-first, record-of F H, exponent-of F H) (record { start = H .start; names = H .is .names })
+
+  -- the block lies in record n exactly when that is its corner's and not smaller
+  pub in-record : (n : ℕ) → n < length keys → (within (formOf m (keyOf m top W b)) (formOf m (getD keys n 0)) ≡ true)
+      ↔ ((pixelRecord m keys (b .0) (b .1) ≡ n) × (exponent W top b ≤ pixelExponent m keys (b .0) (b .1)))
+  in-record n l = (λ e. to (record-at F n l) e, λ e. from (e .0) (e .1))
+    where
+      to : SomeRecord m keys n → within (formOf m (keyOf m top W b)) (formOf m (getD keys n 0)) ≡ true
+          → (pixelRecord m keys (b .0) (b .1) ≡ n) × (exponent W top b ≤ pixelExponent m keys (b .0) (b .1))
+      to R e =
+          let h = within-is named (R .is .names) .0 e in
+          let H : Holder m keys s = record { index = n; exponent = R .exponent; start = R .start; is = R .is; has = omega (arith, pow-least 3 i) } in
+          (record-of F H, rw (exponent-of F H) (size-le (omega arith)))
+
+      from : pixelRecord m keys (b .0) (b .1) ≡ n → exponent W top b ≤ pixelExponent m keys (b .0) (b .1)
+          → within (formOf m (keyOf m top W b)) (formOf m (getD keys n 0)) ≡ true
+      from e h =
+          let le : 4 ^ i ≤ 4 ^ H .exponent = pow-le-pow-right {n = 4} (zero-lt-suc 3) (rw (exponent-of F H) at h) in
+          rw (sym e ∙ record-of F H) (within-is named (H .is .names) .1 (go le (blocks-stand named (H .is .names))))
+        where
+          H : Holder m keys s
+          H = pixel-holder F (pixel-in I (C .inside))
+
+          go : {a k : ℕ} → 4 ^ i ≤ 4 ^ H .exponent → Stand a i s k (H .exponent) (H .start) → Covers (H .start) (4 ^ H .exponent) s (4 ^ i)
+          go le (lies-in p q) = omega arith
+          go le (around g p k q) = p
+          go le (after p q) = absurd (omega (arith, H .has, pow-least 3 i))
+          go le (before p q) = absurd (omega (arith, H .has))

@@ -1,0 +1,113 @@
+-- The refusals of opening, test by test, and what is known of a call that passes.
+-- Assumes nothing.
+use mathlib.Core.Path.{_≡_, sym, ap, _∙_}
+use mathlib.Core.Bool.{true, false}
+use mathlib.Core.List.{List, [], _∷_}
+use Prim.Native.Nat.{ℕ, _+_, _*_, _/_, _≤_, _<_}
+use native.Mathlib.Omega.{arith}
+use lib.Dec.{ltb}
+use lib.ListN.{length, replicate, length-replicate}
+use lib.Seq.{take-all}
+use borrow.Author.Tests.{lt-ltb, le-ltb, ltb-false}
+use Rattle.answers.specs.declared.Verdict.the-variants as verdict-of
+use Rattle.answers.specs.Rows.{row, verdict}
+use Rattle.answers.specs.Cells.{overwrite}
+use Rattle.answers.proofs.Laws.{answer-none, row-held, row-clear, on-passed, on-refused, append-passed, append-refused, passed-row, passed-append, overwrite-length, overwrite-part, overwrite-again}
+use Rattle.window.specs.declared.Window.{Window}
+use Rattle.window.specs.Window.{outside, windowRows}
+use Rattle.window.proofs.Laws.{window-refused, window-passed, window-inside}
+use Rattle.map.specs.Check.{mapRows}
+use Rattle.map.proofs.Laws.{sound-map}
+use Rattle.border.specs.declared.Opened.the-variants.{Done, Refused}
+use Rattle.border.specs.declared.Totals.{Totals}
+use Rattle.border.specs.Openings.{openings, handsOut, cellsOf}
+use Rattle.border.specs.Cells.{fitting}
+use Rattle.border.specs.Step.{Usable}
+use Rattle.border.specs.Open.{useRows, spent, Passed, afterOpen, accepted, openOf}
+use Rattle.border.proofs.Fold.{cells-length}
+
+-- ---- refusals 1 to 7
+
+module _ (m : ℕ) (keys : List ℕ) (classes : ℕ) (W : Window) (cells : ℕ) where
+  pub use-refused : {n p : ℕ} → verdict (mapRows m keys classes) ≡ verdict-of.Refused n p → verdict (useRows m keys classes W cells) ≡ verdict-of.Refused n p
+  unfolding useRows
+  use-refused e = append-refused verdict-of.Refused (mapRows m keys classes) _ _ e
+
+  module _ (e : verdict (mapRows m keys classes) ≡ verdict-of.Passed) where
+    pub use-outside : outside m W ≡ true → verdict (useRows m keys classes W cells) ≡ verdict-of.Refused 6 0
+    unfolding useRows
+    use-outside o = append-passed verdict-of.Refused (mapRows m keys classes) _ _ e ∙ append-refused verdict-of.Refused (windowRows m W) _ _ (window-refused m W o)
+
+    module _ (o : outside m W ≡ false) where
+      behind : verdict (useRows m keys classes W cells) ≡ verdict (row (ltb cells (W .w)) 7 (W .w) ∷ [])
+      unfolding useRows
+      behind = append-passed verdict-of.Refused (mapRows m keys classes) _ _ e ∙ append-passed verdict-of.Refused (windowRows m W) _ _ (window-passed m W o)
+
+      pub use-narrow : cells < W .w → verdict (useRows m keys classes W cells) ≡ verdict-of.Refused 7 (W .w)
+      use-narrow l = behind ∙ row-held verdict-of.Refused 7 (W .w) [] _ (lt-ltb cells (W .w) l)
+
+      pub use-passed : W .w ≤ cells → verdict (useRows m keys classes W cells) ≡ verdict-of.Passed
+      use-passed l = behind ∙ row-clear verdict-of.Refused 7 (W .w) [] _ (le-ltb cells (W .w) l) ∙ answer-none verdict-of.Refused verdict-of.Passed
+
+  -- what a call may take for granted behind them
+  pub use-known : verdict (useRows m keys classes W cells) ≡ verdict-of.Passed → Usable m m keys W cells
+  unfolding useRows
+  use-known e =
+      let a = passed-append (mapRows m keys classes) _ .0 e in
+      let b = passed-append (windowRows m W) _ .0 (a .1) in
+      let s = sound-map m keys classes .0 (a .0) in
+      record {
+        small = s .sizes .small;
+        cap = omega arith;
+        few = s .sizes .most;
+        sound = s .records;
+        inside = window-inside m W (b .0);
+        wide = ltb-false cells (W .w) (passed-row (ltb cells (W .w)) 7 (W .w) [] .0 (b .1) .0);
+      }
+
+-- ---- refusal 8, and an accepted call
+
+module _ (m : ℕ) (keys : List ℕ) (classes : ℕ) (W : Window) (border out : List ℕ) where
+  pub open-refused : {n p : ℕ} → verdict (useRows m keys classes W (length border)) ≡ verdict-of.Refused n p → openOf m keys classes W border out ≡ afterOpen (Refused n p) border out
+  unfolding openOf
+  open-refused e = on-refused _ (useRows m keys classes W (length border)) _ e
+
+  module _ (e : verdict (useRows m keys classes W (length border)) ≡ verdict-of.Passed) where
+    pub open-short : {needed : ℕ} → needed ≡ 3 * length (openings m m keys W) → length out < needed → openOf m keys classes W border out ≡ afterOpen (Refused 8 needed) (spent W border) out
+    unfolding openOf
+    open-short d l = on-passed _ (useRows m keys classes W (length border)) _ e ∙ rw (← d) (row-held (λ n p. afterOpen (Refused n p) (spent W border) out) 8 _ [] _ (lt-ltb (length out) _ l))
+
+    pub open-done : 3 * length (openings m m keys W) ≤ length out → openOf m keys classes W border out ≡ accepted m keys W border out
+    unfolding openOf
+    open-done l =
+        on-passed _ (useRows m keys classes W (length border)) _ e
+        ∙ row-clear (λ n p. afterOpen (Refused n p) (spent W border) out) 8 _ [] _ (le-ltb (length out) _ l)
+        ∙ answer-none (λ n p. afterOpen (Refused n p) (spent W border) out) _
+
+-- a border that is spent already is spent no further
+pub accepted-again : (m : ℕ) (keys : List ℕ) (W : Window) (border out : List ℕ) → accepted m keys W (spent W border) out ≡ accepted m keys W border out
+unfolding accepted spent
+accepted-again m keys W border out =
+    ap (λ (t : List ℕ). afterOpen (Done (length (openings m m keys W)) (handsOut (openings m m keys W))) t (overwrite (cellsOf (openings m m keys W)) out))
+    (overwrite-again (replicate (W .w) (W .r0 + W .h)) border)
+
+pub usable-again : {m top : ℕ} {keys : List ℕ} {W : Window} (border : List ℕ) {after : List ℕ} → Usable m top keys W (length border) → after ≡ spent W border → Usable m top keys W (length after)
+unfolding spent
+usable-again {W = W} border {after} U e =
+    let l : length (replicate (W .w) (W .r0 + W .h)) ≡ W .w = length-replicate (W .w) (W .r0 + W .h) in
+    let d : length after ≡ length border = ap length e ∙ overwrite-length (replicate (W .w) (W .r0 + W .h)) border (rw l (U .wide)) in
+    rw d U
+
+-- a pass over a slice with no room
+pub passed-none : {m top : ℕ} {keys : List ℕ} {W : Window} {border₀ border out : List ℕ} {totals : Totals} → Passed m top keys W border₀ [] totals border out → out ≡ []
+unfolding fitting
+passed-none p = p .written ∙ sym (overwrite-part [] [])
+
+-- a pass over a slice with room for all
+pub passed-all : {m : ℕ} {keys : List ℕ} {W : Window} {border₀ out₀ border out : List ℕ} {totals : Totals} → Passed m m keys W border₀ out₀ totals border out
+    → 3 * length (openings m m keys W) ≤ length out₀ → afterOpen (Done (totals .openings) (totals .records)) border out ≡ accepted m keys W border₀ out₀
+unfolding accepted fitting
+passed-all {m} {keys} {W} {out₀ = out₀} p l =
+    let os = openings m m keys W in
+    let all = take-all (3 * (length out₀ / 3)) (cellsOf os) (omega (arith, cells-length os)) in
+    rw (p .many, p .records, p .ends, p .written, all)

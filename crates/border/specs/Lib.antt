@@ -1,0 +1,6 @@
+pub mod Openings
+pub mod Promises
+pub mod Border
+pub mod Cells
+pub mod Step
+pub mod Open

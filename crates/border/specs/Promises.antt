@@ -1,0 +1,55 @@
+-- The words in which the promises about the openings of a window are said.
+-- Assumes nothing.
+use mathlib.Core.Path.{_≡_}
+use mathlib.Core.List.{List, [], _∷_, _++_, List·Memᴰ}
+use Prim.Native.Nat.{ℕ, _*_}
+use lib.ListN.{length, take}
+use Rattle.key.specs.Lists.{upFrom}
+use Rattle.window.specs.declared.Window.{Window}
+use Rattle.window.specs.Window.{Px, In, Inside}
+use Rattle.window.specs.Decompose.{keyOf, keysOf}
+use Rattle.map.specs.Sound.{Follow}
+use Rattle.map.specs.Records.{pixelRecord}
+use Rattle.border.specs.Openings.{met, Opening, opening, openings, handsOut, cellsOf}
+
+-- record n overlaps the window: they share a pixel
+pub record Touches (m : ℕ) (keys : List ℕ) (W : Window) (n : ℕ) : Type 0 where
+  pub at : Px
+  pub inside : In W at
+  pub is : pixelRecord m keys (at .0) (at .1) ≡ n
+
+-- the opening of the block with corner b
+abbrev pub openingAt : ℕ → ℕ → List ℕ → Window → Px → Opening
+openingAt m top keys W b = opening m keys (keyOf m top W b)
+
+-- the records that an opening hands out
+abbrev pub hands : Opening → List ℕ
+hands o = upFrom (o .first) (o .count)
+
+-- and all that a list of openings does, one opening after another
+unfoldable pub allHands : List Opening → List ℕ
+allHands [] = []
+allHands (o ∷ os) = hands o ++ allHands os
+
+-- one of these openings hands out record n
+pub record HandedOut (os : List Opening) (n : ℕ) : Type 0 where
+  pub by : Opening
+  pub listed : List·Memᴰ by os
+  pub hands : List·Memᴰ n (hands by)
+
+-- no record is handed out by both
+abbrev pub Apart : Opening → Opening → Type 0
+Apart o o′ = (n : ℕ) → List·Memᴰ n (hands o) → ¬ List·Memᴰ n (hands o′)
+
+-- these keys are those of maximal blocks, and each record that overlaps the window overlaps one of these blocks
+pub record Enough (m top : ℕ) (keys : List ℕ) (W : Window) (s : List ℕ) : Type 0 where
+  pub blocks : (k : ℕ) → List·Memᴰ k s → List·Memᴰ k (keysOf m top W)
+  pub brings : (n : ℕ) → Touches m keys W n → (k : ℕ) × List·Memᴰ k s × List·Memᴰ n (met m keys k)
+
+-- what an accepted call tells: the map is sound, the window inside, and the answer counts the list that was written
+pub record Answered (m : ℕ) (keys : List ℕ) (W : Window) (count records : ℕ) (out : List ℕ) : Type 0 where
+  pub sound : Follow m 0 keys
+  pub inside : Inside m W
+  pub many : count ≡ length (openings m m keys W)
+  pub records-are : records ≡ handsOut (openings m m keys W)
+  pub list : take (3 * count) out ≡ cellsOf (openings m m keys W)

@@ -1,0 +1,65 @@
+-- One maximal block, one step.
+-- Assumes nothing.
+use mathlib.Core.Path.{_≡_}
+use mathlib.Core.Logic.{_↔_}
+use mathlib.Core.Bool.{cond}
+use mathlib.Core.List.{List, [], _∷_, _++_}
+use Prim.Native.Nat.{ℕ, max, _-_, _≤_, _<_}
+use lib.Dec.{ltb}
+use lib.ListN.{length, getD}
+use Rattle.window.specs.declared.Window.{Window}
+use Rattle.window.specs.Window.{Px, In, Inside}
+use Rattle.window.specs.Blocks.{exponent, corner, maximal}
+use Rattle.window.specs.Decompose.{keyOf}
+use Rattle.map.specs.Sound.{Follow}
+use Rattle.map.specs.Records.{pixelExponent}
+use Rattle.map.specs.Runs.{runOf}
+use Rattle.border.specs.declared.Stepped.{Stepped}
+use Rattle.border.specs.declared.Stepped.the-variants.{Skipped, Opened}
+use Rattle.border.specs.Border.{Stated, Handed, handedBy}
+use Rattle.border.specs.Cells.{raised}
+
+-- of the block with corner b and the record of b, by the exponents of records, the exponent of the larger
+abbrev pub reach : Window → ℕ → (ℕ → ℕ → ℕ) → Px → ℕ
+reach W top ex b = max (exponent W top b) (ex (b .0) (b .1))
+
+pub record AfterStep : Type 0 where
+  pub answer : Stepped
+  pub border : List ℕ
+
+abbrev pub afterStep : Stepped → List ℕ → AfterStep
+afterStep answer border = record { answer = answer; border = border }
+
+-- the cell of the corner's column decides; an opened block raises the cells of its columns, or of those of the record that contains it
+unfoldable pub stepOf : ℕ → ℕ → List ℕ → Window → Px → List ℕ → AfterStep
+stepOf m top keys W b cells =
+    let run = runOf m keys (keyOf m top W b) in
+    cond (ltb (b .0) (getD cells (b .1 - W .c0) 0)) (afterStep Skipped cells) (afterStep (Opened (run .first) (run .count)) (raised W (reach W top (pixelExponent m keys) b) b cells))
+
+-- b is the corner of a maximal block
+pub record Corner (W : Window) (top : ℕ) (b : Px) : Type 0 where
+  pub inside : In W b
+  pub own : corner W top b ≡ b
+
+-- a sound map and a window inside it, with a border of so many cells
+pub record Usable (m top : ℕ) (keys : List ℕ) (W : Window) (cells : ℕ) : Type 0 where
+  pub small : m ≤ 12
+  pub cap : top ≤ m
+  pub few : length keys ≤ 65536
+  pub sound : Follow m 0 keys
+  pub inside : Inside m W
+  pub wide : W .w ≤ cells
+
+-- and one of the window's maximal blocks, by corner, exponent and key: what a step may take for granted
+pub record Ready (m top : ℕ) (keys : List ℕ) (W : Window) (b : Px) (i key cells : ℕ) : Type 0 where
+  pub given : Usable m top keys W cells
+  pub corner : Corner W top b
+  pub size : i ≡ exponent W top b
+  pub name : key ≡ keyOf m top W b
+
+-- what a step promises: for any cells, what it answers and leaves, and when it skips; and cells that are as stated before the step are so after it
+pub record Step (m top : ℕ) (keys : List ℕ) (W : Window) (b : Px) (cells : List ℕ) (answer : Stepped) (border : List ℕ) : Type 0 where
+  pub is : afterStep answer border ≡ stepOf m top keys W b cells
+  pub skips : (answer ≡ Skipped) ↔ (b .0 < getD cells (b .1 - W .c0) 0)
+  pub stays : (before after : List Px) → maximal W top ≡ before ++ b ∷ after
+      → Stated W (Handed m keys (handedBy m top keys W before)) cells → Stated W (Handed m keys (handedBy m top keys W (before ++ b ∷ []))) border

@@ -1,0 +1,239 @@
+// The active border: one step for one maximal block, and opening a window on a map.
+use answers::Verdict;
+use key::Form;
+use map::Run;
+use window::Next;
+use window::Window;
+ghost use mathlib.Core.Path.{_≡_};
+ghost use Prim.Native.Nat.{max, _-_, _*_, _≤_};
+ghost use lib.ListN.{length, getD};
+ghost use Rattle.answers.specs.Rows.{verdict};
+ghost use Rattle.key.specs.Form.{formOf};
+ghost use Rattle.key.specs.Spread.{spreads};
+ghost use Rattle.map.specs.Spans.{exponent};
+ghost use Rattle.map.specs.Records.{SomeRecord};
+ghost use Rattle.window.specs.Window.{In, Inside};
+ghost use Rattle.border.specs.Openings.{openings};
+ghost use Rattle.border.specs.Cells.{filled, raised, entered};
+ghost use Rattle.border.specs.Step.{Usable, Ready, Step};
+ghost use Rattle.border.specs.Open.{Passed, useRows, afterOpen, accepted, openOf};
+
+// What a step answers: the block was skipped, or opened with so many records from the first on.
+pub enum Stepped {
+    Skipped,
+    Opened { first: u32, count: u32 },
+}
+
+pub enum Opened {
+    Done { openings: u32, records: u32 },
+    Refused { number: u32, place: u32 },
+}
+
+// How many openings there are, and how many records they hand out.
+pub struct Totals {
+    pub openings: u32,
+    pub records: u32,
+}
+
+// Fills the cells from one place up to another.
+fn fill(cells: &mut [u16], from: usize, to: usize, value: u16)
+    requires { ⌜ (from ≤ to) × (to ≤ length (now cells)) ⌝ }
+    ensures { λ r. ⌜ now (cells .exit) ≡ filled from to value (now (cells .entry)) ⌝ }
+{
+    let mut i = from;
+    while i < to {
+        cells[i] = value;
+        i += 1;
+    }
+}
+
+// How far x lies ahead of a; 0 where it does not.
+fn ahead(x: u16, a: u16) -> u16
+    ensures { λ r. ⌜ r ≡ x - a ⌝ }
+{
+    if x < a { 0 } else { x - a }
+}
+
+// What an opened block does to the border: around it stands the block of side 2^n.
+fn raise(window: Window, n: u32, row: u16, col: u16, border: &mut [u16])
+    requires { ⌜ (n ≤ 12) × Inside 12 window × In window (row, col) × (window .w ≤ length (now border)) ⌝ }
+    ensures { λ r. ⌜ now (border .exit) ≡ raised window n (row, col) (now (border .entry)) ⌝ }
+{
+    let side = window::side(n);
+    let west = window::floor(n, col);
+    let east = window::least(west + side, window.c0 + window.w);
+    let south = window::least(window::floor(n, row) + side, window.r0 + window.h);
+    let from = ahead(west, window.c0) as usize;
+    let to = ahead(east, window.c0) as usize;
+    fill(border, from, to, south);
+}
+
+// Of a block of exponent i and its first record, the exponent of the larger.
+fn reach(m: u32, keys: &[u32], first: u32, i: u32) -> u32
+    requires { ⌜ (m ≤ 12) × SomeRecord m (now keys) first ⌝ }
+    ensures { λ r. ⌜ r ≡ max i (exponent (formOf m (getD (now (keys .entry)) first 0))) ⌝ }
+{
+    let form = key::read_key(m, keys[first as usize]);
+    let Form::Block { exponent, .. } = form else {
+        return i;
+    };
+    if i < exponent { exponent } else { i }
+}
+
+// One maximal block. What was handed out before is known by the border alone: the block is skipped when the cell of its corner's column is over its corner's row.
+pub fn step(
+    m: u32,
+    top: u32,
+    keys: &[u32],
+    window: Window,
+    row: u16,
+    col: u16,
+    i: u32,
+    key: u32,
+    border: &mut [u16],
+) -> Stepped
+    requires { ⌜ Ready m top (now keys) window (row, col) i key (length (now border)) ⌝ }
+    ensures { λ r. ⌜ Step m top (now (keys .entry)) window (row, col) (now (border .entry)) r (now (border .exit)) ⌝ }
+{
+    let at = (col - window.c0) as usize;
+    if row < border[at] {
+        return Stepped::Skipped;
+    }
+    let run = map::records_of(m, keys, key, i);
+    let n = reach(m, keys, run.first, i);
+    raise(window, n, row, col, border);
+    Stepped::Opened {
+        first: run.first,
+        count: run.count,
+    }
+}
+
+// Writes an opening behind n others, where there is room for it.
+fn put_opening(out: &mut [u32], n: u32, key: u32, first: u32, count: u32)
+    ensures { λ r. ⌜ now (out .exit) ≡ entered n key first count (now (out .entry)) ⌝ }
+{
+    let at = 3 * (n as usize);
+    if out.len() < at + 3 {
+        return;
+    }
+    out[at] = key;
+    out[at + 1] = first;
+    out[at + 2] = count;
+}
+
+// Goes through the maximal blocks once, with a border filled anew. Of the openings, those are written for which there is room.
+fn pass(
+    table: &[u32; 256],
+    m: u32,
+    top: u32,
+    keys: &[u32],
+    window: Window,
+    border: &mut [u16],
+    out: &mut [u32],
+) -> Totals
+    requires { ⌜ (now table ≡ spreads) × Usable m top (now keys) window (length (now border)) ⌝ }
+    ensures { λ r. ⌜ Passed m top (now (keys .entry)) window (now (border .entry)) (now (out .entry)) r (now (border .exit)) (now (out .exit)) ⌝ }
+{
+    let w = window.w as usize;
+    fill(border, 0, w, window.r0);
+    let mut row = window.r0;
+    let mut col = window.c0;
+    let mut openings: u32 = 0;
+    let mut records: u32 = 0;
+    loop {
+        let next = window::next_block(window, top, row, col);
+        let Next::Block {
+            row: r,
+            col: c,
+            exponent,
+            after,
+        } = next
+        else {
+            return Totals { openings, records };
+        };
+        row = r;
+        col = after;
+        let key = key::block_key(table, m, exponent, r, c);
+        let stepped = step(m, top, keys, window, r, c, exponent, key, border);
+        if let Stepped::Opened { first, count } = stepped {
+            put_opening(out, openings, key, first, count);
+            openings += 1;
+            records += count;
+        }
+    }
+}
+
+// The pass that writes all openings.
+fn hand_out(
+    table: &[u32; 256],
+    m: u32,
+    keys: &[u32],
+    window: Window,
+    border: &mut [u16],
+    out: &mut [u32],
+) -> Opened
+    requires { ⌜ (now table ≡ spreads) × Usable m m (now keys) window (length (now border)) × (3 * length (openings m m (now keys) window) ≤ length (now out)) ⌝ }
+    ensures { λ r. ⌜ afterOpen r (now (border .exit)) (now (out .exit)) ≡ accepted m (now (keys .entry)) window (now (border .entry)) (now (out .entry)) ⌝ }
+{
+    let totals = pass(table, m, m, keys, window, border, out);
+    Opened::Done {
+        openings: totals.openings,
+        records: totals.records,
+    }
+}
+
+// Refusals 1 to 7: whoever uses a map and a window asks this first.
+pub fn usable(m: u32, keys: &[u32], classes: &[u8], window: Window, cells: usize) -> Verdict
+    ensures { λ r. ⌜ r ≡ verdict (useRows m (now (keys .entry)) (length (now (classes .entry))) window cells) ⌝ }
+{
+    let sound = map::sound(m, keys, classes);
+    if let Verdict::Refused { number, place } = sound {
+        return Verdict::Refused { number, place };
+    }
+    if window::outside(m, window) {
+        return Verdict::Refused {
+            number: 6,
+            place: 0,
+        };
+    }
+    let w = window.w;
+    if cells < w as usize {
+        return Verdict::Refused {
+            number: 7,
+            place: w as u32,
+        };
+    }
+    Verdict::Passed
+}
+
+// Opens the window on the map. A slice with room for as many openings as a window can have takes one pass; otherwise a first pass counts them and writes none, since 8 writes
+// nothing into the slice.
+pub fn open(
+    m: u32,
+    keys: &[u32],
+    classes: &[u8],
+    window: Window,
+    border: &mut [u16],
+    out: &mut [u32],
+) -> Opened
+    ensures { λ r. ⌜ afterOpen r (now (border .exit)) (now (out .exit)) ≡ openOf m (now (keys .entry)) (length (now (classes .entry))) window (now (border .entry)) (now (out .entry)) ⌝ }
+{
+    let verdict = usable(m, keys, classes, window, border.len());
+    if let Verdict::Refused { number, place } = verdict {
+        return Opened::Refused { number, place };
+    }
+    let table = key::spread_table();
+    let most = 12 * ((window.w as usize) + (window.h as usize));
+    if most <= out.len() {
+        return hand_out(&table, m, keys, window, border, out);
+    }
+    let counted = pass(&table, m, m, keys, window, border, &mut out[..0]);
+    let needed = 3 * counted.openings;
+    if out.len() < needed as usize {
+        return Opened::Refused {
+            number: 8,
+            place: needed,
+        };
+    }
+    hand_out(&table, m, keys, window, border, out)
+}
