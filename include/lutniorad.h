@@ -15,6 +15,24 @@
  * sound when its blocks, in the order of the list, go through all pixels once in the order of their keys: the first
  * starts at the first pixel, each next one where the last one ended, and the last one ends with the picture.
  *
+ * A WINDOW is a rectangle of pixels: h rows from row r0 on, and w columns from column c0 on. h and w are at least 1,
+ * and r0 + h and c0 + w at most T. (No sum wraps: row 65,535 with h = 1 lies outside every picture.)
+ *
+ * A MAXIMAL BLOCK of a window is a block that lies in the window, while no larger block that lies in the window
+ * contains it. Each pixel of the window lies in just one of them. They are listed by the row of their north-west
+ * corner, then by its column, and there are always fewer than 4(w + h). At m = 2 the window r0 = 0, c0 = 1, h = 3,
+ * w = 3 has six: 7, 10, 9, 17, 21, 22.
+ *
+ * An OPENING is a maximal block at which records are handed out. Go through the maximal blocks in their order. A block
+ * is skipped when it lies in a record already handed out. Otherwise it is opened, and the records that overlap it are
+ * handed out: one record that contains it, or those that lie in it, which follow one another in the map. An opening is
+ * three numbers: the block's key, the index of its first record, from 0, and the number of its records. So each record
+ * with a pixel in the window is handed out once, and no other is; and no choice of maximal blocks that meets all of
+ * these records has fewer blocks than there are openings.
+ *
+ * The BORDER is lent for opening a window: a 16-bit cell for each column of the window. It holds how far down the
+ * column has been handed out. So in the end each of the first w cells is r0 + h.
+ *
  * A HOUSE FILE is a map in bytes. Every number is little-endian:
  *
  *     offset      bytes
@@ -26,7 +44,8 @@
  *     20          4Q     the keys
  *     20 + 4Q     Q      the classes
  *
- * WHAT THE CALLER KEEPS. A slice is a pointer and its length in cells (elements, not bytes). For each slice of a call:
+ * WHAT THE CALLER KEEPS. A slice is a pointer and its length in cells (elements of 8, 16 or 32 bits, not bytes). For
+ * each slice of a call:
  *   - the pointer is valid for that many cells, and aligned for their type;
  *   - it is not NULL, even where the length is 0: any aligned address will do then;
  *   - a slice that the call writes (a pointer without `const`) overlaps no other slice of the call;
@@ -34,9 +53,9 @@
  * All else is answered or refused: any number may stand in any cell, and any length is taken whole.
  *
  * WHAT THE LIBRARY KEEPS. It takes no heap and remembers nothing from one call to the next, so calls on different
- * memory may run at the same time. Every call ends. A call that refuses writes nothing. A call that answers writes the
- * cells named with it below, and all others keep their content. What stands at entry in a slice that is written never
- * matters.
+ * memory may run at the same time. Every call ends. A call that refuses writes nothing, but for one: a refusal by 8
+ * from lutniorad_open leaves the border as an answer would. A call that answers writes the cells named with it below,
+ * and all others keep their content. What stands at entry in a slice that is written never matters.
  *
  * The archive is made for Linux on x86-64.
  */
@@ -61,6 +80,8 @@ extern "C" {
  *     4           a record starts before the last one ended                               index of the record, from 0
  *     5           a record starts after the last one ended (the first: after pixel 0),    index of the record, from 0,
  *                 or the list ends before the picture does                                or Q
+ *     6           the window is empty or not inside the picture                           0
+ *     7           the border has fewer than w cells                                       w
  *     8           a slice that would be written is too short                              cells needed
  *     9           the layout of the file is wrong                                         offset of the header field
  *
@@ -81,12 +102,48 @@ lutniorad_answer lutniorad_check(uint32_t m,
                                  const uint8_t *classes, size_t n_classes);
 
 /*
+ * Which are the maximal blocks of this window?
+ *
+ * Answers `first` = the number of them, `second` = 0. The first so many cells of `out` are then their keys, in order.
+ * There are fewer than 4(w + h), so an `out` of 4(w + h) cells is always long enough.
+ *
+ * Refuses by 1; 6; and 8, with the number of keys as place, when `out` is shorter than that.
+ */
+lutniorad_answer lutniorad_decompose(uint32_t m,
+                                     uint16_t r0, uint16_t c0, uint16_t h, uint16_t w,
+                                     uint32_t *out, size_t n_out);
+
+/*
+ * Which records does this window need, and at which blocks are they handed out?
+ *
+ * Answers `first` = the number of openings, `second` = the number of records that they hand out together.
+ * The first 3 * `first` cells of `out` are then the openings, one after another: key, first record, number of records.
+ * The first w cells of `border` are then r0 + h. There are fewer than 4(w + h) openings, so an `out` of 12(w + h) cells
+ * is always long enough. The classes' content does not matter.
+ *
+ * On the map of the keys 5, 11, 12, 13, 14, 15, 20 at m = 2, the window r0 = 0, c0 = 1, h = 3, w = 3 has four openings
+ * that hand out all seven records: 7 0 1, 10 1 4, 17 5 1, 21 6 1. Block 9 lies in record 0, and block 22 in record 6;
+ * these were handed out at blocks 7 and 21.
+ *
+ * The map is checked first: there is no need to ask lutniorad_check before.
+ * Refuses by 1; 2; then record by record 3, 4, 5, and 5 at Q, as lutniorad_check does; 6; 7, with place w, when
+ * `border` is shorter than that; and 8, with three times the number of openings as place, when `out` is shorter than
+ * that. On 8 the first w cells of `border` are r0 + h, and nothing else was written.
+ */
+lutniorad_answer lutniorad_open(uint32_t m,
+                                const uint32_t *keys, size_t n_keys,
+                                const uint8_t *classes, size_t n_classes,
+                                uint16_t r0, uint16_t c0, uint16_t h, uint16_t w,
+                                uint16_t *border, size_t n_border,
+                                uint32_t *out, size_t n_out);
+
+/*
  * Reads a house file that lies in memory, the whole of it and nothing more.
  *
  * Answers `first` = m, `second` = Q. The first Q cells of `keys` and of `classes` are then the file's.
  * Either may be longer than Q, and they may differ in length.
  *
- * Only the layout is looked at. The keys may be any numbers, so ask lutniorad_check about the map before you use it.
+ * Only the layout is looked at. The keys may be any numbers: whether the map is sound is for the calls that use it.
  *
  * Refuses by 9 at 0 when there are fewer than 20 bytes or the length field is not `n`; 1 by the field m; 2 by the
  * field Q; 9 at 8 when the length is not 20 + 5Q; 9 at 12 and 9 at 16 when the offset there is not as above; and 8,

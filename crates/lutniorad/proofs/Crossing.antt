@@ -3,12 +3,33 @@
 use mathlib.Core.Path.{_≡_, ap, _∙_}
 use mathlib.Core.List.{List}
 use Prim.Native.Nat.{ℕ}
+use lib.ListN.{length}
+use Rattle.window.specs.declared.Window.{Window}
+use Rattle.window.specs.declared.Decomposed.{Decomposed}
+use Rattle.window.specs.Decompose.{AfterDecompose, afterDecompose, decomposeOf}
+use Rattle.border.specs.declared.Opened.{Opened}
+use Rattle.border.specs.Open.{AfterOpen, afterOpen, openOf}
 use Rattle.house.specs.declared.Reading.{Reading}
 use Rattle.house.specs.declared.Writing.{Writing}
 use Rattle.house.specs.File.{AfterRead, afterRead, readOf, AfterWrite, afterWrite, writeOf}
 use Rattle.lutniorad.specs.declared.Answer.{Answer}
-use Rattle.lutniorad.specs.Numbers.{ofReading, ofWriting}
-use Rattle.lutniorad.specs.Calls.{Read, Write}
+use Rattle.lutniorad.specs.Numbers.{ofDecomposed, ofOpened, ofReading, ofWriting}
+use Rattle.lutniorad.specs.Calls.{Decompose, Open, Read, Write}
+
+pub decompose-call : {m : ℕ} {W : Window} {out out′ : List ℕ} {a : Answer} {r : Decomposed}
+    → a ≡ ofDecomposed r → afterDecompose r out′ ≡ decomposeOf m W out → Decompose m W out a out′
+decompose-call e h = record {
+  answer = e ∙ ap (λ (x : AfterDecompose). ofDecomposed (x .answer)) h;
+  out-after = ap (λ (x : AfterDecompose). x .out) h;
+}
+
+pub open-call : {m : ℕ} {keys classes : List ℕ} {W : Window} {border out border′ out′ : List ℕ} {a : Answer} {r : Opened}
+    → a ≡ ofOpened r → afterOpen r border′ out′ ≡ openOf m keys (length classes) W border out → Open m keys classes W border out a border′ out′
+open-call e h = record {
+  answer = e ∙ ap (λ (x : AfterOpen). ofOpened (x .answer)) h;
+  border-after = ap (λ (x : AfterOpen). x .border) h;
+  out-after = ap (λ (x : AfterOpen). x .out) h;
+}
 
 pub read-call : {file keys classes keys′ classes′ : List ℕ} {a : Answer} {r : Reading}
     → a ≡ ofReading r → afterRead r keys′ classes′ ≡ readOf file keys classes → Read file keys classes a keys′ classes′

@@ -3,11 +3,19 @@
 use mathlib.Core.Path.{_≡_, sym, _∙_}
 use mathlib.Core.List.{List}
 use Prim.Native.Nat.{ℕ}
+use Rattle.window.specs.declared.Window.{Window}
 use Rattle.lutniorad.specs.declared.Answer.{Answer}
-use Rattle.lutniorad.specs.Calls.{Check, Read, Write}
+use Rattle.lutniorad.specs.Calls.{Check, Decompose, Open, Read, Write}
 
 pub check-one : {m : ℕ} {keys classes : List ℕ} {r s : Answer} → Check m keys classes r → Check m keys classes s → r ≡ s
 check-one a b = a .answer ∙ sym (b .answer)
+
+pub decompose-one : {m : ℕ} {W : Window} {out o o′ : List ℕ} {r s : Answer} → Decompose m W out r o → Decompose m W out s o′ → (r ≡ s) × (o ≡ o′)
+decompose-one a b = (a .answer ∙ sym (b .answer), a .out-after ∙ sym (b .out-after))
+
+pub open-one : {m : ℕ} {keys classes border out bs bs′ o o′ : List ℕ} {W : Window} {r s : Answer} → Open m keys classes W border out r bs o → Open m keys classes W border out s bs′ o′
+    → (r ≡ s) × (bs ≡ bs′) × (o ≡ o′)
+open-one a b = (a .answer ∙ sym (b .answer), a .border-after ∙ sym (b .border-after), a .out-after ∙ sym (b .out-after))
 
 pub read-one : {file keys classes ks ks′ cs cs′ : List ℕ} {r s : Answer} → Read file keys classes r ks cs → Read file keys classes s ks′ cs′
     → (r ≡ s) × (ks ≡ ks′) × (cs ≡ cs′)

@@ -1,16 +1,28 @@
 -- What each call from C returns, and what stands in each lent slice afterwards, on every input.
 -- Assumes nothing.
 use mathlib.Core.Path.{_≡_}
-use Prim.Native.Nat.{ℕ}
 use mathlib.Core.List.{List}
+use Prim.Native.Nat.{ℕ}
 use lib.ListN.{length}
+use Rattle.window.specs.declared.Window.{Window}
+use Rattle.window.specs.Decompose.{decomposeOf}
 use Rattle.map.specs.Check.{checkOf}
+use Rattle.border.specs.Open.{openOf}
 use Rattle.house.specs.File.{readOf, writeOf}
 use Rattle.lutniorad.specs.declared.Answer.{Answer}
-use Rattle.lutniorad.specs.Numbers.{ofChecked, ofReading, ofWriting}
+use Rattle.lutniorad.specs.Numbers.{ofChecked, ofDecomposed, ofOpened, ofReading, ofWriting}
 
 pub record Check (m : ℕ) (keys classes : List ℕ) (r : Answer) : Type 0 where
   pub answer : r ≡ ofChecked (checkOf m keys (length classes))
+
+pub record Decompose (m : ℕ) (W : Window) (out : List ℕ) (r : Answer) (out′ : List ℕ) : Type 0 where
+  pub answer : r ≡ ofDecomposed (decomposeOf m W out .answer)
+  pub out-after : out′ ≡ decomposeOf m W out .out
+
+pub record Open (m : ℕ) (keys classes : List ℕ) (W : Window) (border out : List ℕ) (r : Answer) (border′ out′ : List ℕ) : Type 0 where
+  pub answer : r ≡ ofOpened (openOf m keys (length classes) W border out .answer)
+  pub border-after : border′ ≡ openOf m keys (length classes) W border out .border
+  pub out-after : out′ ≡ openOf m keys (length classes) W border out .out
 
 pub record Read (file keys classes : List ℕ) (r : Answer) (keys′ classes′ : List ℕ) : Type 0 where
   pub answer : r ≡ ofReading (readOf file keys classes .answer)

@@ -1,8 +1,12 @@
 -- The numbers that cross to C: for each case of an operation's answer, its refusal and place, or its values.
 -- Assumes nothing.
 use Prim.Native.Nat.{ℕ}
+use Rattle.window.specs.declared.Decomposed.{Decomposed}
+use Rattle.window.specs.declared.Decomposed.the-variants as decomposed
 use Rattle.map.specs.declared.Checked.{Checked}
 use Rattle.map.specs.declared.Checked.the-variants as checked
+use Rattle.border.specs.declared.Opened.{Opened}
+use Rattle.border.specs.declared.Opened.the-variants as opened
 use Rattle.house.specs.declared.Reading.{Reading}
 use Rattle.house.specs.declared.Reading.the-variants as reading
 use Rattle.house.specs.declared.Writing.{Writing}
@@ -20,6 +24,14 @@ refused number place = record { refusal = number; place = place; first = 0; seco
 abbrev pub ofChecked : Checked → Answer
 ofChecked (checked.Sound count) = values count 0
 ofChecked (checked.Refused number place) = refused number place
+
+abbrev pub ofDecomposed : Decomposed → Answer
+ofDecomposed (decomposed.Done count) = values count 0
+ofDecomposed (decomposed.Refused number place) = refused number place
+
+abbrev pub ofOpened : Opened → Answer
+ofOpened (opened.Done openings records) = values openings records
+ofOpened (opened.Refused number place) = refused number place
 
 abbrev pub ofReading : Reading → Answer
 ofReading (reading.Read m count) = values m count

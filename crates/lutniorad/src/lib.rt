@@ -1,10 +1,14 @@
 // The C face: every exported function, and nothing else. include/lutniorad.h says for C what stands here.
+use border::Opened;
 use house::Reading;
 use house::Writing;
 use map::Checked;
+use window::Decomposed;
+use window::Window;
 ghost use mathlib.Core.Path.{_≡_};
+ghost use Rattle.window.specs.Window.{window};
 ghost use Rattle.lutniorad.specs.Numbers.{values, refused};
-ghost use Rattle.lutniorad.specs.Calls.{Check, Read, Write};
+ghost use Rattle.lutniorad.specs.Calls.{Check, Decompose, Open, Read, Write};
 
 #[repr(C)]
 pub struct Answer {
@@ -46,6 +50,45 @@ pub extern "C" fn lutniorad_check(m: u32, keys: &[u32], classes: &[u8]) -> Answe
     match checked {
         Checked::Sound { count } => Answer::values(count, 0),
         Checked::Refused { number, place } => Answer::refused(number, place),
+    }
+}
+
+#[no_mangle]
+pub extern "C" fn lutniorad_decompose(
+    m: u32,
+    r0: u16,
+    c0: u16,
+    h: u16,
+    w: u16,
+    out: &mut [u32],
+) -> Answer
+    ensures { λ r. ⌜ Decompose m (window r0 c0 h w) (now (out .entry)) r (now (out .exit)) ⌝ }
+{
+    let decomposed = window::decompose(m, Window { r0, c0, h, w }, out);
+    match decomposed {
+        Decomposed::Done { count } => Answer::values(count, 0),
+        Decomposed::Refused { number, place } => Answer::refused(number, place),
+    }
+}
+
+#[no_mangle]
+pub extern "C" fn lutniorad_open(
+    m: u32,
+    keys: &[u32],
+    classes: &[u8],
+    r0: u16,
+    c0: u16,
+    h: u16,
+    w: u16,
+    border: &mut [u16],
+    out: &mut [u32],
+) -> Answer
+    ensures { λ r. ⌜ Open m (now (keys .entry)) (now (classes .entry)) (window r0 c0 h w) (now (border .entry)) (now (out .entry)) r (now (border .exit)) (now (out .exit)) ⌝ }
+{
+    let opened = border::open(m, keys, classes, Window { r0, c0, h, w }, border, out);
+    match opened {
+        Opened::Done { openings, records } => Answer::values(openings, records),
+        Opened::Refused { number, place } => Answer::refused(number, place),
     }
 }
 
