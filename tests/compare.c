@@ -10,7 +10,7 @@
  */
 #include "harness.h"
 #include "maps.h"
-#include "reference.h"
+#include "windows.h"
 
 #include <string.h>
 
@@ -26,12 +26,13 @@ static void require_painted(const map *a, size_t q)
     enum { MOST_PAINTED = 6 };
     static uint32_t raster[1 << 2 * MOST_PAINTED];
     if (a->m <= MOST_PAINTED)
-        require(reference_raster(a->m, a->keys, q, raster), "a sound map does not paint every pixel once");
+        require(reference_raster(a->m, a->keys, q, whole_picture(a->m), raster),
+                "a sound map does not paint every pixel once");
 }
 
 static lutniorad_answer compare_check(const map *a, size_t n_keys, size_t n_classes)
 {
-    call c = {&CHECK, a->m, {{a->keys, n_keys}, {a->classes, n_classes}}};
+    call c = {&CHECK, a->m, NO_WINDOW, {{a->keys, n_keys}, {a->classes, n_classes}}};
     lutniorad_answer answer = compare(c);
     if (answer.refusal == 0)
         require_painted(a, n_keys);
@@ -40,13 +41,13 @@ static lutniorad_answer compare_check(const map *a, size_t n_keys, size_t n_clas
 
 static lutniorad_answer compare_read(size_t n, size_t n_keys, size_t n_classes)
 {
-    call c = {&READ, 0, {{file, n}, {NULL, n_keys}, {NULL, n_classes}}};
+    call c = {&READ, 0, NO_WINDOW, {{file, n}, {NULL, n_keys}, {NULL, n_classes}}};
     return compare(c);
 }
 
 static lutniorad_answer compare_write(const map *a, size_t n_keys, size_t n_classes, size_t n_out)
 {
-    call c = {&WRITE, a->m, {{a->keys, n_keys}, {a->classes, n_classes}, {NULL, n_out}}};
+    call c = {&WRITE, a->m, NO_WINDOW, {{a->keys, n_keys}, {a->classes, n_classes}, {NULL, n_out}}};
     return compare(c);
 }
 
@@ -74,14 +75,12 @@ static void try_map(const map *a)
 
 /* ---- Group: answers written out ---- */
 
-static const uint32_t REFERENCE_KEYS[] = {5, 11, 12, 13, 14, 15, 20};
-static const uint8_t REFERENCE_CLASSES[] = {1, 2, 2, 3, 1, 1, 2};
 static const uint8_t REFERENCE_FILE[] = {
     55, 0, 0, 0, 2,  0, 0, 0, 7,  0, 0, 0, 20, 0, 0, 0, 48, 0, 0, 0,                           /* the header */
     5,  0, 0, 0, 11, 0, 0, 0, 12, 0, 0, 0, 13, 0, 0, 0, 14, 0, 0, 0, 15, 0, 0, 0, 20, 0, 0, 0, /* the keys */
     1,  2, 2, 3, 1,  1, 2,                                                                     /* the classes */
 };
-enum { REFERENCE_Q = 7, REFERENCE_LENGTH = sizeof REFERENCE_FILE };
+enum { REFERENCE_LENGTH = sizeof REFERENCE_FILE };
 
 static const struct {
     uint32_t m;
@@ -117,21 +116,10 @@ static const struct {
     {8, {0, 0, 1}, {9, 8, 0, 0}},  {12, {21, 0, 0}, {9, 12, 0, 0}}, {16, {49, 0, 0}, {9, 16, 0, 0}},
 };
 
-static void require_stated(lutniorad_answer got, lutniorad_answer stated)
-{
-    require_answer(got, "the answer written out", stated);
-}
-
-static void require_numbers(lutniorad_answer got, uint32_t refusal, uint32_t place, uint32_t first, uint32_t second)
-{
-    lutniorad_answer stated = {refusal, place, first, second};
-    require_stated(got, stated);
-}
-
 /* The file of the reference map, byte by byte, and what its lengths and header decide. */
 static void stated_reference_file(void)
 {
-    copy_records(&sound, 2, REFERENCE_Q, REFERENCE_KEYS, REFERENCE_CLASSES);
+    make_reference_map(&sound);
     require_numbers(compare_write(&sound, 7, 7, 54), 8, 55, 0, 0);
     require_numbers(compare_write(&sound, 7, 7, 55), 0, 0, 55, 0);
     require(memcmp(left(2), REFERENCE_FILE, REFERENCE_LENGTH) == 0, "another file than the one written out");
@@ -235,19 +223,6 @@ static void group_key_lists(void)
 
 /* ---- Group: small maps ---- */
 
-/* Calls `run` on every picture up to m = 2, as `sound`, in the first so many paints. What `run` does is one case. */
-static void for_small_maps(void (*run)(void), int paints)
-{
-    for (uint32_t m = 0; m < COUNT(pictures); m++)
-        for (size_t number = 0; number < pictures[m]; number++)
-            for (int how = 0; how < paints; how++)
-                if (begin_case()) {
-                    make_picture(&sound, m, number);
-                    paint(&sound, how);
-                    run();
-                }
-}
-
 /* Each m that is refused, or that is taken for the right one when only a part of its bits is looked at. */
 static void every_m(void)
 {
@@ -286,9 +261,9 @@ static void every_damage(void)
 
 static void group_small_maps(void)
 {
-    for_small_maps(every_m, PAINTS);
-    for_small_maps(every_key, PAINTS);
-    for_small_maps(every_damage, PAINTS);
+    for_small_maps(&sound, every_m, PAINTS);
+    for_small_maps(&sound, every_key, PAINTS);
+    for_small_maps(&sound, every_damage, PAINTS);
 }
 
 /* ---- Group: lengths ---- */
@@ -316,7 +291,7 @@ static void reasons_together(void)
     static const uint32_t ms[] = {0, 1, 2, 12, 13, 255, 258, 1u << 31, UINT32_MAX};
     static const size_t records[] = {0, 1, 6, 7, 8};
     static const size_t out[] = {0, 1, 19, 20, 25, 54, 55, 56, 60, 100};
-    copy_records(&damaged, 2, REFERENCE_Q, REFERENCE_KEYS, REFERENCE_CLASSES);
+    make_reference_map(&damaged);
     append(&damaged, 0);
     for (size_t i = 0; i < COUNT(ms) * COUNT(records) * COUNT(records); i++) {
         size_t n_keys = records[i / COUNT(ms) % COUNT(records)];
@@ -330,7 +305,7 @@ static void reasons_together(void)
 
 static void group_lengths(void)
 {
-    for_small_maps(every_length, PAINTS);
+    for_small_maps(&sound, every_length, PAINTS);
     if (begin_case())
         reasons_together();
 }
@@ -355,7 +330,7 @@ static void every_pair_of_fields(void)
 static void all_fields(void)
 {
     enum { CHIEF_HEADERS = 5 * 5 * 5 * 5 * 5 }; /* each of the fields in each of the chief ways */
-    copy_records(&sound, 2, REFERENCE_Q, REFERENCE_KEYS, REFERENCE_CLASSES);
+    make_reference_map(&sound);
     size_t n = make_file(file, &sound);
     for (size_t k = 0; k < CHIEF_HEADERS; k++) {
         for (size_t field = 0, rest = k; field < FIELDS; field++, rest /= CHIEF_SPOILS)
@@ -404,9 +379,9 @@ static void most_records(void)
 
 static void group_files(void)
 {
-    for_small_maps(every_cut, PAINTS);
-    for_small_maps(every_count, PAINTS);
-    for_small_maps(every_pair_of_fields, 1);
+    for_small_maps(&sound, every_cut, PAINTS);
+    for_small_maps(&sound, every_count, PAINTS);
+    for_small_maps(&sound, every_pair_of_fields, 1);
     if (begin_case())
         all_fields();
     if (begin_case())
@@ -439,15 +414,6 @@ static void group_largest_maps(void)
 }
 
 /* ---- Group: random maps ---- */
-
-enum { NEAR = 3 };
-
-/* A length that is right, or wrong by up to NEAR. */
-static size_t near_length(size_t right)
-{
-    size_t by = 1 + below(NEAR);
-    return below(3) > 0 ? right : below(2) == 0 ? right + by : right > by ? right - by : 0;
-}
 
 static void lengths_at_random(void)
 {
@@ -547,7 +513,7 @@ static const struct {
 
 static void vast_call(size_t i)
 {
-    copy_records(&sound, 2, REFERENCE_Q, REFERENCE_KEYS, REFERENCE_CLASSES);
+    make_reference_map(&sound);
     make_file(file, &sound);
     set_field(file, 0, vast_calls[i].length_field);
     const size_t *n = vast_calls[i].lengths;
@@ -574,9 +540,19 @@ static const group groups[] = {
     {"lengths", group_lengths, false},
     {"files", group_files, false},
     {"vast slices", group_vast_slices, false},
+    {"windows written out", group_windows_written_out, false},
+    {"small windows", group_small_windows, false},
+    {"refusals of windows", group_window_refusals, false},
+    {"lengths of borders and answers", group_window_lengths, false},
+    {"windows on damaged maps", group_windows_on_damaged_maps, false},
+    {"vast borders and answers", group_vast_windows, false},
+    {"the walk", group_walk, false},
     {"largest maps", group_largest_maps, false},
     {"random maps", group_random_maps, true},
     {"random files", group_random_files, true},
+    {"large windows", group_large_windows, true},
+    {"random windows", group_random_windows, true},
+    {"the stack", group_stack, true},
 };
 
 int main(int argc, char **argv)

@@ -2,8 +2,6 @@
 
 #include "harness.h"
 
-#include "reference.h"
-
 #include <inttypes.h>
 #include <setjmp.h>
 #include <signal.h>
@@ -12,6 +10,7 @@
 #include <stdlib.h>
 #include <string.h>
 #include <sys/mman.h>
+#include <ucontext.h>
 
 /* ---- Random numbers ---- */
 
@@ -30,7 +29,15 @@ size_t below(size_t n)
     return (size_t)(random_number() % n);
 }
 
+size_t near_length(size_t right)
+{
+    size_t by = 1 + below(NEAR);
+    return below(3) > 0 ? right : below(2) == 0 ? right + by : right > by ? right - by : 0;
+}
+
 /* ---- The two programs and their operations ---- */
+
+const window NO_WINDOW = {0, 0, 0, 0};
 
 typedef struct {
     void *cells;
@@ -39,27 +46,42 @@ typedef struct {
 
 typedef struct {
     lutniorad_answer (*check)(uint32_t, const uint32_t *, size_t, const uint8_t *, size_t);
+    lutniorad_answer (*decompose)(uint32_t, uint16_t, uint16_t, uint16_t, uint16_t, uint32_t *, size_t);
+    lutniorad_answer (*open)(uint32_t, const uint32_t *, size_t, const uint8_t *, size_t, uint16_t, uint16_t, uint16_t,
+                             uint16_t, uint16_t *, size_t, uint32_t *, size_t);
     lutniorad_answer (*read)(const uint8_t *, size_t, uint32_t *, size_t, uint8_t *, size_t);
     lutniorad_answer (*write)(uint32_t, const uint32_t *, size_t, const uint8_t *, size_t, uint8_t *, size_t);
 } program;
 
-static const program library = {lutniorad_check, lutniorad_read, lutniorad_write};
-static const program reference = {reference_check, reference_read, reference_write};
+static const program library = {lutniorad_check, lutniorad_decompose, lutniorad_open, lutniorad_read, lutniorad_write};
+static const program reference = {reference_check, reference_decompose, reference_open, reference_read,
+                                  reference_write};
 
-static lutniorad_answer run_check(const program *p, uint32_t m, const slice *s)
+static lutniorad_answer run_check(const program *p, const call *c, const slice *s)
 {
-    return p->check(m, s[0].cells, s[0].length, s[1].cells, s[1].length);
+    return p->check(c->m, s[0].cells, s[0].length, s[1].cells, s[1].length);
 }
 
-static lutniorad_answer run_read(const program *p, uint32_t m, const slice *s)
+static lutniorad_answer run_decompose(const program *p, const call *c, const slice *s)
 {
-    (void)m; /* the file has it */
+    return p->decompose(c->m, c->at.r0, c->at.c0, c->at.h, c->at.w, s[0].cells, s[0].length);
+}
+
+static lutniorad_answer run_open(const program *p, const call *c, const slice *s)
+{
+    return p->open(c->m, s[0].cells, s[0].length, s[1].cells, s[1].length, c->at.r0, c->at.c0, c->at.h, c->at.w,
+                   s[2].cells, s[2].length, s[3].cells, s[3].length);
+}
+
+static lutniorad_answer run_read(const program *p, const call *c, const slice *s)
+{
+    (void)c; /* the file has m */
     return p->read(s[0].cells, s[0].length, s[1].cells, s[1].length, s[2].cells, s[2].length);
 }
 
-static lutniorad_answer run_write(const program *p, uint32_t m, const slice *s)
+static lutniorad_answer run_write(const program *p, const call *c, const slice *s)
 {
-    return p->write(m, s[0].cells, s[0].length, s[1].cells, s[1].length, s[2].cells, s[2].length);
+    return p->write(c->m, s[0].cells, s[0].length, s[1].cells, s[1].length, s[2].cells, s[2].length);
 }
 
 typedef struct {
@@ -69,15 +91,19 @@ typedef struct {
 
 struct operation {
     const char *name;
-    lutniorad_answer (*run)(const program *, uint32_t m, const slice *);
-    bool takes_m;
+    lutniorad_answer (*run)(const program *, const call *, const slice *);
+    bool takes_m, takes_window;
     size_t n_slices;
     parameter slices[MOST_SLICES];
 };
 
-const operation CHECK = {"check", run_check, true, 2, {{"keys", 4}, {"classes", 1}}};
-const operation READ = {"read", run_read, false, 3, {{"file", 1}, {"keys", 4}, {"classes", 1}}};
-const operation WRITE = {"write", run_write, true, 3, {{"keys", 4}, {"classes", 1}, {"out", 1}}};
+const operation CHECK = {"check", run_check, true, false, 2, {{"keys", 4}, {"classes", 1}}};
+const operation DECOMPOSE = {"decompose", run_decompose, true, true, 1, {{"out", 4}}};
+const operation OPEN = {"open", run_open, true, true, 4, {{"keys", 4}, {"classes", 1}, {"border", 2}, {"out", 4}}};
+const operation READ = {"read", run_read, false, false, 3, {{"file", 1}, {"keys", 4}, {"classes", 1}}};
+const operation WRITE = {"write", run_write, true, false, 3, {{"keys", 4}, {"classes", 1}, {"out", 1}}};
+
+static const operation *const operations[] = {&CHECK, &DECOMPOSE, &OPEN, &READ, &WRITE};
 
 /* ---- Cases, and what is said when one fails ---- */
 
@@ -102,7 +128,9 @@ bool begin_case(void)
 
 static uint32_t cell_at(const void *cells, size_t cell, size_t i)
 {
-    return cell == 4 ? ((const uint32_t *)cells)[i] : ((const uint8_t *)cells)[i];
+    return cell == 4   ? ((const uint32_t *)cells)[i]
+           : cell == 2 ? ((const uint16_t *)cells)[i]
+                       : ((const uint8_t *)cells)[i];
 }
 
 static void print_call(const call *c)
@@ -111,6 +139,8 @@ static void print_call(const call *c)
     printf("  call: %s", c->operation->name);
     if (c->operation->takes_m)
         printf(", m %" PRIu32, c->m);
+    if (c->operation->takes_window)
+        printf(", r0 %d, c0 %d, h %d, w %d", c->at.r0, c->at.c0, c->at.h, c->at.w);
     for (size_t i = 0; i < c->operation->n_slices; i++) {
         const given *g = &c->slices[i];
         printf("\n    %s: %zu cells", c->operation->slices[i].name, g->length);
@@ -152,6 +182,17 @@ void require_answer(lutniorad_answer got, const char *whose, lutniorad_answer ex
          ", %" PRIu32 ", %" PRIu32,
          got.refusal, got.place, got.first, got.second, whose, expected.refusal, expected.place, expected.first,
          expected.second);
+}
+
+void require_stated(lutniorad_answer got, lutniorad_answer stated)
+{
+    require_answer(got, "the answer written out", stated);
+}
+
+void require_numbers(lutniorad_answer got, uint32_t refusal, uint32_t place, uint32_t first, uint32_t second)
+{
+    lutniorad_answer stated = {refusal, place, first, second};
+    require_stated(got, stated);
 }
 
 /* ---- Rooms: where the slices of a call stand ---- */
@@ -224,6 +265,72 @@ static stand lay_out(const call *c, size_t i, int round, slice slices[SIDES][MOS
     return at;
 }
 
+/* ---- The stack ---- */
+
+static bool watching;
+static unsigned char painted_stack[ROOM];
+static size_t deepest[COUNT(operations)];
+
+/* The call that runs on the painted stack, and where it is called from. */
+static struct {
+    ucontext_t here, there;
+    const call *call;
+    const slice *slices;
+    lutniorad_answer answer;
+} watched;
+
+void watch_stack(void)
+{
+    watching = true;
+    memset(deepest, 0, sizeof deepest);
+}
+
+void end_watch(void)
+{
+    watching = false;
+    for (size_t i = 0; i < COUNT(operations); i++) {
+        if (only_case == EVERY_CASE && deepest[i] == 0)
+            fail("the stack of %s was not looked at", operations[i]->name);
+        printf("stack of %s: at most %zu bytes\n", operations[i]->name, deepest[i]);
+    }
+}
+
+static void run_watched(void)
+{
+    watched.answer = watched.call->operation->run(&library, watched.call, watched.slices);
+}
+
+/* A stack grows downwards: the first byte of it that is not as it was painted is the deepest. */
+static void look_at_stack(const operation *o, const unsigned char *paint)
+{
+    size_t i = 0, which = 0;
+    while (painted_stack[i] == paint[i])
+        i++;
+    while (operations[which] != o)
+        which++;
+    size_t depth = sizeof painted_stack - i;
+    if (depth > deepest[which])
+        deepest[which] = depth;
+    if (depth > MOST_STACK)
+        fail("the call takes %zu bytes of stack, more than %d", depth, MOST_STACK);
+}
+
+static lutniorad_answer run_on_painted_stack(const call *c, const slice *slices, int round)
+{
+    memcpy(painted_stack, garbage[round], sizeof painted_stack);
+    watched.call = c;
+    watched.slices = slices;
+    getcontext(&watched.there);
+    watched.there.uc_stack.ss_sp = painted_stack;
+    watched.there.uc_stack.ss_size = sizeof painted_stack;
+    watched.there.uc_link = &watched.here;
+    makecontext(&watched.there, run_watched, 0);
+    if (swapcontext(&watched.here, &watched.there) != 0)
+        fail("the painted stack cannot be used");
+    look_at_stack(c->operation, garbage[round]);
+    return watched.answer;
+}
+
 /* ---- The comparison ---- */
 
 /* The library's slices of the last call, in the order of its parameters. */
@@ -257,8 +364,9 @@ lutniorad_answer compare(call c)
             stands[i] = lay_out(&c, i, round, slices);
             last_slices[i] = slices[LIBRARY][i].cells;
         }
-        answers[round] = c.operation->run(&library, c.m, slices[LIBRARY]);
-        require_answer(answers[round], "the independent program", c.operation->run(&reference, c.m, slices[REFERENCE]));
+        answers[round] = watching ? run_on_painted_stack(&c, slices[LIBRARY], round)
+                                  : c.operation->run(&library, &c, slices[LIBRARY]);
+        require_answer(answers[round], "the independent program", c.operation->run(&reference, &c, slices[REFERENCE]));
         for (size_t i = 0; i < c.operation->n_slices; i++)
             compare_slice(&c.operation->slices[i], c.slices[i].length, &stands[i]);
     }

@@ -4,9 +4,9 @@
  *
  * TO ADD AN OPERATION that both programs have, write in harness.c, beside those of the others:
  *   - one pair of function pointers: a member of `program`, and its function in `library` and in `reference`;
- *   - one run_ function, which hands the slices of a call to that member in the order of its parameters;
- *   - one row: the operation's name, its run_ function, whether it takes m, how many slices it takes, and for each its
- *     name and the bytes in a cell, 1 or 4.
+ *   - one run_ function, which hands the numbers and slices of a call to that member in the order of its parameters;
+ *   - one row: the operation's name, its run_ function, whether it takes m, whether it takes a window, how many slices
+ *     it takes, and for each its name and the bytes in a cell, 1, 2 or 4; and the row's place in `operations`.
  * Declare the row below with the others. MOST_SLICES is as many slices as any of them has. A case then fills in a
  * `call` of the operation and hands it to `compare`.
  *
@@ -18,6 +18,7 @@
 #define HARNESS_H
 
 #include "lutniorad.h"
+#include "reference.h"
 
 #include <stdbool.h>
 
@@ -29,13 +30,17 @@ uint64_t random_number(void);
 
 size_t below(size_t n); /* from 0 to n - 1 */
 
+/* A length that is right, or wrong by up to NEAR. */
+enum { NEAR = 3 };
+size_t near_length(size_t right);
+
 /* ---- Calls ---- */
 
 typedef struct operation operation;
 
-extern const operation CHECK, READ, WRITE;
+extern const operation CHECK, DECOMPOSE, OPEN, READ, WRITE;
 
-enum { MOST_SLICES = 3 };
+enum { MOST_SLICES = 4 };
 
 /*
  * A slice of a call before it is laid out. One that the call writes has no content, and garbage will stand in it.
@@ -49,9 +54,12 @@ typedef struct {
 enum { CELLS_OF_VAST = 64 };
 #define VAST ((size_t)1 << 32)
 
+extern const window NO_WINDOW; /* of a call that takes none */
+
 typedef struct {
     const operation *operation;
     uint32_t m;
+    window at;
     given slices[MOST_SLICES];
 } call;
 
@@ -61,6 +69,16 @@ lutniorad_answer compare(call c);
 /* The library's slice after the last call, by its place among the parameters. */
 const void *left(size_t i);
 
+/*
+ * Between these two, the library's calls run on a stack that was painted before, so that it shows how deep a call went.
+ * Each operation must have been called, and the deepest call of each is said. One that goes deeper than MOST_STACK
+ * bytes is a mismatch. All bytes count from the top of that stack down to the last one that was written: those of the
+ * library, and of the run_ function that calls it, with the parameters it hands over.
+ */
+enum { MOST_STACK = 8192 };
+void watch_stack(void);
+void end_watch(void);
+
 /* ---- Cases ---- */
 
 /* Every case begins with this. Its random numbers hang on the seed and its own number alone. False: leave it out. */
@@ -69,6 +87,10 @@ bool begin_case(void);
 /* What a case asks of the last call beyond the comparison. If it is not so, the program shows the call and ends. */
 void require(bool holds, const char *otherwise);
 void require_answer(lutniorad_answer got, const char *whose, lutniorad_answer expected);
+
+/* The answer written out in the case. */
+void require_stated(lutniorad_answer got, lutniorad_answer stated);
+void require_numbers(lutniorad_answer got, uint32_t refusal, uint32_t place, uint32_t first, uint32_t second);
 
 /* ---- Groups of cases ---- */
 

@@ -1,8 +1,8 @@
 #include "maps.h"
 
 #include "harness.h"
-#include "reference.h"
 
+#include <stdlib.h>
 #include <string.h>
 
 /* ---- Maps ---- */
@@ -18,6 +18,14 @@ void copy_records(map *to, uint32_t m, size_t q, const void *keys, const void *c
 void copy_map(map *to, const map *from)
 {
     copy_records(to, from->m, from->q, from->keys, from->classes);
+}
+
+const uint32_t REFERENCE_KEYS[] = {5, 11, 12, 13, 14, 15, 20};
+const uint8_t REFERENCE_CLASSES[] = {1, 2, 2, 3, 1, 1, 2};
+
+void make_reference_map(map *a)
+{
+    copy_records(a, 2, REFERENCE_Q, REFERENCE_KEYS, REFERENCE_CLASSES);
 }
 
 uint32_t power_of_5(uint32_t exponent)
@@ -62,8 +70,7 @@ void make_map(map *a, uint32_t m, shape how, size_t cuts)
     a->m = m;
     a->q = 0;
     cut_block(a, how, m, 0, cuts);
-    for (size_t i = 0; i < a->q; i++)
-        a->classes[i] = (uint8_t)random_number();
+    paint(a, RANDOM);
 }
 
 void make_random_map(map *a)
@@ -90,6 +97,18 @@ void paint(map *a, int how)
 {
     for (size_t i = 0; i < a->q; i++)
         a->classes[i] = (uint8_t)(how == RISING ? i + 1 : how == ALL_0 ? 0 : how == ALL_255 ? 255 : random_number());
+}
+
+void for_small_maps(map *a, void (*run)(void), int paints)
+{
+    for (uint32_t m = 0; m < COUNT(pictures); m++)
+        for (size_t number = 0; number < pictures[m]; number++)
+            for (int how = 0; how < paints; how++)
+                if (begin_case()) {
+                    make_picture(a, m, number);
+                    paint(a, how);
+                    run();
+                }
 }
 
 /* ---- Damaged maps ---- */
@@ -222,6 +241,87 @@ void damage_at_random(map *a)
         size_t how = below(n_damages);
         damage(a, how, some_record(a));
     }
+}
+
+/* ---- Windows ---- */
+
+uint16_t side_of(uint32_t m)
+{
+    return (uint16_t)(1 << m);
+}
+
+window whole_picture(uint32_t m)
+{
+    window at = {0, 0, side_of(m), side_of(m)};
+    return at;
+}
+
+/* A row or column, or the end of the last one. */
+static size_t random_place(size_t side)
+{
+    size_t unit = (size_t)1 << below(12), any = below(side + 1), multiple = any / unit * unit;
+    const size_t places[] = {any, multiple, multiple + 1, multiple > 0 ? multiple - 1 : 0, 0, side};
+    size_t place = places[below(COUNT(places))];
+    return place < side ? place : side;
+}
+
+typedef struct {
+    size_t from, length;
+} stretch;
+
+static stretch random_stretch(size_t side, size_t longest)
+{
+    size_t a = random_place(side), b = random_place(side);
+    size_t from = a < b ? a : b, to = a < b ? b : a;
+    if (from == to) {
+        from = from < side ? from : side - 1;
+        to = from + 1;
+    }
+    size_t length = to - from < longest ? to - from : longest;
+    stretch s = {below(2) == 0 ? from : to - length, length};
+    return s;
+}
+
+window random_window(uint32_t m, size_t most_pixels)
+{
+    size_t most_rows = (size_t)1 << below(m + 1);
+    if (most_rows > most_pixels)
+        most_rows = most_pixels;
+    stretch rows = random_stretch(side_of(m), most_rows), cols = random_stretch(side_of(m), most_pixels / most_rows);
+    window at = {(uint16_t)rows.from, (uint16_t)cols.from, (uint16_t)rows.length, (uint16_t)cols.length};
+    return at;
+}
+
+/* How much of a stretch of `side` places from `from` on lies in one of `length` places from `begin` on. */
+static size_t shared(size_t from, size_t side, size_t begin, size_t length)
+{
+    size_t first = from > begin ? from : begin;
+    size_t end = from + side < begin + length ? from + side : begin + length;
+    return end > first ? end - first : 0;
+}
+
+/* Appends the records of the block of side 2^exponent whose corner is in this row and column. */
+static void cut_around(map *a, window at, uint32_t least, uint32_t exponent, uint32_t key, size_t row, size_t col)
+{
+    size_t side = (size_t)1 << exponent, half = side / 2;
+    size_t pixels = shared(row, side, at.r0, at.h) * shared(col, side, at.c0, at.w);
+    if (pixels == 0 || pixels == side * side || exponent <= least) {
+        if (a->q == MOST_RECORDS)
+            abort();
+        a->keys[a->q++] = key;
+        return;
+    }
+    for (uint32_t i = 0; i < 4; i++)
+        cut_around(a, at, least, exponent - 1, key + (i + 1) * power_of_5(exponent - 1), row + i / 2 * half,
+                   col + i % 2 * half);
+}
+
+void make_map_around(map *a, uint32_t m, window at, uint32_t least)
+{
+    a->m = m;
+    a->q = 0;
+    cut_around(a, at, least, m, 0, 0, 0);
+    paint(a, RANDOM);
 }
 
 /* ---- Files ---- */

@@ -1,8 +1,10 @@
 /*
- * What the cases are made of: maps, sound and damaged, and house files, right and spoiled.
+ * What the cases are made of: maps, sound and damaged, windows, and house files, right and spoiled.
  */
 #ifndef MAPS_H
 #define MAPS_H
+
+#include "reference.h"
 
 #include <stddef.h>
 #include <stdint.h>
@@ -21,6 +23,13 @@ typedef struct {
 void copy_records(map *to, uint32_t m, size_t q, const void *keys, const void *classes);
 
 void copy_map(map *to, const map *from);
+
+/* The reference map. */
+enum { REFERENCE_Q = 7 };
+extern const uint32_t REFERENCE_KEYS[REFERENCE_Q];
+extern const uint8_t REFERENCE_CLASSES[REFERENCE_Q];
+
+void make_reference_map(map *a);
 
 uint32_t power_of_5(uint32_t exponent);
 
@@ -48,6 +57,9 @@ enum { RISING, ALL_0, ALL_255, RANDOM, PAINTS };
 
 void paint(map *a, int how);
 
+/* Makes every picture up to m = 2, in the first so many paints, and calls `run` after each. That is one case. */
+void for_small_maps(map *a, void (*run)(void), int paints);
+
 /* ---- Damaged maps ---- */
 
 /* The damages, by number: each spoils a map at record i. */
@@ -63,6 +75,25 @@ void append(map *a, size_t i);
 
 /* The same records in a quadrant of a picture of twice the side. */
 void become_a_quadrant(map *a, size_t i);
+
+/* ---- Windows ---- */
+
+uint16_t side_of(uint32_t m); /* of a picture, 2^m */
+
+window whole_picture(uint32_t m);
+
+/*
+ * A window inside the picture: thin as often as square, often at an edge of the picture, or beginning or ending at a
+ * multiple of some power of two or beside one. It has at most so many pixels, a power of two.
+ */
+window random_window(uint32_t m, size_t most_pixels);
+
+/*
+ * A map made for a window: blocks are cut as long as they lie partly in the window, down to the side 2^least. With
+ * least = 0 each maximal block is a record, and so there are as many openings as there can be; else there are records
+ * that have many maximal blocks. With random classes.
+ */
+void make_map_around(map *a, uint32_t m, window at, uint32_t least);
 
 /* ---- Files ---- */
 

@@ -1,6 +1,8 @@
 /* All numbers are 64 bits wide, and none here comes near 2^64: nothing wraps. */
 #include "reference.h"
 
+#include <stdlib.h>
+
 enum { MOST_DIGITS = 12, MOST_RECORDS = 65536, HEADER = 20 };
 
 static lutniorad_answer answered(uint64_t first, uint64_t second)
@@ -116,36 +118,245 @@ lutniorad_answer reference_check(uint32_t m,
     return answered(n_keys, 0);
 }
 
+/* ---- Windows ---- */
+
+/* h and w are at least 1, r0 + h and c0 + w at most T. */
+static bool is_inside(window at, uint64_t side_of_all)
+{
+    return at.h >= 1 && at.w >= 1 && (uint64_t)at.r0 + at.h <= side_of_all && (uint64_t)at.c0 + at.w <= side_of_all;
+}
+
+static bool lies_in(square block, window at)
+{
+    return block.row >= at.r0 && block.row + block.side <= (uint64_t)at.r0 + at.h && block.col >= at.c0
+           && block.col + block.side <= (uint64_t)at.c0 + at.w;
+}
+
+/* The block of twice the side that contains this one. */
+static square parent_of(square block)
+{
+    uint64_t side = 2 * block.side;
+    square parent = {block.row / side * side, block.col / side * side, side};
+    return parent;
+}
+
+/* A block is maximal when it lies in the window and no larger block that lies in the window contains it. */
+static bool is_maximal(square block, window at, uint64_t side_of_all)
+{
+    if (!lies_in(block, at))
+        return false;
+    while (block.side < side_of_all) {
+        block = parent_of(block);
+        if (lies_in(block, at))
+            return false;
+    }
+    return true;
+}
+
+bool reference_maximal(uint32_t m, uint32_t key, window at)
+{
+    uint64_t digits[MOST_DIGITS];
+    return digits_of(key, m, digits) && has_the_form(digits, m)
+           && is_maximal(block_of(digits, m), at, side_of_picture(m));
+}
+
+/* Room for as many maximal blocks as the largest window may have: fewer than 4(w + h). */
+enum { MOST_BLOCKS = 4 * (4096 + 4096) };
+
+typedef struct {
+    uint64_t n;
+    square blocks[MOST_BLOCKS];
+} block_list;
+
+static void append_block(block_list *list, square block)
+{
+    if (list->n == MOST_BLOCKS)
+        abort();
+    list->blocks[list->n++] = block;
+}
+
+/* The maximal blocks by the row of the corner, then by its column: every block at every pixel is tried. */
+static void list_maximal(block_list *list, window at, uint64_t side_of_all)
+{
+    list->n = 0;
+    for (uint64_t row = at.r0; row < (uint64_t)at.r0 + at.h; row++)
+        for (uint64_t col = at.c0; col < (uint64_t)at.c0 + at.w; col++)
+            for (uint64_t side = 1; side <= side_of_all && row % side == 0 && col % side == 0; side = 2 * side) {
+                square block = {row, col, side};
+                if (is_maximal(block, at, side_of_all))
+                    append_block(list, block);
+            }
+}
+
+/* A digit for each halving of the picture: the quadrant that the block lies in, or 0 where it is not that small. */
+static uint64_t key_of(square block, uint64_t side_of_all)
+{
+    uint64_t key = 0;
+    for (uint64_t side = side_of_all / 2; side > 0; side = side / 2) {
+        bool south = block.row / side % 2 == 1, east = block.col / side % 2 == 1;
+        uint64_t quadrant = south ? (east ? 4 : 3) : (east ? 2 : 1);
+        key = 5 * key + (side < block.side ? 0 : quadrant);
+    }
+    return key;
+}
+
+lutniorad_answer reference_decompose(uint32_t m,
+                                     uint16_t r0, uint16_t c0, uint16_t h, uint16_t w,
+                                     uint32_t *out, size_t n_out)
+{
+    static block_list maximal;
+    window at = {r0, c0, h, w};
+    if (m > MOST_DIGITS)
+        return refused(1, 0);
+    uint64_t side_of_all = side_of_picture(m);
+    if (!is_inside(at, side_of_all))
+        return refused(6, 0);
+    list_maximal(&maximal, at, side_of_all);
+    if (n_out < maximal.n)
+        return refused(8, maximal.n);
+    for (uint64_t i = 0; i < maximal.n; i++)
+        out[i] = (uint32_t)key_of(maximal.blocks[i], side_of_all);
+    return answered(maximal.n, 0);
+}
+
+/* ---- Rasters ---- */
+
 enum { NO_RECORD = MOST_RECORDS };
 
-/* False where a pixel of the block lies in a record already. */
-static bool paint_block(square block, uint64_t side, uint32_t record, uint32_t *raster)
+static uint64_t greater(uint64_t a, uint64_t b)
 {
-    for (uint64_t row = block.row; row < block.row + block.side; row++)
-        for (uint64_t col = block.col; col < block.col + block.side; col++) {
-            if (raster[row * side + col] != NO_RECORD)
+    return a > b ? a : b;
+}
+
+static uint64_t lesser(uint64_t a, uint64_t b)
+{
+    return a < b ? a : b;
+}
+
+static uint64_t place_in_raster(window at, uint64_t row, uint64_t col)
+{
+    return (row - at.r0) * at.w + (col - at.c0);
+}
+
+/* Paints what of the block lies in the window. False where a pixel there lies in a record already. */
+static bool paint_block(square block, window at, uint32_t record, uint32_t *raster)
+{
+    uint64_t rows_end = lesser(block.row + block.side, (uint64_t)at.r0 + at.h);
+    uint64_t cols_end = lesser(block.col + block.side, (uint64_t)at.c0 + at.w);
+    for (uint64_t row = greater(block.row, at.r0); row < rows_end; row++)
+        for (uint64_t col = greater(block.col, at.c0); col < cols_end; col++) {
+            uint32_t *pixel = &raster[place_in_raster(at, row, col)];
+            if (*pixel != NO_RECORD)
                 return false;
-            raster[row * side + col] = record;
+            *pixel = record;
         }
     return true;
 }
 
-bool reference_raster(uint32_t m, const uint32_t *keys, size_t q, uint32_t *raster)
+bool reference_raster(uint32_t m, const uint32_t *keys, size_t q, window at, uint32_t *raster)
 {
-    uint64_t side = side_of_picture(m);
-    for (uint64_t i = 0; i < side * side; i++)
+    uint64_t pixels = (uint64_t)at.h * at.w;
+    for (uint64_t i = 0; i < pixels; i++)
         raster[i] = NO_RECORD;
     for (uint64_t i = 0; i < q; i++) {
         uint64_t digits[MOST_DIGITS];
         if (!digits_of(keys[i], m, digits) || !has_the_form(digits, m))
             return false;
-        if (!paint_block(block_of(digits, m), side, (uint32_t)i, raster))
+        if (!paint_block(block_of(digits, m), at, (uint32_t)i, raster))
             return false;
     }
-    for (uint64_t i = 0; i < side * side; i++)
+    for (uint64_t i = 0; i < pixels; i++)
         if (raster[i] == NO_RECORD)
             return false;
     return true;
+}
+
+/* ---- Openings ---- */
+
+/* Opening a window on a sound map: the raster of its records, and which opening handed each of them out. */
+enum { NO_OPENING = MOST_BLOCKS };
+
+static uint32_t records[MOST_PIXELS];
+static uint64_t handed_out_by[MOST_RECORDS];
+
+/* A block is skipped when it lies in a record already handed out: one that has all pixels of the block. */
+static bool is_skipped(square block, window at)
+{
+    uint32_t record = records[place_in_raster(at, block.row, block.col)];
+    for (uint64_t row = block.row; row < block.row + block.side; row++)
+        for (uint64_t col = block.col; col < block.col + block.side; col++)
+            if (records[place_in_raster(at, row, col)] != record)
+                return false;
+    return handed_out_by[record] != NO_OPENING;
+}
+
+typedef struct {
+    uint64_t key, first, count;
+} opening;
+
+/* Hands out every record that has a pixel in the block. */
+static opening open_block(square block, window at, uint64_t side_of_all, uint64_t number)
+{
+    opening made = {key_of(block, side_of_all), NO_RECORD, 0};
+    for (uint64_t row = block.row; row < block.row + block.side; row++)
+        for (uint64_t col = block.col; col < block.col + block.side; col++) {
+            uint32_t record = records[place_in_raster(at, row, col)];
+            if (handed_out_by[record] != number)
+                made.count++;
+            handed_out_by[record] = number;
+            made.first = lesser(made.first, record);
+        }
+    return made;
+}
+
+/* Makes the openings of a window inside a sound map of q records, and returns their number. */
+static uint64_t make_openings(uint64_t m, const uint32_t *keys, uint64_t q, window at, opening openings[MOST_BLOCKS])
+{
+    static block_list maximal;
+    uint64_t side_of_all = side_of_picture(m);
+    uint64_t n = 0;
+    if (!reference_raster((uint32_t)m, keys, q, at, records))
+        abort();
+    for (uint64_t i = 0; i < q; i++)
+        handed_out_by[i] = NO_OPENING;
+    list_maximal(&maximal, at, side_of_all);
+    for (uint64_t i = 0; i < maximal.n; i++)
+        if (!is_skipped(maximal.blocks[i], at)) {
+            openings[n] = open_block(maximal.blocks[i], at, side_of_all, n);
+            n++;
+        }
+    return n;
+}
+
+lutniorad_answer reference_open(uint32_t m,
+                                const uint32_t *keys, size_t n_keys,
+                                const uint8_t *classes, size_t n_classes,
+                                uint16_t r0, uint16_t c0, uint16_t h, uint16_t w,
+                                uint16_t *border, size_t n_border,
+                                uint32_t *out, size_t n_out)
+{
+    static opening openings[MOST_BLOCKS];
+    window at = {r0, c0, h, w};
+    lutniorad_answer check = reference_check(m, keys, n_keys, classes, n_classes);
+    if (check.refusal != 0)
+        return check;
+    if (!is_inside(at, side_of_picture(m)))
+        return refused(6, 0);
+    if (n_border < w)
+        return refused(7, w);
+    uint64_t n = make_openings(m, keys, n_keys, at, openings);
+    for (uint64_t i = 0; i < w; i++) /* for the refusal by 8 too */
+        border[i] = (uint16_t)(r0 + h);
+    if (n_out < 3 * n)
+        return refused(8, 3 * n);
+    uint64_t handed_out = 0;
+    for (uint64_t i = 0; i < n; i++) {
+        out[3 * i] = (uint32_t)openings[i].key;
+        out[3 * i + 1] = (uint32_t)openings[i].first;
+        out[3 * i + 2] = (uint32_t)openings[i].count;
+        handed_out += openings[i].count;
+    }
+    return answered(n, handed_out);
 }
 
 /* ---- The house file ---- */

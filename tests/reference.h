@@ -12,9 +12,24 @@
 
 #include <stdbool.h>
 
+typedef struct {
+    uint16_t r0, c0, h, w;
+} window;
+
 lutniorad_answer reference_check(uint32_t m,
                                  const uint32_t *keys, size_t n_keys,
                                  const uint8_t *classes, size_t n_classes);
+
+lutniorad_answer reference_decompose(uint32_t m,
+                                     uint16_t r0, uint16_t c0, uint16_t h, uint16_t w,
+                                     uint32_t *out, size_t n_out);
+
+lutniorad_answer reference_open(uint32_t m,
+                                const uint32_t *keys, size_t n_keys,
+                                const uint8_t *classes, size_t n_classes,
+                                uint16_t r0, uint16_t c0, uint16_t h, uint16_t w,
+                                uint16_t *border, size_t n_border,
+                                uint32_t *out, size_t n_out);
 
 lutniorad_answer reference_read(const uint8_t *file, size_t n,
                                 uint32_t *keys, size_t n_keys,
@@ -25,10 +40,17 @@ lutniorad_answer reference_write(uint32_t m,
                                  const uint8_t *classes, size_t n_classes,
                                  uint8_t *out, size_t n_out);
 
+/* The most pixels that a picture has. */
+enum { MOST_PIXELS = 4096 * 4096 };
+
 /*
- * The raster of a map: for each pixel, row by row from the north-west on, the index of the record that it lies in. Every
- * block is painted pixel by pixel. True where all keys are of the form and every pixel was painted just once.
+ * The raster of a window: for each of its pixels, row by row from the north-west on, the index of the block that it
+ * lies in. Every block is painted pixel by pixel, as far as it lies in the window. True where all keys are of the form
+ * and every pixel of the window was painted just once. m is at most 12, and the window inside the picture.
  */
-bool reference_raster(uint32_t m, const uint32_t *keys, size_t q, uint32_t *raster);
+bool reference_raster(uint32_t m, const uint32_t *keys, size_t q, window at, uint32_t *raster);
+
+/* Is this the key of a maximal block of the window? m is at most 12. */
+bool reference_maximal(uint32_t m, uint32_t key, window at);
 
 #endif

@@ -1,0 +1,123 @@
+#include "promises.h"
+
+#include "harness.h"
+
+#include <stdbool.h>
+
+static uint32_t raster[MOST_PIXELS];
+
+/* Fewer than 4(w + h) keys, `apart` cells from one to the next, and each that of a maximal block. */
+static void require_maximal(uint32_t m, window at, const uint32_t *keys, size_t apart, size_t n)
+{
+    require(n < 4 * ((size_t)at.w + at.h), "there are not fewer than 4(w + h) of them");
+    for (size_t i = 0; i < n; i++)
+        require(reference_maximal(m, keys[apart * i], at), "there is a key of no maximal block");
+}
+
+void require_decomposed(uint32_t m, window at, const uint32_t *keys, size_t n)
+{
+    require_maximal(m, at, keys, 1, n);
+    require(reference_raster(m, keys, n, at, raster), "the blocks do not have each pixel of the window once");
+}
+
+/* Marks the records of the openings as handed out, and returns how many they are. */
+static size_t mark_handed_out(size_t q, const uint32_t *openings, size_t n, bool *handed_out)
+{
+    size_t records = 0;
+    for (size_t i = 0; i < q; i++)
+        handed_out[i] = false;
+    for (size_t i = 0; i < n; i++) {
+        size_t first = openings[3 * i + 1], count = openings[3 * i + 2];
+        require(count >= 1, "an opening hands out no record");
+        require(first + count <= q, "an opening hands out records that the map does not have");
+        for (size_t k = first; k < first + count; k++) {
+            require(!handed_out[k], "a record is handed out twice");
+            handed_out[k] = true;
+        }
+        records += count;
+    }
+    return records;
+}
+
+/* With the raster of the window's records. */
+static void require_just_these(size_t q, window at, const bool *handed_out)
+{
+    static bool has_a_pixel[MOST_RECORDS];
+    for (size_t i = 0; i < q; i++)
+        has_a_pixel[i] = false;
+    for (size_t p = 0; p < (size_t)at.h * at.w; p++)
+        has_a_pixel[raster[p]] = true;
+    for (size_t i = 0; i < q; i++)
+        require(has_a_pixel[i] == handed_out[i], "another record is handed out than those with a pixel in the window");
+}
+
+/* ---- The fewest blocks ---- */
+
+/* Where there are few maximal blocks, in a window that is small enough to go through again, all choices are tried. */
+enum { FEW_BLOCKS = 12, FEW_PIXELS = 1 << 14 };
+
+/* A choice of blocks: bit b for block b. */
+typedef uint16_t choice;
+
+static int size_of(choice blocks)
+{
+    int n = 0;
+    for (; blocks != 0; blocks = (choice)(blocks / 2))
+        n += blocks % 2;
+    return n;
+}
+
+/* With the raster of the window's records: for each record that has a pixel in the window, the blocks that bring it. */
+static size_t blocks_that_bring(const map *a, window at, const uint32_t *blocks, size_t n, choice *bring)
+{
+    static uint32_t block_raster[FEW_PIXELS];
+    static choice of_record[MOST_RECORDS];
+    size_t n_bring = 0;
+    require(reference_raster(a->m, blocks, n, at, block_raster), "the maximal blocks do not have each pixel once");
+    for (size_t i = 0; i < a->q; i++)
+        of_record[i] = 0;
+    for (size_t p = 0; p < (size_t)at.h * at.w; p++)
+        of_record[raster[p]] |= (choice)(1 << block_raster[p]);
+    for (size_t i = 0; i < a->q; i++) {
+        bool is_new = of_record[i] != 0;
+        for (size_t k = 0; k < n_bring; k++)
+            is_new = is_new && bring[k] != of_record[i];
+        if (is_new)
+            bring[n_bring++] = of_record[i];
+    }
+    return n_bring;
+}
+
+static bool brings_all(choice blocks, const choice *bring, size_t n_bring)
+{
+    for (size_t k = 0; k < n_bring; k++)
+        if ((blocks & bring[k]) == 0)
+            return false;
+    return true;
+}
+
+static void require_fewest(const map *a, window at, size_t openings)
+{
+    static choice bring[1 << FEW_BLOCKS];
+    uint32_t blocks[FEW_BLOCKS];
+    if ((size_t)at.h * at.w > FEW_PIXELS)
+        return;
+    lutniorad_answer list = reference_decompose(a->m, at.r0, at.c0, at.h, at.w, blocks, FEW_BLOCKS);
+    if (list.refusal != 0)
+        return; /* there are more blocks */
+    size_t n_bring = blocks_that_bring(a, at, blocks, list.first, bring);
+    for (size_t k = 0; k < (size_t)1 << list.first; k++)
+        if (size_of((choice)k) < (int)openings)
+            require(!brings_all((choice)k, bring, n_bring), "fewer maximal blocks would bring all records");
+}
+
+void require_opened(const map *a, window at, lutniorad_answer answer, const uint32_t *openings)
+{
+    static bool handed_out[MOST_RECORDS];
+    require_maximal(a->m, at, openings, 3, answer.first);
+    size_t records = mark_handed_out(a->q, openings, answer.first, handed_out);
+    require(records == answer.second, "the openings hand out another number of records than the answer says");
+    require(reference_raster(a->m, a->keys, a->q, at, raster), "a sound map does not paint every pixel once");
+    require_just_these(a->q, at, handed_out);
+    require_fewest(a, at, answer.first);
+}

@@ -1,0 +1,20 @@
+/*
+ * What is promised of windows, asked of the library's own answers: each of these looks at what the last call left, and
+ * not at what the independent program made of it. Where a promise is not kept, the program shows the call and ends.
+ */
+#ifndef PROMISES_H
+#define PROMISES_H
+
+#include "maps.h"
+#include "reference.h"
+
+/* n keys, from decomposing a window: fewer than 4(w + h) maximal blocks, and each pixel of the window in just one. */
+void require_decomposed(uint32_t m, window at, const uint32_t *keys, size_t n);
+
+/*
+ * The openings of a window on a sound map: fewer than 4(w + h) of them, each at a maximal block; each record with a
+ * pixel in the window handed out once, and no other; as many as the answer says; and no fewer blocks bring them all.
+ */
+void require_opened(const map *a, window at, lutniorad_answer answer, const uint32_t *openings);
+
+#endif

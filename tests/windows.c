@@ -1,0 +1,565 @@
+#include "windows.h"
+
+#include "harness.h"
+#include "maps.h"
+#include "promises.h"
+
+#include <inttypes.h>
+#include <stdio.h>
+#include <string.h>
+
+/* ---- The case at hand, and its calls ---- */
+
+/* A sound map, and one that need not be sound. */
+static map sound, damaged;
+
+static lutniorad_answer compare_decompose(uint32_t m, window at, size_t n_out)
+{
+    call c = {&DECOMPOSE, m, at, {{NULL, n_out}}};
+    lutniorad_answer answer = compare(c);
+    if (answer.refusal == 0)
+        require_decomposed(m, at, left(0), answer.first);
+    return answer;
+}
+
+/* The map's slices may be longer than the map, or shorter. */
+static lutniorad_answer compare_slices_open(const map *a, size_t n_keys, size_t n_classes, window at, size_t n_border,
+                                            size_t n_out)
+{
+    call c = {&OPEN, a->m, at, {{a->keys, n_keys}, {a->classes, n_classes}, {NULL, n_border}, {NULL, n_out}}};
+    lutniorad_answer answer = compare(c);
+    if (answer.refusal == 0)
+        require_opened(a, at, answer, left(3));
+    return answer;
+}
+
+static lutniorad_answer compare_open(const map *a, window at, size_t n_border, size_t n_out)
+{
+    return compare_slices_open(a, a->q, a->q, at, n_border, n_out);
+}
+
+/* Cells that are always enough for decomposing a window. An opening takes three times as many. */
+static size_t enough(window at)
+{
+    return 4 * ((size_t)at.w + at.h);
+}
+
+/* Both operations on slices that are long enough. The cells that the openings take are returned. */
+static size_t try_window(const map *a, window at)
+{
+    compare_decompose(a->m, at, enough(at));
+    return 3 * (size_t)compare_open(a, at, at.w, 3 * enough(at)).first;
+}
+
+/* ---- Group: windows written out ---- */
+
+/* The window of the reference case. */
+static const window REFERENCE_WINDOW = {0, 1, 3, 3};
+
+enum { MOST_STATED = 12 };
+
+static const struct {
+    uint32_t m;
+    window at;
+    size_t n_out;
+    lutniorad_answer answer;
+    uint32_t keys[MOST_STATED];
+} stated_blocks[] = {
+    {2, {0, 1, 3, 3}, 6, {0, 0, 6, 0}, {7, 10, 9, 17, 21, 22}},
+    {2, {0, 1, 3, 3}, 5, {8, 6, 0, 0}, {0}},
+    {2, {0, 0, 4, 4}, 1, {0, 0, 1, 0}, {0}},
+    {2, {0, 0, 4, 4}, 0, {8, 1, 0, 0}, {0}},
+    {2, {2, 0, 2, 1}, 2, {0, 0, 2, 0}, {16, 18}},
+    {2, {2, 0, 3, 1}, 2, {6, 0, 0, 0}, {0}},
+    {2, {1, 2, 1, 1}, 1, {0, 0, 1, 0}, {13}},
+    {2, {1, 1, 2, 2}, 4, {0, 0, 4, 0}, {9, 13, 17, 21}},
+    {2, {0, 0, 4, 3}, 6, {0, 0, 6, 0}, {5, 11, 13, 15, 21, 23}},
+    {0, {0, 0, 1, 1}, 1, {0, 0, 1, 0}, {0}},
+    {0, {0, 0, 1, 2}, 1, {6, 0, 0, 0}, {0}},
+    {12, {0, 0, 4096, 4096}, 1, {0, 0, 1, 0}, {0}},
+    {12, {4095, 4095, 1, 1}, 1, {0, 0, 1, 0}, {244140624}},
+    {12, {2048, 2048, 2048, 2048}, 1, {0, 0, 1, 0}, {195312500}},
+    {12, {0, 0, 4097, 1}, 1, {6, 0, 0, 0}, {0}},
+    {12, {4095, 0, 2, 1}, 2, {6, 0, 0, 0}, {0}},
+    {12, {65535, 0, 1, 1}, 1, {6, 0, 0, 0}, {0}},
+    {13, {0, 0, 1, 1}, 1, {1, 0, 0, 0}, {0}},
+    {13, {0, 0, 0, 0}, 0, {1, 0, 0, 0}, {0}},
+};
+
+static void stated_decomposition(size_t i)
+{
+    lutniorad_answer stated = stated_blocks[i].answer;
+    require_stated(compare_decompose(stated_blocks[i].m, stated_blocks[i].at, stated_blocks[i].n_out), stated);
+    require(memcmp(left(0), stated_blocks[i].keys, stated.first * sizeof *stated_blocks[i].keys) == 0,
+            "other keys than those written out");
+}
+
+/* On the reference map; at m = 0 on the map of one pixel. All border cells have the same number in the end. */
+static const struct {
+    uint32_t m;
+    window at;
+    size_t n_border, n_out;
+    lutniorad_answer answer;
+    uint32_t openings[MOST_STATED];
+    uint16_t border; /* 0 where it is not written */
+} stated_openings[] = {
+    {2, {0, 1, 3, 3}, 3, 12, {0, 0, 4, 7}, {7, 0, 1, 10, 1, 4, 17, 5, 1, 21, 6, 1}, 3},
+    {2, {0, 1, 3, 3}, 2, 12, {7, 3, 0, 0}, {0}, 0},
+    {2, {0, 1, 3, 3}, 3, 11, {8, 12, 0, 0}, {0}, 3},
+    {2, {0, 1, 3, 3}, 2, 11, {7, 3, 0, 0}, {0}, 0},
+    {2, {0, 0, 4, 4}, 4, 3, {0, 0, 1, 7}, {0, 0, 7}, 4},
+    {2, {0, 0, 4, 4}, 4, 2, {8, 3, 0, 0}, {0}, 4},
+    {2, {2, 0, 2, 1}, 1, 3, {0, 0, 1, 1}, {16, 5, 1}, 4},
+    {2, {2, 0, 3, 1}, 1, 3, {6, 0, 0, 0}, {0}, 0},
+    {2, {1, 1, 2, 2}, 2, 12, {0, 0, 4, 4}, {9, 0, 1, 13, 3, 1, 17, 5, 1, 21, 6, 1}, 3},
+    {2, {0, 0, 2, 4}, 4, 6, {0, 0, 2, 5}, {5, 0, 1, 10, 1, 4}, 2},
+    {2, {0, 1, 3, 0}, 3, 12, {6, 0, 0, 0}, {0}, 0},
+    {2, {0, 1, 3, 0}, 0, 0, {6, 0, 0, 0}, {0}, 0},
+    {2, {65535, 0, 1, 1}, 1, 3, {6, 0, 0, 0}, {0}, 0},
+    {13, {0, 1, 3, 3}, 3, 12, {1, 0, 0, 0}, {0}, 0},
+    {0, {0, 0, 1, 1}, 1, 3, {0, 0, 1, 1}, {0, 0, 1}, 1},
+    {0, {0, 0, 1, 1}, 1, 2, {8, 3, 0, 0}, {0}, 1},
+    {0, {0, 0, 1, 1}, 0, 3, {7, 1, 0, 0}, {0}, 0},
+};
+
+static void stated_opening(size_t i)
+{
+    if (stated_openings[i].m == 0)
+        make_picture(&sound, 0, 0);
+    else
+        make_reference_map(&sound);
+    sound.m = stated_openings[i].m;
+    lutniorad_answer stated = stated_openings[i].answer;
+    require_stated(compare_open(&sound, stated_openings[i].at, stated_openings[i].n_border, stated_openings[i].n_out),
+                   stated);
+    require(memcmp(left(3), stated_openings[i].openings, 3 * stated.first * sizeof(uint32_t)) == 0,
+            "other openings than those written out");
+    const uint16_t *border = left(2);
+    for (size_t k = 0; stated_openings[i].border != 0 && k < stated_openings[i].at.w; k++)
+        require(border[k] == stated_openings[i].border, "another border than the one written out");
+}
+
+/* One record more than a map may have. */
+static void stated_most_records(void)
+{
+    make_map(&sound, 8, EVEN, most_cuts(8));
+    window at = {7, 9, 1, 1};
+    require_numbers(compare_slices_open(&sound, 65537, 65537, at, 1, 3), 2, 0, 0, 0);
+    require_numbers(compare_slices_open(&sound, 65536, 65536, at, 1, 3), 0, 0, 1, 1);
+}
+
+void group_windows_written_out(void)
+{
+    for (size_t i = 0; i < COUNT(stated_blocks); i++)
+        if (begin_case())
+            stated_decomposition(i);
+    for (size_t i = 0; i < COUNT(stated_openings); i++)
+        if (begin_case())
+            stated_opening(i);
+    if (begin_case())
+        stated_most_records();
+}
+
+/* ---- Group: small windows ---- */
+
+/* Each of the four numbers from 0 on to one beyond the side. */
+static size_t n_small_windows(uint32_t m)
+{
+    size_t values = side_of(m) + (size_t)2;
+    return values * values * values * values;
+}
+
+static window small_window(uint32_t m, size_t number)
+{
+    size_t values = side_of(m) + (size_t)2;
+    window at = {(uint16_t)(number % values), (uint16_t)(number / values % values),
+                 (uint16_t)(number / values / values % values), (uint16_t)(number / values / values / values)};
+    return at;
+}
+
+/* A length that is too short by one, or 0 if it would be less. */
+static size_t too_short(size_t length)
+{
+    return length > 0 ? length - 1 : 0;
+}
+
+/* How many cells a window needs is found with a slice that is long enough; where the window is refused, it is none. */
+static void decompose_with_every_length(uint32_t m, window at)
+{
+    size_t n = compare_decompose(m, at, enough(at)).first;
+    const size_t lengths[] = {0, too_short(n), n, n + 5};
+    for (size_t i = 0; i < (n == 0 ? 1 : COUNT(lengths)); i++)
+        compare_decompose(m, at, lengths[i]);
+}
+
+static void open_with_every_length(const map *a, window at)
+{
+    size_t n = 3 * (size_t)compare_open(a, at, at.w, 3 * enough(at)).first;
+    const size_t borders[] = {0, too_short(at.w), at.w, at.w + (size_t)3};
+    const size_t lengths[] = {0, too_short(n), n, n + 5};
+    for (size_t i = 0; i < (n == 0 ? 1 : COUNT(borders) * COUNT(lengths)); i++)
+        compare_open(a, at, borders[i % COUNT(borders)], lengths[i / COUNT(borders)]);
+}
+
+/* On a small map. */
+static void open_every_window(void)
+{
+    for (size_t number = 0; number < n_small_windows(sound.m); number++)
+        open_with_every_length(&sound, small_window(sound.m, number));
+}
+
+/* On so many maps, each some other one. */
+static void open_on_some_maps(uint32_t m, window at, size_t maps)
+{
+    if (compare_decompose(m, at, enough(at)).refusal != 0)
+        return;
+    for (size_t i = 0; i < maps; i++) {
+        make_map(&sound, m, (shape)below(SHAPES), below(most_cuts(m) + 1));
+        compare_open(&sound, at, at.w, 3 * enough(at));
+    }
+}
+
+void group_small_windows(void)
+{
+    for (uint32_t m = 0; m <= 3; m++)
+        for (size_t number = 0; number < n_small_windows(m); number++)
+            if (begin_case())
+                decompose_with_every_length(m, small_window(m, number));
+    for_small_maps(&sound, open_every_window, 1);
+    for (uint32_t m = 3; m <= 4; m++)
+        for (size_t number = 0; number < n_small_windows(m); number++)
+            if (begin_case())
+                open_on_some_maps(m, small_window(m, number), m == 3 ? 8 : 1);
+}
+
+/* ---- Group: refusals of windows ---- */
+
+/* Right ones, empty ones, ones that stick out by one or by far, and ones whose end wraps round in 16 bits. */
+static const window chosen_windows[] = {
+    {0, 1, 3, 3},         {0, 0, 4, 4},         {3, 3, 1, 1},         {0, 1, 3, 0},
+    {0, 1, 0, 3},         {0, 0, 0, 0},         {4, 0, 0, 1},         {0, 1, 3, 4},
+    {2, 1, 3, 3},         {4, 0, 1, 1},         {0, 4, 1, 1},         {0, 0, 5, 1},
+    {0, 0, 1, 5},         {65535, 0, 1, 1},     {0, 65535, 1, 1},     {65535, 0, 2, 1},
+    {0, 65535, 1, 2},     {0, 0, 65535, 1},     {0, 0, 1, 65535},     {1, 0, 65535, 1},
+    {0, 1, 1, 65535},     {2, 0, 65535, 1},     {0, 2, 1, 65535},     {65533, 0, 3, 3},
+    {0, 65533, 3, 3},     {32768, 0, 32768, 1}, {0, 32768, 1, 32768}, {65535, 65535, 65535, 65535},
+    {65535, 65535, 0, 0}, {256, 256, 1, 1},     {4096, 0, 1, 1},      {0, 4095, 1, 1},
+    {4095, 0, 1, 2},      {4095, 4095, 1, 1},
+};
+
+/* The third key of the reference map as it is, and such that the map is refused by 3, by 4 and by 5. */
+static const uint32_t third_keys[] = {12, 1, 5, 13};
+
+static const uint32_t chosen_ms[] = {2, 0, 1, 3, 12, 13, 258, 65538, UINT32_MAX};
+
+/* Each reason with each other: m, the slices' lengths, the records, the window, the border and the answer slice. */
+static void open_with_reasons_together(window at)
+{
+    static const size_t lengths[][2] = {{7, 7}, {6, 7}, {7, 6}, {8, 8}, {6, 6}, {0, 0}};
+    static const size_t borders[] = {0, 2, 3};
+    static const size_t outs[] = {0, 11, 12};
+    make_reference_map(&damaged);
+    damaged.keys[REFERENCE_Q] = 20; /* a record more, for the slices that are longer than the map */
+    damaged.classes[REFERENCE_Q] = 2;
+    for (size_t key = 0; key < COUNT(third_keys); key++)
+        for (size_t k = 0; k < COUNT(chosen_ms) * COUNT(lengths); k++)
+            for (size_t i = 0; i < COUNT(borders) * COUNT(outs); i++) {
+                const size_t *n = lengths[k / COUNT(chosen_ms)];
+                damaged.keys[2] = third_keys[key];
+                damaged.m = chosen_ms[k % COUNT(chosen_ms)];
+                compare_slices_open(&damaged, n[0], n[1], at, borders[i % COUNT(borders)], outs[i / COUNT(borders)]);
+            }
+}
+
+static void decompose_with_reasons_together(window at)
+{
+    for (uint32_t m = 0; m <= 13; m++)
+        for (size_t n_out = 0; n_out <= 7; n_out++)
+            compare_decompose(m, at, n_out);
+    for (size_t i = 0; i < COUNT(chosen_ms); i++)
+        compare_decompose(chosen_ms[i], at, 6);
+}
+
+void group_window_refusals(void)
+{
+    for (size_t i = 0; i < COUNT(chosen_windows); i++)
+        if (begin_case()) {
+            open_with_reasons_together(chosen_windows[i]);
+            decompose_with_reasons_together(chosen_windows[i]);
+        }
+}
+
+/* ---- Group: lengths of borders and answers ---- */
+
+static void every_border_and_answer(window at)
+{
+    make_reference_map(&sound);
+    for (size_t n_border = 0; n_border <= at.w + (size_t)4; n_border++)
+        for (size_t n_out = 0; n_out <= 3 * enough(at); n_out++)
+            compare_open(&sound, at, n_border, n_out);
+    for (size_t n_out = 0; n_out <= enough(at); n_out++)
+        compare_decompose(sound.m, at, n_out);
+}
+
+void group_window_lengths(void)
+{
+    static const window windows[] = {{0, 1, 3, 3}, {0, 0, 4, 4}, {1, 1, 2, 2}, {2, 0, 2, 1}, {3, 0, 1, 4}};
+    for (size_t i = 0; i < COUNT(windows); i++)
+        if (begin_case())
+            every_border_and_answer(windows[i]);
+}
+
+/* ---- Group: windows on damaged maps ---- */
+
+/* Inside and outside, on a border and an answer slice that are long enough and that are too short. */
+static void open_damaged(void)
+{
+    const window windows[] = {whole_picture(damaged.m), {0, 0, 1, 1}, {0, 0, 0, 1}, {65535, 0, 1, 1}};
+    for (size_t i = 0; i < COUNT(windows); i++) {
+        compare_open(&damaged, windows[i], windows[i].w, 3 * enough(windows[i]));
+        compare_open(&damaged, windows[i], 0, 0);
+    }
+}
+
+static void open_every_damage(void)
+{
+    for (size_t i = 0; i < sound.q; i++)
+        for (size_t k = 0; k < n_damages; k++) {
+            copy_map(&damaged, &sound);
+            damage(&damaged, k, i);
+            open_damaged();
+        }
+}
+
+void group_windows_on_damaged_maps(void)
+{
+    for_small_maps(&sound, open_every_damage, 1);
+}
+
+/* ---- Group: vast borders and answers ---- */
+
+/* Of the reference window, whose border takes 3 cells, its openings 12 and its maximal blocks 6. */
+static const struct {
+    const operation *operation;
+    size_t n_keys, n_classes, n_border, n_out;
+    lutniorad_answer answer;
+} vast_windows[] = {
+    {&OPEN, 7, 7, VAST, 12, {0, 0, 4, 7}},
+    {&OPEN, 7, 7, VAST + 2, 12, {0, 0, 4, 7}},
+    {&OPEN, 7, 7, 3, VAST, {0, 0, 4, 7}},
+    {&OPEN, 7, 7, 3, VAST + 11, {0, 0, 4, 7}},
+    {&OPEN, 7, 7, VAST + 2, VAST + 11, {0, 0, 4, 7}},
+    {&OPEN, 7, 7, VAST - 1, VAST - 1, {0, 0, 4, 7}},
+    {&OPEN, 7, 7, 65536, 65536, {0, 0, 4, 7}},
+    {&OPEN, 7, 7, 65538, 65547, {0, 0, 4, 7}},
+    {&OPEN, 7, 7, VAST + 3, 11, {8, 12, 0, 0}},
+    {&OPEN, 7, 7, 2, VAST + 12, {7, 3, 0, 0}},
+    {&OPEN, VAST + 7, VAST + 7, 3, 12, {2, 0, 0, 0}},
+    {&OPEN, VAST + 7, 7, 3, 12, {2, 0, 0, 0}},
+    {&OPEN, 7, VAST + 7, 3, 12, {2, 0, 0, 0}},
+    {&DECOMPOSE, 0, 0, 0, VAST, {0, 0, 6, 0}},
+    {&DECOMPOSE, 0, 0, 0, VAST + 5, {0, 0, 6, 0}},
+    {&DECOMPOSE, 0, 0, 0, VAST - 1, {0, 0, 6, 0}},
+    {&DECOMPOSE, 0, 0, 0, 65536, {0, 0, 6, 0}},
+    {&DECOMPOSE, 0, 0, 0, 65541, {0, 0, 6, 0}},
+};
+
+static void vast_window(size_t i)
+{
+    make_reference_map(&sound);
+    lutniorad_answer answer =
+        vast_windows[i].operation == &DECOMPOSE
+            ? compare_decompose(sound.m, REFERENCE_WINDOW, vast_windows[i].n_out)
+            : compare_slices_open(&sound, vast_windows[i].n_keys, vast_windows[i].n_classes, REFERENCE_WINDOW,
+                                  vast_windows[i].n_border, vast_windows[i].n_out);
+    require_stated(answer, vast_windows[i].answer);
+}
+
+void group_vast_windows(void)
+{
+    for (size_t i = 0; i < COUNT(vast_windows); i++)
+        if (begin_case())
+            vast_window(i);
+}
+
+/* ---- Group: large windows ---- */
+
+enum { THIN_WINDOWS = 8 };
+
+/* One row or column at an edge of the picture, beside one, and in the middle; and single pixels in the corners. */
+static window thin_window(uint32_t m, size_t number)
+{
+    const uint16_t side = side_of(m), last = (uint16_t)(side - 1), middle = (uint16_t)(side / 2);
+    const window windows[THIN_WINDOWS] = {
+        {0, 0, 1, side},    {last, 1, 1, last}, {(uint16_t)(middle - 1), 0, 2, last},
+        {0, 0, side, 1},    {1, last, last, 1}, {0, middle, side, 2},
+        {last, last, 1, 1}, {last, 0, 1, 1},
+    };
+    return windows[number];
+}
+
+enum { WIDE_WINDOWS = 5 };
+
+/* The whole picture, and all of it but a row or a column at some edges. */
+static window wide_window(uint32_t m, size_t number)
+{
+    const uint16_t side = side_of(m), less = (uint16_t)(side - 1), least = (uint16_t)(side - 2);
+    const window windows[WIDE_WINDOWS] = {
+        {0, 0, side, side}, {1, 1, least, least}, {0, 0, less, less}, {1, 1, less, less}, {1, 0, least, less},
+    };
+    return windows[number];
+}
+
+/* On the map at hand, and with slices that are too short as well. */
+static void large_window(window at)
+{
+    size_t n = try_window(&sound, at);
+    compare_open(&sound, at, at.w, n - 1);
+    compare_open(&sound, at, too_short(at.w), n);
+}
+
+void group_large_windows(void)
+{
+    for (shape how = DEEP; how < SHAPES; how++)
+        for (size_t number = 0; number < THIN_WINDOWS; number++)
+            for (uint32_t m = 8; m <= 12; m += 4)
+                if (begin_case()) {
+                    make_map(&sound, m, how, most_cuts(8));
+                    large_window(thin_window(m, number));
+                }
+    for (shape how = DEEP; how < SHAPES; how++)
+        for (size_t number = 0; number < WIDE_WINDOWS; number++)
+            if (begin_case()) {
+                make_map(&sound, 8, how, most_cuts(8));
+                large_window(wide_window(8, number));
+            }
+    for (size_t number = 0; number < WIDE_WINDOWS; number++)
+        if (begin_case()) {
+            make_map_around(&sound, 12, wide_window(12, number), number % 2 == 0 ? 2 : 0);
+            try_window(&sound, wide_window(12, number));
+        }
+    if (begin_case()) {
+        make_map(&sound, 12, RAGGED, most_cuts(8));
+        try_window(&sound, whole_picture(12));
+    }
+}
+
+/* ---- Group: random windows ---- */
+
+/* A window on the map at hand: on slices that are long enough, on some that may not be, and on the map damaged. */
+static void try_window_at_random(window at)
+{
+    size_t n = try_window(&sound, at);
+    size_t n_border = near_length(at.w);
+    compare_open(&sound, at, n_border, near_length(n));
+    copy_map(&damaged, &sound);
+    damage_at_random(&damaged);
+    compare_open(&damaged, at, at.w, n);
+}
+
+/* On some map, on one made for the window, and on one made for another window. */
+static void random_windows(void)
+{
+    enum { MOST_RANDOM_PIXELS = 1 << 16 };
+    make_random_map(&sound);
+    for (int i = 0; i < 4; i++) {
+        window at = random_window(sound.m, MOST_RANDOM_PIXELS);
+        window other = random_window(sound.m, MOST_RANDOM_PIXELS);
+        if (i >= 2)
+            make_map_around(&sound, sound.m, i == 2 ? at : other, (uint32_t)below(4));
+        try_window_at_random(at);
+    }
+}
+
+/* Pictures that are small enough for many windows, some of which stick out. */
+static void random_small_windows(void)
+{
+    uint32_t m = 3 + (uint32_t)below(3);
+    make_map(&sound, m, (shape)below(SHAPES), below((most_cuts(m) >> below(8)) + 1));
+    for (int i = 0; i < 16; i++) {
+        window at = random_window(m, (size_t)1 << 2 * m);
+        size_t n = try_window(&sound, at);
+        at.h = (uint16_t)near_length(at.h);
+        at.w = (uint16_t)near_length(at.w);
+        size_t n_border = near_length(at.w);
+        compare_open(&sound, at, n_border, near_length(n));
+    }
+}
+
+void group_random_windows(void)
+{
+    for (int i = 0; i < 300; i++)
+        if (begin_case())
+            random_windows();
+    for (int i = 0; i < 1000; i++)
+        if (begin_case())
+            random_small_windows();
+}
+
+/* ---- Group: the walk ---- */
+
+/* The side of a key's block at m = 12: each zero at the key's end doubles it. The whole picture is all zeros. */
+static size_t side_of_block(uint32_t key)
+{
+    size_t side = 1;
+    for (int i = 0; i < 12 && key % 5 == 0; i++) {
+        key /= 5;
+        side *= 2;
+    }
+    return side;
+}
+
+/*
+ * The walk through the maximal blocks comes to a block once in each row that crosses it, and to the end of each row:
+ * the first as often as the sides of the blocks add up to. That has to be about (w + h) log T, and not w x h.
+ */
+static void count_steps(window at)
+{
+    uint32_t n = compare_decompose(12, at, enough(at)).first;
+    const uint32_t *keys = left(0);
+    size_t steps = 0;
+    for (uint32_t i = 0; i < n; i++)
+        steps += side_of_block(keys[i]);
+    require(steps <= 2 * 12 * ((size_t)at.w + at.h), "a walk of too many steps");
+    printf("walk over window %d %d %d %d at m = 12: %" PRIu32 " blocks, %zu steps and %d ends of rows\n", at.r0, at.c0,
+           at.h, at.w, n, steps, at.h);
+}
+
+void group_walk(void)
+{
+    const window windows[] = {whole_picture(12), {0, 0, 4095, 4095}, {1, 1, 4095, 4095}, {1, 1, 4094, 4094}};
+    for (size_t i = 0; i < COUNT(windows); i++)
+        if (begin_case())
+            count_steps(windows[i]);
+}
+
+/* ---- Group: the stack ---- */
+
+/* Every operation on the map at hand, and on some windows of it. */
+static void call_everything(void)
+{
+    static uint8_t file[ROOM_FOR_FILE];
+    size_t n = make_file(file, &sound);
+    call check = {&CHECK, sound.m, NO_WINDOW, {{sound.keys, sound.q}, {sound.classes, sound.q}}};
+    call write = {&WRITE, sound.m, NO_WINDOW, {{sound.keys, sound.q}, {sound.classes, sound.q}, {NULL, n}}};
+    call read = {&READ, 0, NO_WINDOW, {{file, n}, {NULL, sound.q}, {NULL, sound.q}}};
+    require_numbers(compare(check), 0, 0, (uint32_t)sound.q, 0);
+    require_numbers(compare(write), 0, 0, (uint32_t)n, 0);
+    require_numbers(compare(read), 0, 0, sound.m, (uint32_t)sound.q);
+    for (size_t i = 0; i < THIN_WINDOWS; i++)
+        try_window(&sound, thin_window(sound.m, i));
+    for (int i = 0; i < 4; i++)
+        try_window(&sound, random_window(sound.m, (size_t)1 << 16));
+}
+
+void group_stack(void)
+{
+    watch_stack();
+    for (shape how = DEEP; how < SHAPES; how++)
+        for (uint32_t m = 8; m <= 12; m += 4)
+            if (begin_case()) {
+                make_map(&sound, m, how, most_cuts(8));
+                call_everything();
+            }
+    end_watch();
+}
