@@ -4,7 +4,7 @@ use mathlib.Core.Path.{_≡_, refl, sym, ap, _∙_}
 use mathlib.Core.Bool.{Bool, true, false}
 use mathlib.Core.List.{List, [], _∷_, _++_, append-assoc, map, List·Memᴰ, List·Memᴰ·head, List·Memᴰ·tail, List·Memᴰ·not-nil}
 use Prim.Native.Nat.{ℕ, _≤_}
-use native.Mathlib.Omega.{arith}
+use Rattle.answers.proofs.Tests.{never}
 use Rattle.window.specs.declared.Window.{Window}
 use Rattle.window.specs.Window.{Px, Inside}
 use Rattle.window.specs.Lists.{Ordered, none, more}
@@ -71,7 +71,7 @@ module _ {m top : ℕ} {keys : List ℕ} (F : Follow m 0 keys) {W : Window} (I :
       go : (t : Bool) → isHanded m keys handed k ≡ t → Chosen m top keys W after (openFrom m keys (handedWith m keys handed k) ks)
           → Chosen m top keys W (b ∷ after) (openFrom m keys handed (k ∷ ks))
       go true d O = rw (skip-opens m keys handed k ks d) (skipped (rw d at O))
-      go false d O = rw (take-opens m keys handed k ks d) (opened (λ o. let y = skip-test F I small before b after e .1 o in let z : _≡_ {A = ℕ} 0 1 = cc in omega arith) (rw d at O))
+      go false d O = rw (take-opens m keys handed k ks d) (opened (λ o. never (sym (skip-test F I small before b after e .1 o) ∙ d)) (rw d at O))
 
   pub chosen : Chosen m top keys W (maximal W top) (openings m top keys W)
   chosen = rw (openings-are m top keys W, ← hands-none m keys []) (chosen-from [] (maximal W top) refl)

@@ -134,27 +134,26 @@ fn pass(
     requires { ⌜ (now table ≡ spreads) × Usable m top (now keys) window (length (now border)) ⌝ }
     ensures { λ r. ⌜ Passed m top (now (keys .entry)) window (now (border .entry)) (now (out .entry)) r (now (border .exit)) (now (out .exit)) ⌝ }
 {
-    let w = window.w as usize;
-    fill(border, 0, w, window.r0);
-    let mut row = window.r0;
-    let mut col = window.c0;
+    fill(border, 0, window.w as usize, window.r0);
+    let mut r = window.r0;
+    let mut c = window.c0;
     let mut openings: u32 = 0;
     let mut records: u32 = 0;
     loop {
-        let next = window::next_block(window, top, row, col);
+        let next = window::next_block(window, top, r, c);
         let Next::Block {
-            row: r,
-            col: c,
+            row,
+            col,
             exponent,
             after,
         } = next
         else {
             return Totals { openings, records };
         };
-        row = r;
-        col = after;
-        let key = key::block_key(table, m, exponent, r, c);
-        let stepped = step(m, top, keys, window, r, c, exponent, key, border);
+        r = row;
+        c = after;
+        let key = key::block_key(table, m, exponent, row, col);
+        let stepped = step(m, top, keys, window, row, col, exponent, key, border);
         if let Stepped::Opened { first, count } = stepped {
             put_opening(out, openings, key, first, count);
             openings += 1;

@@ -15,7 +15,7 @@ use Rattle.window.specs.Window.{Px, In}
 use Rattle.window.specs.Blocks.{floor, Fits, fits, exponent, corner}
 use Rattle.window.specs.Walk.{Largest}
 use Rattle.window.proofs.Dyadic.{floor-mod, aligned-down, fits-down, fits-in}
-use Rattle.window.proofs.Homes.{fits-is, exponent-le, exponent-fits, exponent-max}
+use Rattle.window.proofs.Blocks.{fits-is, exponent-le, exponent-fits, exponent-max}
 
 -- ---- the largest block: aligned, and made smaller until there is room for it
 

@@ -2,7 +2,7 @@
 -- north, south, west or east edge, since the next larger block sticks out there. At one edge a block is known by its middle along the edge,
 -- twice which is 2 x + 2 ^ e: a number of w (or h) columns' width, so it takes fewer than 2 w (or 2 h) values.
 -- Assumes nothing.
-use mathlib.Core.Path.{_≡_, sym, ap, _∙_}
+use mathlib.Core.Path.{_≡_, refl, sym, ap, _∙_}
 use mathlib.Core.Logic.{_⊎_, inl, inr}
 use mathlib.Core.List.{List·Memᴰ}
 use Prim.Native.Nat.{ℕ, zero, suc, _+_, _-_, _*_, _^_, _≤_, _<_}
@@ -18,7 +18,7 @@ use Rattle.window.specs.Window.{Px, Inside}
 use Rattle.window.specs.Blocks.{floor, Fits, exponent, corner, maximal}
 use Rattle.window.proofs.Lists.{ordered-imp, pigeon}
 use Rattle.window.proofs.Dyadic.{floor-eq, floor-add, aligned-down, nested, Nested}
-use Rattle.window.proofs.Homes.{exponent-le, exponent-fits, exponent-max}
+use Rattle.window.proofs.Blocks.{exponent-le, exponent-fits, exponent-max}
 use Rattle.window.proofs.Listed.{before-irrefl, listed→, listed-ordered}
 
 -- ---- aligned numbers
@@ -51,54 +51,75 @@ along i j x y x′ y′ ax ay ax′ ay′ e f =
     let g = f q in
     (omega arith, close i ay (rw d ay′) (g .0) (g .1))
 
+-- ---- one axis across an edge of the window, and one along it
+
+-- of n numbers from a on, the block of side 2 ^ i that begins at x
+record On (i a n x : ℕ) : Type 0 where
+  aligned : floor i x ≡ x
+  low : a ≤ x
+  high : x + 2 ^ i ≤ a + n
+
+-- A block begins at y across and at x along. It stands within its side of the near edge or of the far one, and k tells which, and where along it.
+data Stands (a n c w i y x k : ℕ) : Type 0 where
+  near : y < a + 2 ^ i → suc k + 2 * c ≡ 2 * x + 2 ^ i → Stands a n c w i y x k
+  far : a + n < y + 2 * 2 ^ i → suc k + 2 * c ≡ 2 * w + (2 * x + 2 ^ i) → Stands a n c w i y x k
+
+module _ {a n c w i y x : ℕ} (u : On i a n y) (v : On i c w x) where
+  stands-less : {k : ℕ} → Stands a n c w i y x k → suc k < 4 * w
+  stands-less (near h e) = omega (arith, u, v, pow-pos i)
+  stands-less (far h e) = omega (arith, u, v, pow-pos i)
+
+  stands-one : {j y′ x′ k : ℕ} → On j a n y′ → On j c w x′ → Stands a n c w i y x k → Stands a n c w j y′ x′ k → (x ≡ x′) × (y ≡ y′)
+  stands-one {j} {y′} {x′} u′ v′ (near h e) (near h′ e′) = along i j x y x′ y′ (v .aligned) (u .aligned) (v′ .aligned) (u′ .aligned) (omega arith) (λ q. omega (arith, u, u′))
+  stands-one {j} {y′} {x′} u′ v′ (far h e) (far h′ e′) = along i j x y x′ y′ (v .aligned) (u .aligned) (v′ .aligned) (u′ .aligned) (omega arith) (λ q. omega (arith, u, u′))
+  stands-one {j} u′ v′ (near h e) (far h′ e′) = absurd (omega (arith, v, v′, pow-pos i, pow-pos j))
+  stands-one {j} u′ v′ (far h e) (near h′ e′) = absurd (omega (arith, v, v′, pow-pos i, pow-pos j))
+
+  -- where the block of twice the side sticks out across
+  stands-some : ((a ≤ floor (suc i) y) × (floor (suc i) y + 2 ^ suc i ≤ a + n) → ⊥) → (k : ℕ) × Stands a n c w i y x k
+  stands-some out = go (decLe a (floor (suc i) y)) (decLe (floor (suc i) y + 2 ^ suc i) (a + n))
+    where
+      q : 2 ^ suc i ≡ 2 * 2 ^ i
+      q = pow-succ' 2 i
+
+      r : Nested i (suc i) y
+      r = nested i (suc i) y (omega arith)
+
+      go : Dec (a ≤ floor (suc i) y) → Dec (floor (suc i) y + 2 ^ suc i ≤ a + n) → (k : ℕ) × Stands a n c w i y x k
+      go (yes g) (yes h) = absurd (out (g, h))
+      go (no g) d = (2 * x + 2 ^ i - suc (2 * c), near (omega (arith, u, q, r)) (omega (arith, v, pow-pos i)))
+      go (yes g) (no h) = (2 * w + (2 * x + 2 ^ i) - suc (2 * c), far (omega (arith, u, q, r)) (omega (arith, v, pow-pos i)))
+
 -- ---- the code of a block
 
 module _ (W : Window) (top : ℕ) where
-  -- at which edge b stands, and where along it
+  -- at the north or south edge, or at the west or east one
   data Code (b : Px) (n : ℕ) : Type 0 where
-    north : b .0 < W .r0 + 2 ^ exponent W top b → suc n + 2 * W .c0 ≡ 2 * b .1 + 2 ^ exponent W top b → Code b n
-    south : W .r0 + W .h < b .0 + 2 * 2 ^ exponent W top b → suc n + 2 * W .c0 ≡ 2 * W .w + (2 * b .1 + 2 ^ exponent W top b) → Code b n
-    west : b .1 < W .c0 + 2 ^ exponent W top b → suc n + 2 * W .r0 ≡ 4 * W .w + (2 * b .0 + 2 ^ exponent W top b) → Code b n
-    east : W .c0 + W .w < b .1 + 2 * 2 ^ exponent W top b → suc n + 2 * W .r0 ≡ 4 * W .w + 2 * W .h + (2 * b .0 + 2 ^ exponent W top b) → Code b n
+    flat : Stands (W .r0) (W .h) (W .c0) (W .w) (exponent W top b) (b .0) (b .1) n → Code b n
+    tall : {k : ℕ} → n ≡ 4 * W .w + k → Stands (W .c0) (W .w) (W .r0) (W .h) (exponent W top b) (b .1) (b .0) k → Code b n
 
-  -- what is known of a listed block
+  -- a listed block, by its rows and by its columns
   record Known (b : Px) : Type 0 where
-    row : floor (exponent W top b) (b .0) ≡ b .0
-    col : floor (exponent W top b) (b .1) ≡ b .1
-    fits : Fits W (exponent W top b) b
-    pos : 0 < 2 ^ exponent W top b
+    rows : On (exponent W top b) (W .r0) (W .h) (b .0)
+    cols : On (exponent W top b) (W .c0) (W .w) (b .1)
 
   known : {b : Px} → List·Memᴰ b (maximal W top) → Known b
   unfolding corner
-  known {b} n =
-      let k = listed→ W top n in
-      record { row = ap (λ (p : Px). p .0) (k .1); col = ap (λ (p : Px). p .1) (k .1); fits = exponent-fits W top (k .0); pos = pow-pos _ }
-
-  flat : {b b′ : Px} → Known b → Known b′ → 2 * b .1 + 2 ^ exponent W top b ≡ 2 * b′ .1 + 2 ^ exponent W top b′
-      → (2 ^ exponent W top b ≡ 2 ^ exponent W top b′ → (b .0 < b′ .0 + 2 ^ exponent W top b) × (b′ .0 < b .0 + 2 ^ exponent W top b)) → b ≡ b′
-  flat {b} {b′} k k′ e f = let z = along _ _ (b .1) (b .0) (b′ .1) (b′ .0) (k .col) (k .row) (k′ .col) (k′ .row) e f in λ t. (z .1 t, z .0 t)
-
-  tall : {b b′ : Px} → Known b → Known b′ → 2 * b .0 + 2 ^ exponent W top b ≡ 2 * b′ .0 + 2 ^ exponent W top b′
-      → (2 ^ exponent W top b ≡ 2 ^ exponent W top b′ → (b .1 < b′ .1 + 2 ^ exponent W top b) × (b′ .1 < b .1 + 2 ^ exponent W top b)) → b ≡ b′
-  tall {b} {b′} k k′ e f = let z = along _ _ (b .0) (b .1) (b′ .0) (b′ .1) (k .row) (k .col) (k′ .row) (k′ .col) e f in λ t. (z .0 t, z .1 t)
+  known {b} l =
+      let k = listed→ W top l in
+      let r : floor (exponent W top b) (b .0) ≡ b .0 = ap (λ (p : Px). p .0) (k .1) in
+      let c : floor (exponent W top b) (b .1) ≡ b .1 = ap (λ (p : Px). p .1) (k .1) in
+      let f = exponent-fits W top (k .0) in
+      record { rows = omega (arith, f); cols = omega (arith, f) }
 
   code-one : {b b′ : Px} {n : ℕ} → Known b → Known b′ → Code b n → Code b′ n → b ≡ b′
-  code-one k k′ (north h e) (north h′ e′) = flat k k′ (omega arith) (omega arith)
-  code-one k k′ (north h e) (south h′ e′) = absurd (omega arith)
-  code-one k k′ (north h e) (west h′ e′) = absurd (omega arith)
-  code-one k k′ (north h e) (east h′ e′) = absurd (omega arith)
-  code-one k k′ (south h e) (north h′ e′) = absurd (omega arith)
-  code-one k k′ (south h e) (south h′ e′) = flat k k′ (omega arith) (omega arith)
-  code-one k k′ (south h e) (west h′ e′) = absurd (omega arith)
-  code-one k k′ (south h e) (east h′ e′) = absurd (omega arith)
-  code-one k k′ (west h e) (north h′ e′) = absurd (omega arith)
-  code-one k k′ (west h e) (south h′ e′) = absurd (omega arith)
-  code-one k k′ (west h e) (west h′ e′) = tall k k′ (omega arith) (omega arith)
-  code-one k k′ (west h e) (east h′ e′) = absurd (omega arith)
-  code-one k k′ (east h e) (north h′ e′) = absurd (omega arith)
-  code-one k k′ (east h e) (south h′ e′) = absurd (omega arith)
-  code-one k k′ (east h e) (west h′ e′) = absurd (omega arith)
-  code-one k k′ (east h e) (east h′ e′) = tall k k′ (omega arith) (omega arith)
+  code-one k k′ (flat s) (flat s′) = let z = stands-one (k .rows) (k .cols) (k′ .rows) (k′ .cols) s s′ in λ t. (z .1 t, z .0 t)
+  code-one k k′ (flat s) (tall e s′) = absurd (omega (arith, stands-less (k .rows) (k .cols) s))
+  code-one k k′ (tall e s) (flat s′) = absurd (omega (arith, stands-less (k′ .rows) (k′ .cols) s′))
+  code-one k k′ (tall {k = i} e s) (tall {k = j} e′ s′) =
+      let d : i ≡ j = omega arith in
+      let z = stands-one (k .cols) (k .rows) (k′ .cols) (k′ .rows) (rw d at s) s′ in
+      λ t. (z .0 t, z .1 t)
 
   -- the next larger block sticks out of the window
   sticks : {b : Px} → W .r0 + W .h ≤ 2 ^ top → ¬ Fits W (suc (exponent W top b)) b
@@ -108,35 +129,21 @@ module _ (W : Window) (top : ℕ) where
       go (inl e) = let g : 2 ^ exponent W top b ≡ 2 ^ top = ap (λ (x : ℕ). 2 ^ x) e in omega (arith, pow-succ' 2 (exponent W top b), pow-pos top)
       go (inr l) = omega (arith, exponent-max W top (suc (exponent W top b)) l f)
 
-  code-of : {b : Px} → W .r0 + W .h ≤ 2 ^ top → List·Memᴰ b (maximal W top)
-      → (n : ℕ) × List·Memᴰ n (upFrom 0 (4 * (W .w + W .h) - 1)) × Code b n
-  code-of {b} t l =
-      go (decLe (W .r0) (floor (suc e) (b .0))) (decLe (floor (suc e) (b .0) + 2 ^ suc e) (W .r0 + W .h))
-      (decLe (W .c0) (floor (suc e) (b .1))) (decLe (floor (suc e) (b .1) + 2 ^ suc e) (W .c0 + W .w))
+  code-of : {b : Px} → W .r0 + W .h ≤ 2 ^ top → Known b → (n : ℕ) × List·Memᴰ n (upFrom 0 (4 * (W .w + W .h) - 1)) × Code b n
+  code-of {b} t k = go (decLe (W .r0) (floor (suc e) (b .0))) (decLe (floor (suc e) (b .0) + 2 ^ suc e) (W .r0 + W .h))
     where
       e : ℕ
       e = exponent W top b
 
-      k : Known b
-      k = known l
+      across : ((W .r0 ≤ floor (suc e) (b .0)) × (floor (suc e) (b .0) + 2 ^ suc e ≤ W .r0 + W .h) → ⊥) → (n : ℕ) × List·Memᴰ n (upFrom 0 (4 * (W .w + W .h) - 1)) × Code b n
+      across out = let s = stands-some (k .rows) (k .cols) out in (s .0, up-in _ _ _ .1 (omega (arith, stands-less (k .rows) (k .cols) (s .1))), flat (s .1))
 
-      q : 2 ^ suc e ≡ 2 * 2 ^ e
-      q = pow-succ' 2 e
-
-      r : Nested e (suc e) (b .0)
-      r = nested e (suc e) (b .0) (omega arith)
-
-      c : Nested e (suc e) (b .1)
-      c = nested e (suc e) (b .1) (omega arith)
-
-      go : Dec (W .r0 ≤ floor (suc e) (b .0)) → Dec (floor (suc e) (b .0) + 2 ^ suc e ≤ W .r0 + W .h)
-          → Dec (W .c0 ≤ floor (suc e) (b .1)) → Dec (floor (suc e) (b .1) + 2 ^ suc e ≤ W .c0 + W .w)
-          → (n : ℕ) × List·Memᴰ n (upFrom 0 (4 * (W .w + W .h) - 1)) × Code b n
-      go (no g) y u v = (2 * b .1 + 2 ^ e - suc (2 * W .c0), up-in _ _ _ .1 (omega (arith, k)), north (omega (arith, k, q, r)) (omega (arith, k)))
-      go (yes x) (no g) u v = (2 * W .w + (2 * b .1 + 2 ^ e) - suc (2 * W .c0), up-in _ _ _ .1 (omega (arith, k)), south (omega (arith, k, q, r)) (omega (arith, k)))
-      go (yes x) (yes y) (no g) v = (4 * W .w + (2 * b .0 + 2 ^ e) - suc (2 * W .r0), up-in _ _ _ .1 (omega (arith, k)), west (omega (arith, k, q, c)) (omega (arith, k)))
-      go (yes x) (yes y) (yes u) (no g) = (4 * W .w + 2 * W .h + (2 * b .0 + 2 ^ e) - suc (2 * W .r0), up-in _ _ _ .1 (omega (arith, k)), east (omega (arith, k, q, c)) (omega (arith, k)))
-      go (yes x) (yes y) (yes u) (yes v) = absurd (sticks t (record { top = x; bottom = y; left = u; right = v }))
+      go : Dec (W .r0 ≤ floor (suc e) (b .0)) → Dec (floor (suc e) (b .0) + 2 ^ suc e ≤ W .r0 + W .h) → (n : ℕ) × List·Memᴰ n (upFrom 0 (4 * (W .w + W .h) - 1)) × Code b n
+      go (no g) d = across (λ h. g (h .0))
+      go (yes x) (no g) = across (λ h. g (h .1))
+      go (yes x) (yes y) =
+          let s = stands-some (k .cols) (k .rows) (λ h. sticks t (record { top = x; bottom = y; left = h .0; right = h .1 })) in
+          (4 * W .w + s .0, up-in _ _ _ .1 (omega (arith, stands-less (k .cols) (k .rows) (s .1))), tall refl (s .1))
 
   pub blocks-few : Inside top W → length (maximal W top) < 4 * (W .w + W .h)
   blocks-few I =
@@ -144,5 +151,5 @@ module _ (W : Window) (top : ℕ) where
         arith,
         up-length 0 (4 * (W .w + W .h) - 1),
         pigeon Code (upFrom 0 (4 * (W .w + W .h) - 1)) (ordered-imp (λ x y b. before-irrefl b) (listed-ordered W top))
-            (λ b l. code-of (I .bottom) l) (λ b b′ n l l′ x y. code-one (known l) (known l′) x y),
+            (λ b l. code-of (I .bottom) (known l)) (λ b b′ n l l′ x y. code-one (known l) (known l′) x y),
       )

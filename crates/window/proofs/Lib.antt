@@ -1,6 +1,6 @@
 mod Dyadic
 mod Lists
-mod Homes
+mod Blocks
 mod Listed
 mod Few
 mod Corners

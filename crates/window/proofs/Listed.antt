@@ -16,7 +16,7 @@ use Rattle.window.specs.Window.{Px, In}
 use Rattle.window.specs.Lists.{Ordered, none, more}
 use Rattle.window.specs.Blocks.{Same, exponent, corner, across, rows, isCorner, maximal, Before, above, beside}
 use Rattle.window.proofs.Lists.{keep-in, keep-true, in-keep, ordered-keep, ordered-append}
-use Rattle.window.proofs.Homes.{corner-in, corner-corner, same→corner, corner→same}
+use Rattle.window.proofs.Blocks.{corner-in, corner-corner, same→corner, corner→same}
 
 pub before-row : {p q : Px} → Before p q → p .0 ≤ q .0
 before-row (above h) = omega arith

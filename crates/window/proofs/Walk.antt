@@ -16,7 +16,7 @@ use Rattle.window.specs.Lists.{keep}
 use Rattle.window.specs.Blocks.{floor, Same, exponent, corner, across, rows, isCorner, maximal}
 use Rattle.window.specs.Walk.{Largest, Cursor, pixelsFrom, blocksFrom, Walked, Goes, block, end}
 use Rattle.window.proofs.Dyadic.{floor-le, floor-lt, floor-eq}
-use Rattle.window.proofs.Homes.{exponent-fits, same→corner, corner-col}
+use Rattle.window.proofs.Blocks.{exponent-fits, same→corner, corner-col}
 use Rattle.window.proofs.Listed.{corner-is}
 use Rattle.window.proofs.Corners.{largest-corner}
 
@@ -140,14 +140,15 @@ module _ {W : Window} {top : ℕ} {s : Px} where
         let u : Cursor W (r, d) = omega (arith, v, g) in
         block v e f u (k .same ∙ rw f (at-corner W top r c v i g e))
 
-    pub walking-on : {i e : ℕ} → c < W .c0 + W .w → Largest W top (r, c) i → e ≡ exponent W top (r, c) → ¬ (i ≡ e) → Walking W top s (r, floor e c + 2 ^ e)
-    walking-on {i} {e} l g d n =
+    -- behind the block that holds the pixel
+    pub walking-on : {i e d : ℕ} → c < W .c0 + W .w → Largest W top (r, c) i → e ≡ exponent W top (r, c) → ¬ (i ≡ e) → d ≡ floor e c + 2 ^ e → Walking W top s (r, d)
+    walking-on {i} {e} {d} l g f n q =
         let v = walking-in l in
-        let b = east-end W top r c v e d in
-        record { cursor = omega (arith, v); same = k .same ∙ at-other W top r c v i e g d n }
+        let b = east-end W top r c v e f in
+        record { cursor = omega (arith, v); same = k .same ∙ rw q (at-other W top r c v i e g f n) }
 
-    pub walking-less : {e : ℕ} → c < W .c0 + W .w → e ≡ exponent W top (r, c) → left W (r, floor e c + 2 ^ e) < left W (r, c)
-    walking-less {e} l d = let b = east-end W top r c (walking-in l) e d in left-on W r c (k .cursor) (floor e c + 2 ^ e) (b .0) (b .1)
+    pub walking-less : {e d : ℕ} → c < W .c0 + W .w → e ≡ exponent W top (r, c) → d ≡ floor e c + 2 ^ e → left W (r, d) < left W (r, c)
+    walking-less {e} {d} l f q = let b = east-end W top r c (walking-in l) e f in left-on W r c (k .cursor) d (omega arith) (omega arith)
 
     pub walking-down : W .c0 + W .w ≤ c → ¬ (r + 1 ≡ W .r0 + W .h) → Walking W top s (r + 1, W .c0)
     unfolding blocksFrom

@@ -15,18 +15,18 @@ use Rattle.border.proofs.pass.Statement.{statement}
 use Rattle.border.proofs.pass.Tie as tie
 
 abbrev Inv-loop : tie.InvT-loop
-Inv-loop table m top keys window border₀ out₀ w row₀ col₀ openings₀ records₀ border out row col openings records =
-    Passing m top keys window border₀ out₀ border out (row, col) openings records
+Inv-loop table m top keys window border₀ out₀ r₀ c₀ openings₀ records₀ border out r c openings records =
+    Passing m top keys window border₀ out₀ border out (r, c) openings records
 
 abbrev μ-loop : tie.MeasureT-loop
-μ-loop table m top keys window border₀ out₀ w row₀ col₀ openings₀ records₀ border out row col openings records =
-    length (blocksFrom window top (row, col))
+μ-loop table m top keys window border₀ out₀ r₀ c₀ openings₀ records₀ border out r c openings records =
+    length (blocksFrom window top (r, c))
 
-cast-w : tie.Need-cast-w Inv-loop μ-loop
-cast-w c = search needs
+cast-fill : tie.Need-cast-fill Inv-loop μ-loop
+cast-fill c = search needs
 
 fill-requires : tie.Need-fill-requires Inv-loop μ-loop
-fill-requires c κs = (omega arith, c .before .before .before .before .before .pre .1 .wide)
+fill-requires c κs = (omega arith, omega (arith, c .before .before .before .before .before .pre .1 .wide))
 
 loop-holds : tie.Need-loop-holds Inv-loop μ-loop
 loop-holds c = passing-first (usable-filled _ (c .before .before .before .before .before .before .before .before .pre .1) (c .before .before .fill .ensures)) _ _ (c .before .before .before .before .before .before .before .before .pre .1 .wide) (c .before .before .fill .ensures)
@@ -54,7 +54,7 @@ returns : tie.Need-returns Inv-loop μ-loop
 returns c = passed-filled _ (c .before .before .before .before .before .before .before .before .before .before .before .before .pre .1) (c .before .before .before .before .before .before .fill .ensures) (passing-last (usable (c .before .before .before)) (c .before .before .before .loop .inv) (rw (c .enum-told .given .1) at (c .before .before .next-block .ensures)))
 
 -- the arm of a block: what the walk says
-goes : (c : tie.After-known-told Inv-loop μ-loop) → Goes (c .before .before .before .before .before .before .before .before .before .before .before .before .before .args .window) (c .before .before .before .before .before .before .before .before .before .before .before .before .before .args .top) (c .before .before .before .before .loop .row, c .before .before .before .before .loop .col) (Block (c .before .next .given .0 .0) (c .before .next .given .0 .1 .0) (c .before .next .given .0 .1 .1 .0) (c .before .next .given .0 .1 .1 .1 .0))
+goes : (c : tie.After-known-told Inv-loop μ-loop) → Goes (c .before .before .before .before .before .before .before .before .before .before .before .before .before .args .window) (c .before .before .before .before .before .before .before .before .before .before .before .before .before .args .top) (c .before .before .before .before .loop .r, c .before .before .before .before .loop .c) (Block (c .before .next .given .0 .0) (c .before .next .given .0 .1 .0) (c .before .next .given .0 .1 .1 .0) (c .before .next .given .0 .1 .1 .1 .0))
 goes c = rw (c .before .next .given .1) at (c .before .before .before .next-block .ensures)
 
 block-key-requires : tie.Need-block-key-requires Inv-loop μ-loop
@@ -107,7 +107,7 @@ pass-spec =
     (tie.spec
     Inv-loop
     μ-loop
-    cast-w
+    cast-fill
     fill-requires
     loop-holds
     next-block-requires
