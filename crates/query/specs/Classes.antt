@@ -1,0 +1,34 @@
+-- The classes of a window's pixels: which of them there are, and how many pixels have each.
+-- Assumes nothing.
+use mathlib.Core.Bool.{Bool}
+use mathlib.Core.List.{List, map}
+use Prim.Native.Nat.{ℕ}
+use lib.Dec.{eqb}
+use lib.ListN.{getD}
+use Rattle.key.specs.Lists.{upFrom}
+use Rattle.window.specs.declared.Window.{Window}
+use Rattle.window.specs.Window.{Px}
+use Rattle.window.specs.Blocks.{rows}
+use Rattle.map.specs.Lists.{howMany}
+use Rattle.map.specs.Records.{pixelRecord}
+use Rattle.border.specs.Openings.{any}
+
+-- the window's pixels, row by row
+abbrev pub pixels : Window → List Px
+pixels W = rows (W .r0) (W .c0) (W .h) (W .w)
+
+-- a pixel has the class of its record
+unfoldable pub hasClass : ℕ → List ℕ → List ℕ → ℕ → Px → Bool
+hasClass m keys classes class p = eqb (getD classes (pixelRecord m keys (p .0) (p .1)) 0) class
+
+-- some pixel of the window has the class
+unfoldable pub exists : ℕ → List ℕ → List ℕ → Window → ℕ → Bool
+exists m keys classes W class = any (hasClass m keys classes class) (pixels W)
+
+-- how many pixels of the window have it
+unfoldable pub total : ℕ → List ℕ → List ℕ → Window → ℕ → ℕ
+total m keys classes W class = howMany (hasClass m keys classes class) (pixels W)
+
+-- the totals of all 256 classes, class by class
+unfoldable pub totals : ℕ → List ℕ → List ℕ → Window → List ℕ
+totals m keys classes W = map (total m keys classes W) (upFrom 0 256)

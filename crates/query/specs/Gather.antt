@@ -1,0 +1,34 @@
+-- Totals gathered record by record: each record adds its part in the window to the total of its class.
+-- Assumes nothing.
+use mathlib.Core.List.{List, [], _∷_}
+use Prim.Native.Nat.{ℕ, min, max, _+_, _-_, _*_, _^_}
+use lib.Dec.{eqb}
+use lib.ListN.{getD, set}
+use Rattle.window.specs.declared.Window.{Window}
+use Rattle.window.specs.Window.{Px}
+use Rattle.window.specs.Blocks.{floor}
+use Rattle.map.specs.Lists.{howMany}
+use Rattle.map.specs.Records.{pixelRecord}
+use Rattle.query.specs.Classes.{pixels}
+
+-- how many pixels of the window are in record n
+unfoldable pub area : ℕ → List ℕ → Window → ℕ → ℕ
+area m keys W n = howMany (λ p. eqb (pixelRecord m keys (p .0) (p .1)) n) (pixels W)
+
+-- how many numbers the n from a on and the k from b on share
+unfoldable pub shared : ℕ → ℕ → ℕ → ℕ → ℕ
+shared a n b k = min (a + n) (b + k) - max a b
+
+-- how many pixels the window shares with the block of side 2 ^ e around p
+unfoldable pub clipped : Window → ℕ → Px → ℕ
+clipped W e p = shared (W .r0) (W .h) (floor e (p .0)) (2 ^ e) * shared (W .c0) (W .w) (floor e (p .1)) (2 ^ e)
+
+module _ (m : ℕ) (keys classes : List ℕ) (W : Window) where
+  -- record n's part is added to the total of its class
+  unfoldable pub added : ℕ → List ℕ → List ℕ
+  added n cells = let k = getD classes n 0 in set cells k (getD cells k 0 + area m keys W n)
+
+  -- and so is that of each record of a list
+  unfoldable pub gathered : List ℕ → List ℕ → List ℕ
+  gathered [] cells = cells
+  gathered (n ∷ ns) cells = gathered ns (added n cells)

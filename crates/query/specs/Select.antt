@@ -1,0 +1,44 @@
+-- Selecting a class: for each maximal block its own key, or the keys of records inside it.
+-- Assumes nothing.
+use mathlib.Core.Bool.{Bool, cond, _&&_}
+use mathlib.Core.List.{List, [], _∷_, _++_, map}
+use Prim.Native.Nat.{ℕ}
+use lib.Dec.{eqb}
+use lib.ListN.{length, getD}
+use Rattle.key.specs.Lists.{upFrom}
+use Rattle.key.specs.Form.{formOf}
+use Rattle.window.specs.declared.Window.{Window}
+use Rattle.window.specs.Lists.{keep}
+use Rattle.window.specs.Decompose.{keysOf}
+use Rattle.border.specs.Openings.{any, within}
+
+module _ (m : ℕ) (keys classes : List ℕ) (class : ℕ) where
+  -- record n has the class, and the block of a key lies in it
+  unfoldable pub around : ℕ → ℕ → Bool
+  around key n = eqb (getD classes n 0) class && within (formOf m key) (formOf m (getD keys n 0))
+
+  -- record n has the class and lies in the block of a key
+  unfoldable pub inside : ℕ → ℕ → Bool
+  inside key n = eqb (getD classes n 0) class && within (formOf m (getD keys n 0)) (formOf m key)
+
+  -- of the block of a key: its own key if it lies in a record of the class, else the keys of the records inside it that have the class, in map order
+  unfoldable pub selected : ℕ → List ℕ
+  selected key =
+      let records = upFrom 0 (length keys) in
+      cond (any (around key) records) (key ∷ []) (map (λ n. getD keys n 0) (keep (inside key) records))
+
+  -- the same by the run of records that overlap the block: a single one contains it, several lie in it
+  unfoldable pub picked : ℕ → ℕ → ℕ → List ℕ
+  picked key first count =
+      cond (eqb count 1)
+      (cond (eqb (getD classes first 0) class) (key ∷ []) [])
+      (map (λ n. getD keys n 0) (keep (λ n. eqb (getD classes n 0) class) (upFrom first count)))
+
+  -- of blocks, one after another
+  unfoldable pub allSelected : List ℕ → List ℕ
+  allSelected [] = []
+  allSelected (k ∷ ks) = selected k ++ allSelected ks
+
+-- of the window's maximal blocks, in their order
+unfoldable pub selection : ℕ → ℕ → List ℕ → List ℕ → Window → ℕ → List ℕ
+selection m top keys classes W class = allSelected m keys classes class (keysOf m top W)
