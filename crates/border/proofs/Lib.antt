@@ -11,4 +11,5 @@ mod Steps
 mod Tables
 mod Examples
 pub mod Laws
+mod Finding
 mod Passes

@@ -13,15 +13,30 @@ ghost use Rattle.key.specs.Spread.{spreads};
 ghost use Rattle.map.specs.Spans.{exponent};
 ghost use Rattle.map.specs.Records.{SomeRecord};
 ghost use Rattle.window.specs.Window.{In, Inside};
+ghost use Rattle.window.specs.Walk.{Cursor};
 ghost use Rattle.border.specs.Openings.{openings};
 ghost use Rattle.border.specs.Cells.{filled, raised, entered};
 ghost use Rattle.border.specs.Step.{Usable, Ready, Step};
+ghost use Rattle.border.specs.Found.{Finds};
 ghost use Rattle.border.specs.Open.{Passed, useRows, afterOpen, accepted, openOf};
 
 // What a step answers: the block was skipped, or opened with so many records from the first on.
 pub enum Stepped {
     Skipped,
     Opened { first: u32, count: u32 },
+}
+
+// What the walk comes to next: an opening, of the block with this corner, with the column of its row from which to go on; or nothing.
+pub enum Found {
+    Opening {
+        row: u16,
+        col: u16,
+        key: u32,
+        first: u32,
+        count: u32,
+        after: u16,
+    },
+    End,
 }
 
 pub enum Opened {
@@ -36,7 +51,7 @@ pub struct Totals {
 }
 
 // Fills the cells from one place up to another.
-fn fill(cells: &mut [u16], from: usize, to: usize, value: u16)
+pub fn fill(cells: &mut [u16], from: usize, to: usize, value: u16)
     requires { ⌜ (from ≤ to) × (to ≤ length (now cells)) ⌝ }
     ensures { λ r. ⌜ now (cells .exit) ≡ filled from to value (now (cells .entry)) ⌝ }
 {
@@ -121,6 +136,50 @@ fn put_opening(out: &mut [u32], n: u32, key: u32, first: u32, count: u32)
     out[at + 2] = count;
 }
 
+// The next opening from a row and a column on: skips blocks until one is opened.
+pub fn next_opening(
+    table: &[u32; 256],
+    m: u32,
+    top: u32,
+    keys: &[u32],
+    window: Window,
+    row: u16,
+    col: u16,
+    border: &mut [u16],
+) -> Found
+    requires { ⌜ (now table ≡ spreads) × Usable m top (now keys) window (length (now border)) × Cursor window (row, col) ⌝ }
+    ensures { λ r. ⌜ Finds m top (now (keys .entry)) window (row, col) (now (border .entry)) r (now (border .exit)) ⌝ }
+{
+    let mut r = row;
+    let mut c = col;
+    loop {
+        let next = window::next_block(window, top, r, c);
+        let Next::Block {
+            row,
+            col,
+            exponent,
+            after,
+        } = next
+        else {
+            return Found::End;
+        };
+        let key = key::block_key(table, m, exponent, row, col);
+        let stepped = step(m, top, keys, window, row, col, exponent, key, border);
+        if let Stepped::Opened { first, count } = stepped {
+            return Found::Opening {
+                row,
+                col,
+                key,
+                first,
+                count,
+                after,
+            };
+        }
+        r = row;
+        c = after;
+    }
+}
+
 // Goes through the maximal blocks once, with a border filled anew. Of the openings, those are written for which there is room.
 fn pass(
     table: &[u32; 256],
@@ -140,25 +199,23 @@ fn pass(
     let mut openings: u32 = 0;
     let mut records: u32 = 0;
     loop {
-        let next = window::next_block(window, top, r, c);
-        let Next::Block {
+        let found = next_opening(table, m, top, keys, window, r, c, border);
+        let Found::Opening {
             row,
-            col,
-            exponent,
+            key,
+            first,
+            count,
             after,
-        } = next
+            ..
+        } = found
         else {
             return Totals { openings, records };
         };
+        put_opening(out, openings, key, first, count);
+        openings += 1;
+        records += count;
         r = row;
         c = after;
-        let key = key::block_key(table, m, exponent, row, col);
-        let stepped = step(m, top, keys, window, row, col, exponent, key, border);
-        if let Stepped::Opened { first, count } = stepped {
-            put_opening(out, openings, key, first, count);
-            openings += 1;
-            records += count;
-        }
     }
 }
 

@@ -2,7 +2,7 @@
 -- Assumes nothing.
 use mathlib.Core.Path.{_≡_, refl, sym, ap, _∙_}
 use mathlib.Core.Logic.{_⊎_, inl, inr}
-use mathlib.Core.List.{List, [], _∷_, _++_, append-assoc, append-nil}
+use mathlib.Core.List.{List, [], _∷_, _++_, append-assoc, append-nil, List·Memᴰ, List·Memᴰ·head}
 use Prim.Native.Nat.{ℕ, zero, suc, _+_, _-_, _*_, _^_, _≤_, _<_}
 use native.Mathlib.Omega.{arith}
 use native.Mathlib.Nat.{add-zero, eq-or-lt-of-le, suc-mul}
@@ -17,6 +17,7 @@ use Rattle.window.specs.Blocks.{floor, Same, exponent, corner, across, r
 use Rattle.window.specs.Walk.{Largest, Cursor, pixelsFrom, blocksFrom, Walked, Goes, block, end}
 use Rattle.window.proofs.Dyadic.{floor-le, floor-lt, floor-eq}
 use Rattle.window.proofs.Blocks.{exponent-fits, same→corner, corner-col}
+use Rattle.window.proofs.Lists.{keep-true}
 use Rattle.window.proofs.Listed.{corner-is}
 use Rattle.window.proofs.Corners.{largest-corner}
 
@@ -193,3 +194,12 @@ module _ {W : Window} {top r c i d : ℕ} {s : Px} where
 
   pub goes-less : Goes W top s (Block r c i d) → length (blocksFrom W top (r, d)) < length (blocksFrom W top s)
   goes-less (block v e f u g) = rw g (omega arith)
+
+  pub goes-corner : Goes W top s (Block r c i d) → corner W top (r, c) ≡ (r, c)
+  unfolding blocksFrom
+  goes-corner (block v e f u g) =
+      let n : List·Memᴰ (r, c) (blocksFrom W top s) = rw g (List·Memᴰ·head refl) in
+      corner-is W top (r, c) .0 (keep-true (isCorner W top) (pixelsFrom W s) n)
+
+  pub goes-cursor : Goes W top s (Block r c i d) → Cursor W (r, d)
+  goes-cursor (block v e f u g) = u
