@@ -11,5 +11,5 @@ mod Steps
 mod Tables
 mod Examples
 pub mod Laws
-mod Finding
+pub mod Finding
 mod Passes

@@ -1,6 +1,5 @@
 // The active border: one step for one maximal block, and opening a window on a map.
 use answers::Verdict;
-use key::Form;
 use map::Run;
 use window::Next;
 use window::Window;
@@ -63,7 +62,7 @@ pub fn fill(cells: &mut [u16], from: usize, to: usize, value: u16)
 }
 
 // How far x lies ahead of a; 0 where it does not.
-fn ahead(x: u16, a: u16) -> u16
+pub fn ahead(x: u16, a: u16) -> u16
     ensures { λ r. ⌜ r ≡ x - a ⌝ }
 {
     if x < a { 0 } else { x - a }
@@ -88,10 +87,7 @@ fn reach(m: u32, keys: &[u32], first: u32, i: u32) -> u32
     requires { ⌜ (m ≤ 12) × SomeRecord m (now keys) first ⌝ }
     ensures { λ r. ⌜ r ≡ max i (exponent (formOf m (getD (now (keys .entry)) first 0))) ⌝ }
 {
-    let form = key::read_key(m, keys[first as usize]);
-    let Form::Block { exponent, .. } = form else {
-        return i;
-    };
+    let exponent = map::exponent_of(m, keys, first);
     if i < exponent { exponent } else { i }
 }
 

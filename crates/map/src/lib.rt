@@ -3,10 +3,13 @@ use answers::Verdict;
 use key::Form;
 ghost use mathlib.Core.Path.{_≡_};
 ghost use Prim.Native.Nat.{_≤_};
-ghost use lib.ListN.{length};
+ghost use lib.ListN.{length, getD};
 ghost use Rattle.answers.specs.Rows.{verdict};
+ghost use Rattle.key.specs.Form.{formOf};
+ghost use Rattle.map.specs.Spans.{exponent};
 ghost use Rattle.map.specs.Check.{recordRows, mapRows, checkOf};
 ghost use Rattle.map.specs.Sound.{Follow};
+ghost use Rattle.map.specs.Records.{SomeRecord};
 ghost use Rattle.map.specs.Runs.{runOf, BlockOf, Rising, Splits};
 
 // What the check answers: the number of records of a sound map, or a refusal.
@@ -112,4 +115,16 @@ pub fn records_of(m: u32, keys: &[u32], key: u32, i: u32) -> Run
         first: first - 1,
         count: 1,
     }
+}
+
+// The exponent of a record.
+pub fn exponent_of(m: u32, keys: &[u32], n: u32) -> u32
+    requires { ⌜ (m ≤ 12) × SomeRecord m (now keys) n ⌝ }
+    ensures { λ r. ⌜ r ≡ exponent (formOf m (getD (now (keys .entry)) n 0)) ⌝ }
+{
+    let form = key::read_key(m, keys[n as usize]);
+    let Form::Block { exponent, .. } = form else {
+        return 0;
+    };
+    exponent
 }

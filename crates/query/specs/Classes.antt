@@ -17,9 +17,13 @@ use Rattle.border.specs.Openings.{any}
 abbrev pub pixels : Window → List Px
 pixels W = rows (W .r0) (W .c0) (W .h) (W .w)
 
+-- record n has the class
+abbrev pub classed : List ℕ → ℕ → ℕ → Bool
+classed classes class n = eqb (getD classes n 0) class
+
 -- a pixel has the class of its record
 unfoldable pub hasClass : ℕ → List ℕ → List ℕ → ℕ → Px → Bool
-hasClass m keys classes class p = eqb (getD classes (pixelRecord m keys (p .0) (p .1)) 0) class
+hasClass m keys classes class p = classed classes class (pixelRecord m keys (p .0) (p .1))
 
 -- some pixel of the window has the class
 unfoldable pub exists : ℕ → List ℕ → List ℕ → Window → ℕ → Bool

@@ -1,14 +1,22 @@
 -- Totals gathered record by record: each record adds its part in the window to the total of its class.
 -- Assumes nothing.
-use mathlib.Core.List.{List, [], _∷_}
+use mathlib.Core.Path.{_≡_}
+use mathlib.Core.Logic.{_≢_}
+use mathlib.Core.List.{List, [], _∷_, _++_, List·Memᴰ}
 use Prim.Native.Nat.{ℕ, min, max, _+_, _-_, _*_, _^_}
 use lib.Dec.{eqb}
-use lib.ListN.{getD, set}
+use lib.ListN.{getD, set, replicate}
+use Rattle.key.specs.Lists.{upFrom}
 use Rattle.window.specs.declared.Window.{Window}
 use Rattle.window.specs.Window.{Px}
+use Rattle.window.specs.Lists.{Ordered}
 use Rattle.window.specs.Blocks.{floor}
+use Rattle.window.specs.Decompose.{keyOf}
 use Rattle.map.specs.Lists.{howMany}
 use Rattle.map.specs.Records.{pixelRecord}
+use Rattle.map.specs.Runs.{runOf}
+use Rattle.border.specs.Openings.{met}
+use Rattle.border.specs.Step.{Usable, Corner}
 use Rattle.query.specs.Classes.{pixels}
 
 -- how many pixels of the window are in record n
@@ -32,3 +40,18 @@ module _ (m : ℕ) (keys classes : List ℕ) (W : Window) where
   unfoldable pub gathered : List ℕ → List ℕ → List ℕ
   gathered [] cells = cells
   gathered (n ∷ ns) cells = gathered ns (added n cells)
+
+-- record n is one of the `count` records that an opening of the block with corner b hands out
+pub record Part (m : ℕ) (keys : List ℕ) (W : Window) (b : Px) (count n : ℕ) : Type 0 where
+  pub top : ℕ
+  pub room : ℕ
+  pub given : Usable m top keys W room
+  pub corner : Corner W top b
+  pub many : count ≡ runOf m keys (keyOf m top W b) .count
+  pub listed : List·Memᴰ n (met m keys (keyOf m top W b))
+
+-- the totals are those of records that do not come again among the `count` from `first` on
+pub record Gathering (m : ℕ) (keys classes : List ℕ) (W : Window) (first count : ℕ) (cells : List ℕ) : Type 0 where
+  pub past : List ℕ
+  pub is : cells ≡ gathered m keys classes W past (replicate 256 0)
+  pub once : Ordered _≢_ (past ++ upFrom first count)

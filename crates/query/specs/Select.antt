@@ -2,9 +2,9 @@
 -- Assumes nothing.
 use mathlib.Core.Bool.{Bool, cond, _&&_}
 use mathlib.Core.List.{List, [], _∷_, _++_, map}
-use Prim.Native.Nat.{ℕ}
-use lib.Dec.{eqb}
-use lib.ListN.{length, getD}
+use Prim.Native.Nat.{ℕ, suc}
+use lib.Dec.{eqb, ltb}
+use lib.ListN.{length, getD, set}
 use Rattle.key.specs.Lists.{upFrom}
 use Rattle.key.specs.Form.{formOf}
 use Rattle.window.specs.declared.Window.{Window}
@@ -27,12 +27,13 @@ module _ (m : ℕ) (keys classes : List ℕ) (class : ℕ) where
       let records = upFrom 0 (length keys) in
       cond (any (around key) records) (key ∷ []) (map (λ n. getD keys n 0) (keep (inside key) records))
 
+  -- the keys of the records of a run that have the class
+  unfoldable pub pickedRun : ℕ → ℕ → List ℕ
+  pickedRun first count = map (λ n. getD keys n 0) (keep (λ n. eqb (getD classes n 0) class) (upFrom first count))
+
   -- the same by the run of records that overlap the block: a single one contains it, several lie in it
   unfoldable pub picked : ℕ → ℕ → ℕ → List ℕ
-  picked key first count =
-      cond (eqb count 1)
-      (cond (eqb (getD classes first 0) class) (key ∷ []) [])
-      (map (λ n. getD keys n 0) (keep (λ n. eqb (getD classes n 0) class) (upFrom first count)))
+  picked key first count = cond (eqb count 1) (cond (eqb (getD classes first 0) class) (key ∷ []) []) (pickedRun first count)
 
   -- of blocks, one after another
   unfoldable pub allSelected : List ℕ → List ℕ
@@ -42,3 +43,14 @@ module _ (m : ℕ) (keys classes : List ℕ) (class : ℕ) where
 -- of the window's maximal blocks, in their order
 unfoldable pub selection : ℕ → ℕ → List ℕ → List ℕ → Window → ℕ → List ℕ
 selection m top keys classes W class = allSelected m keys classes class (keysOf m top W)
+
+-- ---- how they are written
+
+-- a key is written behind n others, where there is room for it
+unfoldable pub keyed : ℕ → ℕ → List ℕ → List ℕ
+keyed n key out = cond (ltb n (length out)) (set out n key) out
+
+-- and so are keys, one after another
+unfoldable pub listed : ℕ → List ℕ → List ℕ → List ℕ
+listed n [] out = out
+listed n (k ∷ ks) out = listed (suc n) ks (keyed n k out)

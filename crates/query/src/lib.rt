@@ -1,4 +1,24 @@
 // The three queries: exist, report and select.
+use answers::Verdict;
+use border::Found;
+use window::Next;
+use window::Window;
+ghost use mathlib.Core.Path.{_≡_};
+ghost use mathlib.Core.Bool.{true};
+ghost use Prim.Native.Nat.{_+_, _≤_};
+ghost use lib.ListN.{length, getD};
+ghost use Rattle.key.specs.Spread.{spreads};
+ghost use Rattle.key.specs.Lists.{upFrom};
+ghost use Rattle.window.specs.Window.{In, Inside};
+ghost use Rattle.border.specs.Openings.{any};
+ghost use Rattle.border.specs.Step.{Usable};
+ghost use Rattle.border.specs.Open.{spent};
+ghost use Rattle.query.specs.Classes.{classed, totals};
+ghost use Rattle.query.specs.Gather.{shared, clipped, area, gathered, Part, Gathering};
+ghost use Rattle.query.specs.Select.{listed, keyed, pickedRun, picked, selection};
+ghost use Rattle.query.specs.Query.{afterExist, existing, existOf, afterQuery, reportOf, selectOf};
+
+// What exist answers.
 pub enum Existence {
     Yes,
     No,
@@ -9,4 +29,77 @@ pub enum Existence {
 pub enum Queried {
     Done { value: u32 },
     Refused { number: u32, place: u32 },
+}
+
+// One of the `count` records from the first on has the class.
+fn has_class(classes: &[u8], class: u8, first: u32, count: u32) -> bool
+    requires { ⌜ (first + count ≤ length (now classes)) × (length (now classes) ≤ 65536) ⌝ }
+    ensures { λ r. ⌜ r ≡ any (classed (now (classes .entry)) class) (upFrom first count) ⌝ }
+{
+    let end = first + count;
+    let mut n = first;
+    while n < end {
+        if classes[n as usize] == class {
+            return true;
+        }
+        n += 1;
+    }
+    false
+}
+
+// Goes from opening to opening until a record has the class.
+fn seek(
+    table: &[u32; 256],
+    m: u32,
+    keys: &[u32],
+    classes: &[u8],
+    window: Window,
+    class: u8,
+    border: &mut [u16],
+) -> Existence
+    requires { ⌜ (now table ≡ spreads) × Usable m m (now keys) window (length (now border)) × (length (now keys) ≡ length (now classes)) ⌝ }
+    ensures { λ r. ⌜ afterExist r (now (border .exit)) ≡ existing m (now (keys .entry)) (now (classes .entry)) window class (now (border .entry)) ⌝ }
+{
+    let w = window.w as usize;
+    border::fill(border, 0, w, window.r0);
+    let mut r = window.r0;
+    let mut c = window.c0;
+    loop {
+        let found = border::next_opening(table, m, m, keys, window, r, c, border);
+        let Found::Opening {
+            row,
+            first,
+            count,
+            after,
+            ..
+        } = found
+        else {
+            return Existence::No;
+        };
+        if has_class(classes, class, first, count) {
+            border::fill(border, 0, w, window.r0 + window.h);
+            return Existence::Yes;
+        }
+        r = row;
+        c = after;
+    }
+}
+
+// Whether some pixel of the window has the class.
+pub fn exist(
+    m: u32,
+    keys: &[u32],
+    classes: &[u8],
+    window: Window,
+    class: u8,
+    border: &mut [u16],
+) -> Existence
+    ensures { λ r. ⌜ afterExist r (now (border .exit)) ≡ existOf m (now (keys .entry)) (now (classes .entry)) window class (now (border .entry)) ⌝ }
+{
+    let verdict = border::usable(m, keys, classes, window, border.len());
+    if let Verdict::Refused { number, place } = verdict {
+        return Existence::Refused { number, place };
+    }
+    let table = key::spread_table();
+    seek(&table, m, keys, classes, window, class, border)
 }
