@@ -1,1 +1,3 @@
 mod Examples
+mod Lists
+mod Picked
