@@ -1,3 +1,4 @@
 mod Examples
 mod Lists
 mod Picked
+mod Found
