@@ -2,3 +2,4 @@ mod Examples
 mod Lists
 mod Picked
 mod Found
+mod Selection

@@ -1,15 +1,17 @@
 -- Tests, and lists part by part: the numbers from one on, what passes a test, and whether anything does. By induction over the list.
 -- Assumes nothing.
-use mathlib.Core.Path.{_≡_, refl, sym}
+use mathlib.Core.Path.{_≡_, refl, sym, _∙_}
+use mathlib.Core.Logic.{_≢_}
 use mathlib.Core.Bool.{Bool, true, false, cond, _||_}
-use mathlib.Core.List.{List, [], _∷_, _++_, append-nil, List·Memᴰ, List·Memᴰ·head, List·Memᴰ·tail}
+use mathlib.Core.List.{List, [], _∷_, _++_, append-nil, map, List·Memᴰ, List·Memᴰ·head, List·Memᴰ·tail, Memᴰ·of-map}
 use Prim.Native.Nat.{ℕ, zero, suc, _+_, _-_, _≤_, _<_}
 use native.Mathlib.Omega.{arith}
+use lib.ListN.{length, getD}
 use Rattle.answers.proofs.Tests.{never, refuted}
 use Rattle.key.specs.Lists.{upFrom}
 use Rattle.key.specs.Blocks.{Among}
 use Rattle.key.proofs.Laws.{up-none, up-next, up-in}
-use Rattle.window.specs.Lists.{keep}
+use Rattle.window.specs.Lists.{keep, Ordered, none, more}
 use Rattle.border.specs.Openings.{any}
 
 -- two tests that pass together
@@ -71,3 +73,27 @@ keep-middle f a n d h =
 
 pub keep-run : (f : ℕ → Bool) (a n k : ℕ) → a + n ≤ k → ((x : ℕ) → x < k → f x ≡ true → Among a n x) → keep f (upFrom 0 k) ≡ keep f (upFrom a n)
 keep-run f a n k l h = let e : a + (n + (k - (a + n))) ≡ k = omega arith in rw e at (keep-middle f a n (k - (a + n)) (λ x g. h x (omega arith)))
+
+-- one number more
+module _ (f : ℕ → Bool) (a n : ℕ) where
+  pub keep-taken : f (a + n) ≡ true → keep f (upFrom a (n + 1)) ≡ keep f (upFrom a n) ++ ((a + n) ∷ [])
+  unfolding keep upFrom
+  keep-taken e = rw (up-append a n 1, keep-append f (upFrom a n) (upFrom (a + n) 1), e)
+
+  pub keep-passed : f (a + n) ≡ false → keep f (upFrom a (n + 1)) ≡ keep f (upFrom a n)
+  unfolding keep upFrom
+  keep-passed e = rw (up-append a n 1, keep-append f (upFrom a n) (upFrom (a + n) 1), e) (append-nil (keep f (upFrom a n)))
+
+-- ---- different elements
+
+pub distinct-map : {A B : Type 0} (f : A → B) {l : List A} → Ordered _≢_ l → ((x y : A) → List·Memᴰ x l → List·Memᴰ y l → f x ≡ f y → x ≡ y) → Ordered _≢_ (map f l)
+distinct-map f none u = none
+distinct-map {B = B} f (more {x = x} {l = l} h o) u = more late (distinct-map f o (λ a b m n. u a b (List·Memᴰ·tail m) (List·Memᴰ·tail n)))
+  where
+    late : (y : B) → List·Memᴰ y (map f l) → f x ≢ y
+    late y m e = let t = Memᴰ·of-map f l m in h (t .0) (t .1) (u x (t .0) (List·Memᴰ·head refl) (List·Memᴰ·tail (t .1)) (e ∙ sym (t .2)))
+
+pub getD-in : (l : List ℕ) (n : ℕ) → n < length l → List·Memᴰ (getD l n 0) l
+getD-in [] n h = absurd (omega arith)
+getD-in (x ∷ l) zero h = List·Memᴰ·head refl
+getD-in (x ∷ l) (suc n) h = List·Memᴰ·tail (getD-in l n (omega arith))

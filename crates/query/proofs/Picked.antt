@@ -1,26 +1,26 @@
 -- Selecting from one block: what `selected` says over all records is what `picked` does with the run of records that overlap the block. A single one contains the block, since
 -- the block's first and last place are in some record; and where one contains it, no other overlaps it.
 -- Assumes nothing.
-use mathlib.Core.Path.{_≡_, sym, _∙_}
+use mathlib.Core.Path.{_≡_, refl, sym, _∙_}
 use mathlib.Core.Logic.{_↔_}
-use mathlib.Core.Bool.{true, false}
+use mathlib.Core.Bool.{Bool, true, false}
 use mathlib.Core.List.{List, [], _∷_, map, List·Memᴰ}
 use Prim.Native.Nat.{ℕ, max, _+_, _-_, _^_, _≤_, _<_}
 use native.Mathlib.Decide.{ℕ-discrete}
 use native.Mathlib.Omega.{arith}
 use lib.Dec.{eqb}
-use lib.ListN.{length, getD}
+use lib.ListN.{length, getD, length-map}
 use borrow.Author.Tests.{eqb-true, eq-eqb, ne-eqb}
-use Rattle.answers.proofs.Tests.{refuted, both}
+use Rattle.answers.proofs.Tests.{refuted, both, never}
 use Rattle.key.specs.Lists.{upFrom}
 use Rattle.key.specs.Form.{formOf}
 use Rattle.key.specs.Blocks.{Names, Among, Inside as Covers}
-use Rattle.key.proofs.Laws.{one-block, block-lies, pow-least, up-in}
+use Rattle.key.proofs.Laws.{one-block, block-lies, pow-least, up-in, up-length}
 use Rattle.window.specs.declared.Window.{Window}
 use Rattle.window.specs.Window.{Px, Inside}
 use Rattle.window.specs.Lists.{keep}
 use Rattle.window.specs.Decompose.{keyOf}
-use Rattle.window.proofs.Laws.{key-named}
+use Rattle.window.proofs.Laws.{keep-most, key-named}
 use Rattle.map.specs.Sound.{Follow}
 use Rattle.map.specs.Records.{Record, SomeRecord}
 use Rattle.map.specs.Runs.{runOf, Nest, contained, filled, Meets}
@@ -110,16 +110,53 @@ module _ (m : ℕ) (keys classes : List ℕ) (class key : ℕ) where
       none : any (around m keys classes class key) (upFrom 0 (length keys)) ≡ true → ⊥
       none e = let t = any-has (around m keys classes class key) (upFrom 0 (length keys)) e in let a = up-in 0 (length keys) (t .0) .0 (t .1) in h (t .0) (omega arith) (t .2)
 
+  -- one or the other
+  pub data Choice : Type 0 where
+    whole : {n : ℕ} → n < length keys → around m keys classes class key n ≡ true → selected m keys classes class key ≡ key ∷ [] → Choice
+    parts : ((n : ℕ) → n < length keys → ¬ (around m keys classes class key n ≡ true))
+        → selected m keys classes class key ≡ map (λ n. getD keys n 0) (keep (inside m keys classes class key) (upFrom 0 (length keys))) → Choice
+
+  pub choice : Choice
+  choice = go (any test records) refl
+    where
+      test : ℕ → Bool
+      test = around m keys classes class key
+
+      records : List ℕ
+      records = upFrom 0 (length keys)
+
+      go : (b : Bool) → any test records ≡ b → Choice
+      go true e =
+          let t = any-has test records e in
+          let l : t .0 < length keys = omega (arith, up-in 0 (length keys) (t .0) .0 (t .1)) in
+          whole l (t .2) (selected-whole l (t .2))
+      go false e = parts none (selected-parts none)
+        where
+          none : (n : ℕ) → n < length keys → ¬ (test n ≡ true)
+          none n l h = never (sym (has-any test (up-in 0 (length keys) n .1 (omega arith)) h) ∙ e)
+
+  -- no more keys than records
+  pub selected-most : length (selected m keys classes class key) ≤ length keys
+  selected-most = go choice
+    where
+      go : Choice → length (selected m keys classes class key) ≤ length keys
+      go (whole l e d) = rw d (omega arith)
+      go (parts h d) =
+          let kept : List ℕ = keep (inside m keys classes class key) (upFrom 0 (length keys)) in
+          rw d (omega (arith, length-map kept (λ n. getD keys n 0), keep-most (inside m keys classes class key) (upFrom 0 (length keys)), up-length 0 (length keys)))
+
+  -- ---- what is picked, by cases
+
   module _ (first : ℕ) {count : ℕ} where
-    picked-one : count ≡ 1 → getD classes first 0 ≡ class → picked m keys classes class key first count ≡ key ∷ []
+    pub picked-one : count ≡ 1 → getD classes first 0 ≡ class → picked m keys classes class key first count ≡ key ∷ []
     unfolding picked
     picked-one e d = rw (eq-eqb count 1 e, eq-eqb (getD classes first 0) class d)
 
-    picked-none : count ≡ 1 → ¬ (getD classes first 0 ≡ class) → picked m keys classes class key first count ≡ []
+    pub picked-none : count ≡ 1 → ¬ (getD classes first 0 ≡ class) → picked m keys classes class key first count ≡ []
     unfolding picked
     picked-none e d = rw (eq-eqb count 1 e, ne-eqb (getD classes first 0) class d)
 
-    picked-many : ¬ (count ≡ 1) → picked m keys classes class key first count ≡ map (λ n. getD keys n 0) (keep (λ n. eqb (getD classes n 0) class) (upFrom first count))
+    pub picked-many : ¬ (count ≡ 1) → picked m keys classes class key first count ≡ map (λ n. getD keys n 0) (keep (λ n. eqb (getD classes n 0) class) (upFrom first count))
     unfolding picked
     picked-many e = rw (ne-eqb count 1 e)
 
