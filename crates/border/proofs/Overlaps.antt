@@ -30,7 +30,7 @@ use Rattle.border.specs.Step.{Corner}
 
 -- ---- a block in another
 
-within-is : {m a i s b j t : ℕ} → Names m a i s → Names m b j t → (within (formOf m a) (formOf m b) ≡ true) ↔ Covers t (4 ^ j) s (4 ^ i)
+pub within-is : {m a i s b j t : ℕ} → Names m a i s → Names m b j t → (within (formOf m a) (formOf m b) ≡ true) ↔ Covers t (4 ^ j) s (4 ^ i)
 unfolding within
 within-is {i = i} {s = s} {j = j} {t = t} x y = rw (start-is x, end-is x, start-is y, end-is y) (
   λ e. let h = tests .0 e in record { least = leb-true t s (h .0); most = leb-true (s + 4 ^ i) (t + 4 ^ j) (h .1) },
@@ -72,7 +72,7 @@ module _ {m top : ℕ} {keys : List ℕ} (F : Follow m 0 keys) {W : Window} (I :
   meets = block-records F named
 
   -- its span has the places of its pixels
-  spans : {p : Px} → Pixel m (p .0) (p .1) → Among s (4 ^ i) (place (p .0) (p .1)) ↔ Same i b p
+  pub spans : {p : Px} → Pixel m (p .0) (p .1) → Among s (4 ^ i) (place (p .0) (p .1)) ↔ Same i b p
   spans {p} v =
       let own : Among s (4 ^ i) s = omega (arith, pow-least 3 i) in
       let h = holds-same named (pixel-in I (C .inside)) v own in

@@ -1,3 +1,7 @@
 mod Runs
 mod Seeking
 mod Examples
+mod Lists
+mod Picked
+mod Found
+mod Selection

@@ -22,7 +22,7 @@ use Rattle.window.proofs.Walk.{walked-first, walked-next, walked-last, 
 
 -- ---- no more blocks than pixels
 
-keep-most : {A : Type 0} (f : A → Bool) (l : List A) → length (keep f l) ≤ length l
+pub keep-most : {A : Type 0} (f : A → Bool) (l : List A) → length (keep f l) ≤ length l
 unfolding keep
 keep-most f [] = omega arith
 keep-most {A} f (x ∷ l) = go (f x) (keep-most f l)

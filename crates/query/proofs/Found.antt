@@ -1,0 +1,111 @@
+-- Whether some pixel of a window has a class: exactly when some record that the openings hand out has it. They hand out the records of the window's pixels, and no other.
+-- Assumes nothing.
+use mathlib.Core.Path.{_≡_, refl, sym}
+use mathlib.Core.Logic.{_↔_}
+use mathlib.Core.Bool.{Bool, true, false}
+use mathlib.Core.List.{List, [], _∷_, _++_, append-assoc, append-nil, List·Memᴰ, List·Memᴰ·head, Memᴰ·append-right}
+use Prim.Native.Nat.{ℕ, _+_, _≤_, _<_}
+use native.Mathlib.Omega.{arith}
+use lib.Dec.{eqb}
+use lib.ListN.{getD}
+use borrow.Author.Tests.{eqb-true, eq-eqb}
+use Rattle.key.specs.Lists.{upFrom}
+use Rattle.key.proofs.Laws.{up-in}
+use Rattle.window.specs.declared.Window.{Window}
+use Rattle.window.specs.Window.{Px, In, Inside}
+use Rattle.window.specs.Decompose.{keyOf}
+use Rattle.window.proofs.Laws.{rows-in, in-rows}
+use Rattle.map.specs.Sound.{Follow}
+use Rattle.map.specs.Records.{pixelRecord}
+use Rattle.border.specs.Openings.{any, met, Opening, openings}
+use Rattle.border.specs.Step.{Corner}
+use Rattle.border.specs.Promises.{hands, allHands}
+use Rattle.border.proofs.Laws.{any-has, has-any, met-pixels, in-hands, hands-all}
+use Rattle.query.specs.Classes.{pixels, hasClass, exists}
+use Rattle.query.proofs.Lists.{same-tests, up-append, any-append}
+
+-- ---- what it means
+
+pub pixels-in : (W : Window) {p : Px} → List·Memᴰ p (pixels W) ↔ In W p
+pixels-in W = (λ l. omega (arith, rows-in (W .r0) (W .c0) (W .h) (W .w) l), λ v. in-rows (W .r0) (W .c0) (W .h) (W .w) (v .top) (v .bottom) (v .left) (v .right))
+
+module _ (m : ℕ) (keys classes : List ℕ) (class : ℕ) where
+  pub class-is : (p : Px) → (hasClass m keys classes class p ≡ true) ↔ (getD classes (pixelRecord m keys (p .0) (p .1)) 0 ≡ class)
+  unfolding hasClass
+  class-is p = (λ e. eqb-true _ _ e, λ e. eq-eqb _ _ e)
+
+  pub exists-means : (W : Window) → (exists m keys classes W class ≡ true) ↔ ((p : Px) × In W p × (getD classes (pixelRecord m keys (p .0) (p .1)) 0 ≡ class))
+  unfolding exists
+  exists-means W = (
+    λ e. let t = any-has (hasClass m keys classes class) (pixels W) e in (t .0, pixels-in W .0 (t .1), class-is (t .0) .0 (t .2)),
+    λ t. has-any (hasClass m keys classes class) (pixels-in W .1 (t .1)) (class-is (t .0) .1 (t .2)),
+  )
+
+-- ---- by what the openings hand out
+
+pub exists-hands : {m top : ℕ} {keys : List ℕ} → Follow m 0 keys → {W : Window} → Inside m W → top ≤ m → (classes : List ℕ) (class : ℕ)
+    → exists m keys classes W class ≡ any (λ n. eqb (getD classes n 0) class) (allHands (openings m top keys W))
+exists-hands {m} {top} {keys} F {W} I small classes class = same-tests _ _ to from
+  where
+    test : ℕ → Bool
+    test n = eqb (getD classes n 0) class
+
+    os : List Opening
+    os = openings m top keys W
+
+    to : exists m keys classes W class ≡ true → any test (allHands os) ≡ true
+    to e =
+        let t = exists-means m keys classes class W .0 e in
+        let h = hands-all F I small _ .0 (record { at = t .0; inside = t .1; is = refl }) in
+        has-any test (in-hands os _ .1 h) (eq-eqb _ _ (t .2))
+
+    from : any test (allHands os) ≡ true → exists m keys classes W class ≡ true
+    from e =
+        let t = any-has test (allHands os) e in
+        let h = hands-all F I small (t .0) .1 (in-hands os (t .0) .0 (t .1)) in
+        exists-means m keys classes class W .1 (h .at, h .inside, rw (h .is) (eqb-true _ _ (t .2)))
+
+-- one record of the class among those that overlap a maximal block is enough
+pub exists-block : {m top : ℕ} {keys : List ℕ} → Follow m 0 keys → {W : Window} → Inside m W → top ≤ m → (classes : List ℕ) (class : ℕ) {b : Px} → Corner W top b
+    → any (λ n. eqb (getD classes n 0) class) (met m keys (keyOf m top W b)) ≡ true → exists m keys classes W class ≡ true
+exists-block {m} {top} {keys} F {W} I small classes class {b} C e =
+    let t = any-has (λ n. eqb (getD classes n 0) class) (met m keys (keyOf m top W b)) e in
+    let o = met-pixels F I small C (t .0) .0 (t .1) in
+    exists-means m keys classes class W .1 (o .at, o .inside, rw (o .is) (eqb-true _ _ (t .2)))
+
+-- ---- part by part
+
+pub all-append : (os os′ : List Opening) → allHands (os ++ os′) ≡ allHands os ++ allHands os′
+unfolding allHands
+all-append [] os′ = refl
+all-append (o ∷ os) os′ = rw (all-append os os′) (sym (append-assoc (hands o) (allHands os) (allHands os′)))
+
+all-one : (o : Opening) → allHands (o ∷ []) ≡ hands o
+unfolding allHands
+all-one o = append-nil (hands o)
+
+module _ (f : ℕ → Bool) where
+  -- no opening, and one more
+  pub any-no-opening : any f (allHands []) ≡ false
+  unfolding any allHands
+  any-no-opening = refl
+
+  pub any-opening : (os : List Opening) (o : Opening) → any f (allHands os) ≡ false → any f (hands o) ≡ false → any f (allHands (os ++ (o ∷ []))) ≡ false
+  any-opening os o e d = rw (all-append os (o ∷ []), all-one o, any-append f (allHands os) (hands o), e, d)
+
+  pub opening-any : (os : List Opening) (o : Opening) (os′ : List Opening) → any f (hands o) ≡ true → any f (allHands (os ++ o ∷ os′)) ≡ true
+  opening-any os o os′ e =
+      let t = any-has f (hands o) e in
+      has-any f (in-hands (os ++ o ∷ os′) (t .0) .1 (record { by = o; listed = Memᴰ·append-right os (List·Memᴰ·head refl); hands = t .1 })) (t .2)
+
+  -- no record of a run, and one more
+  pub any-no-record : (a : ℕ) → any f (upFrom a 0) ≡ false
+  unfolding any upFrom
+  any-no-record a = refl
+
+  pub any-record : (a n : ℕ) → any f (upFrom a n) ≡ false → f (a + n) ≡ false → any f (upFrom a (n + 1)) ≡ false
+  unfolding any upFrom
+  any-record a n e d = rw (up-append a n 1, any-append f (upFrom a n) (upFrom (a + n) 1), e, d)
+
+  pub record-any : (a n k : ℕ) → n < k → f (a + n) ≡ true → any f (upFrom a k) ≡ true
+  record-any a n k l e = has-any f (up-in a k (a + n) .1 (omega arith)) e
