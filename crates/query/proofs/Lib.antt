@@ -1,1 +1,3 @@
+mod Sums
+mod Totals
 mod Examples
