@@ -1,3 +1,4 @@
 mod Sums
 mod Totals
+mod Areas
 mod Examples

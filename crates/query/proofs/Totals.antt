@@ -1,7 +1,7 @@
 -- Totals gathered from different records count each pixel once. So no sum passes the number of the window's pixels, and records that have all pixels give the totals.
 -- Assumes nothing.
 use mathlib.Core.Path.{_≡_, refl, sym, ap, _∙_}
-use mathlib.Core.Logic.{_≢_}
+use mathlib.Core.Logic.{_↔_, _≢_}
 use mathlib.Core.Bool.{Bool, true, false, cond}
 use mathlib.Core.List.{List, [], _∷_, _++_, append-assoc, map, List·Memᴰ}
 use Prim.Native.Nat.{ℕ, zero, suc, _+_, _*_, _≤_, _<_}
@@ -16,7 +16,7 @@ use Rattle.window.specs.declared.Window.{Window}
 use Rattle.window.specs.Window.{Px, In, Inside}
 use Rattle.window.specs.Lists.{Ordered, keep}
 use Rattle.window.specs.Blocks.{across, rows}
-use Rattle.window.proofs.Laws.{keep-true, in-keep, ordered-keep, rows-in}
+use Rattle.window.proofs.Laws.{keep-true, in-keep, ordered-keep, rows-in, in-rows}
 use Rattle.map.specs.Lists.{howMany}
 use Rattle.map.specs.Sound.{Follow}
 use Rattle.map.specs.Records.{pixelRecord}
@@ -42,8 +42,8 @@ rows-length r c (suc n) w = omega (arith, length-append (across r c w) (rows (su
 pub pixels-length : (W : Window) → length (pixels W) ≡ W .h * W .w
 pixels-length W = rows-length (W .r0) (W .c0) (W .h) (W .w)
 
-pub pixels-in : (W : Window) {p : Px} → List·Memᴰ p (pixels W) → In W p
-pixels-in W l = omega (arith, rows-in (W .r0) (W .c0) (W .h) (W .w) l)
+pub in-pixels : (W : Window) {p : Px} → List·Memᴰ p (pixels W) ↔ In W p
+in-pixels W = (λ l. omega (arith, rows-in (W .r0) (W .c0) (W .h) (W .w) l), λ v. in-rows (W .r0) (W .c0) (W .h) (W .w) (v .top) (v .bottom) (v .left) (v .right))
 
 module _ (m : ℕ) (keys classes : List ℕ) (W : Window) where
   -- ---- the totals
@@ -156,7 +156,7 @@ module _ (m : ℕ) (keys classes : List ℕ) (W : Window) where
           from e = has-any (eqb record-of) (in-keep (λ n. eqb (getD classes n 0) k) (has p v) e) (eq-eqb record-of record-of refl)
 
       each : (k : ℕ) → k < 256 → getD (gathered m keys classes W ns (replicate 256 0)) k 0 ≡ getD (totals m keys classes W) k 0
-      each k l = gathered-counts o l ∙ many-same (pixels W) (λ p n. same k p (pixels-in W n)) ∙ sym (totals-at k l)
+      each k l = gathered-counts o l ∙ many-same (pixels W) (λ p n. same k p (in-pixels W .0 n)) ∙ sym (totals-at k l)
 
 -- the openings of a window hand out such records
 pub openings-gathered : {m top : ℕ} {keys : List ℕ} → Follow m 0 keys → {W : Window} → Inside m W → top ≤ m → (classes : List ℕ) → ((n : ℕ) → getD classes n 0 < 256)

@@ -12,7 +12,7 @@ use Rattle.window.specs.Blocks.{floor, Maximal, exponent, corner, maxima
 use Rattle.window.proofs.Dyadic.{same-refl, fits-all, fits-by}
 use Rattle.window.proofs.Blocks.{exponent-le, exponent-fits, exponent-max}
 use Rattle.window.proofs.Listed.{listed→, →listed}
-pub use Rattle.window.proofs.Lists.{keep-in, keep-true, in-keep, ordered-keep, ordered-imp, ordered-append, pigeon}
+pub use Rattle.window.proofs.Lists.{keep-true, in-keep, ordered-keep, ordered-imp, ordered-append, pigeon}
 pub use Rattle.window.proofs.Dyadic.{floor-le, floor-lt, floor-eq, floor-same, floor-between, same-refl, same-sym, same-trans, same-up, same-div, fits-same, fits-down, fits-in, fits-all}
 pub use Rattle.window.proofs.Blocks.{exponent-le, exponent-fits, exponent-max, exponent-same, corner-same, corner-exponent, corner-in, corner-corner, same→corner, corner→same, corner-row, corner-col}
 pub use Rattle.window.proofs.Listed.{before-row, before-irrefl, before-trans, rows-in, in-rows, trichotomy, listed→, →listed, listed-ordered, block-of, block-one, ordered-front, ordered-back, front-all}
