@@ -1,13 +1,13 @@
 -- Totals gathered from different records count each pixel once. So no sum passes the number of the window's pixels, and records that have all pixels give the totals.
 -- Assumes nothing.
-use mathlib.Core.Path.{_≡_, refl, sym, ap, _∙_}
+use mathlib.Core.Path.{_≡_, refl, sym, _∙_}
 use mathlib.Core.Logic.{_↔_, _≢_}
 use mathlib.Core.Bool.{Bool, true, false, cond}
 use mathlib.Core.List.{List, [], _∷_, _++_, append-assoc, map, List·Memᴰ}
-use Prim.Native.Nat.{ℕ, zero, suc, _+_, _*_, _≤_, _<_}
+use Prim.Native.Nat.{ℕ, _+_, _*_, _≤_, _<_}
 use native.Mathlib.Omega.{arith}
 use lib.Dec.{eqb}
-use lib.ListN.{length, getD, replicate, length-append, length-map, length-set, length-replicate, getD-replicate}
+use lib.ListN.{length, getD, replicate, length-map, length-set, length-replicate, getD-replicate}
 use lib.Seq.{getD-set-same, getD-set-other, ext-getD}
 use borrow.Author.Tests.{eqb-true, eqb-false, eq-eqb}
 use Rattle.key.specs.Lists.{upFrom}
@@ -15,8 +15,7 @@ use Rattle.key.proofs.Laws.{table-entry, up-in, up-length}
 use Rattle.window.specs.declared.Window.{Window}
 use Rattle.window.specs.Window.{Px, In, Inside}
 use Rattle.window.specs.Lists.{Ordered, keep}
-use Rattle.window.specs.Blocks.{across, rows}
-use Rattle.window.proofs.Laws.{keep-true, in-keep, ordered-keep, rows-in, in-rows}
+use Rattle.window.proofs.Laws.{keep-true, in-keep, ordered-keep, rows-in, in-rows, rows-length}
 use Rattle.map.specs.Lists.{howMany}
 use Rattle.map.specs.Sound.{Follow}
 use Rattle.map.specs.Records.{pixelRecord}
@@ -28,16 +27,6 @@ use Rattle.query.specs.Gather.{area, added, gathered}
 use Rattle.query.proofs.Sums.{agree, ordered-part, many-same, many-all, many-most, each-once}
 
 -- ---- the window's pixels
-
-across-length : (r c n : ℕ) → length (across r c n) ≡ n
-unfolding across
-across-length r c zero = refl
-across-length r c (suc n) = ap suc (across-length r (suc c) n)
-
-rows-length : (r c n w : ℕ) → length (rows r c n w) ≡ n * w
-unfolding rows
-rows-length r c zero w = omega arith
-rows-length r c (suc n) w = omega (arith, length-append (across r c w) (rows (suc r) c n w), across-length r c w, rows-length (suc r) c n w)
 
 pub pixels-length : (W : Window) → length (pixels W) ≡ W .h * W .w
 pixels-length W = rows-length (W .r0) (W .c0) (W .h) (W .w)
@@ -73,6 +62,10 @@ module _ (m : ℕ) (keys classes : List ℕ) (W : Window) where
   unfolding gathered
   gathered-append [] ns′ cells = refl
   gathered-append (n ∷ ns) ns′ cells = gathered-append ns ns′ (added m keys classes W n cells)
+
+  pub gathered-next : (ns : List ℕ) (n : ℕ) (cells : List ℕ) → gathered m keys classes W (ns ++ n ∷ []) cells ≡ added m keys classes W n (gathered m keys classes W ns cells)
+  unfolding gathered
+  gathered-next ns n cells = gathered-append ns (n ∷ []) cells
 
   -- a record adds to the cell of its class, and to no other
   module _ (n : ℕ) (cells : List ℕ) where
@@ -126,42 +119,35 @@ module _ (m : ℕ) (keys classes : List ℕ) (W : Window) where
   -- one record more: the records before it, and it, are part of a list of different records
   pub added-most : (ns : List ℕ) (n : ℕ) (rest : List ℕ) → Ordered _≢_ (ns ++ n ∷ rest) → getD classes n 0 < 256
       → getD (gathered m keys classes W ns (replicate 256 0)) (getD classes n 0) 0 + area m keys W n ≤ W .h * W .w
-  unfolding gathered
   added-most ns n rest o l =
       let k = getD classes n 0 in
       let before = gathered m keys classes W ns (replicate 256 0) in
       let part : Ordered _≢_ (ns ++ n ∷ []) = ordered-part (ns ++ n ∷ []) rest (rw append-assoc o) in
-      let same : getD (added m keys classes W n before) k 0 ≡ getD before k 0 + area m keys W n =
-      added-same n before k (omega (arith, from-zeros ns)) refl in
-      omega (arith, same, rw (gathered-append ns (n ∷ []) (replicate 256 0)) at (gathered-most part k l))
+      omega (arith, added-same n before k (omega (arith, from-zeros ns)) refl, rw (gathered-next ns n (replicate 256 0)) at (gathered-most part k l))
 
   -- ---- records that have all pixels
 
-  pub gathered-all : {ns : List ℕ} → Ordered _≢_ ns → ((p : Px) → In W p → List·Memᴰ (pixelRecord m keys (p .0) (p .1)) ns) → ((n : ℕ) → getD classes n 0 < 256)
+  pub gathered-all : {ns : List ℕ} → Ordered _≢_ ns → ((p : Px) → In W p → List·Memᴰ (pixelRecord m keys (p .0) (p .1)) ns)
       → gathered m keys classes W ns (replicate 256 0) ≡ totals m keys classes W
   unfolding total hasClass
-  gathered-all {ns} o has small = ext-getD 0 _ _ (from-zeros ns ∙ sym totals-length) (λ k l. each k (omega (arith, from-zeros ns, l)))
+  gathered-all {ns} o has = ext-getD 0 _ _ (from-zeros ns ∙ sym totals-length) (λ k l. each k (omega (arith, from-zeros ns, l)))
     where
       -- a pixel's record is among those of class k exactly when its class is k
       same : (k : ℕ) (p : Px) → In W p → any (eqb (pixelRecord m keys (p .0) (p .1))) (ofClass k ns) ≡ eqb (getD classes (pixelRecord m keys (p .0) (p .1)) 0) k
-      same k p v = agree _ _ (to, from)
+      same k p v = agree _ _ (to, λ e. has-any (eqb n) (in-keep (λ x. eqb (getD classes x 0) k) (has p v) e) (eq-eqb n n refl))
         where
-          record-of : ℕ
-          record-of = pixelRecord m keys (p .0) (p .1)
+          n : ℕ
+          n = pixelRecord m keys (p .0) (p .1)
 
-          to : any (eqb record-of) (ofClass k ns) ≡ true → eqb (getD classes record-of 0) k ≡ true
-          to e = let t = any-has (eqb record-of) (ofClass k ns) e in rw (eqb-true record-of (t .0) (t .2)) (keep-true (λ n. eqb (getD classes n 0) k) ns (t .1))
-
-          from : eqb (getD classes record-of 0) k ≡ true → any (eqb record-of) (ofClass k ns) ≡ true
-          from e = has-any (eqb record-of) (in-keep (λ n. eqb (getD classes n 0) k) (has p v) e) (eq-eqb record-of record-of refl)
+          to : any (eqb n) (ofClass k ns) ≡ true → eqb (getD classes n 0) k ≡ true
+          to e = let t = any-has (eqb n) (ofClass k ns) e in rw (eqb-true n (t .0) (t .2)) (keep-true (λ x. eqb (getD classes x 0) k) ns (t .1))
 
       each : (k : ℕ) → k < 256 → getD (gathered m keys classes W ns (replicate 256 0)) k 0 ≡ getD (totals m keys classes W) k 0
       each k l = gathered-counts o l ∙ many-same (pixels W) (λ p n. same k p (in-pixels W .0 n)) ∙ sym (totals-at k l)
 
 -- the openings of a window hand out such records
-pub openings-gathered : {m top : ℕ} {keys : List ℕ} → Follow m 0 keys → {W : Window} → Inside m W → top ≤ m → (classes : List ℕ) → ((n : ℕ) → getD classes n 0 < 256)
+pub openings-gathered : {m top : ℕ} {keys : List ℕ} → Follow m 0 keys → {W : Window} → Inside m W → top ≤ m → (classes : List ℕ)
     → gathered m keys classes W (allHands (openings m top keys W)) (replicate 256 0) ≡ totals m keys classes W
-openings-gathered {m} {top} {keys} F {W} I small classes bytes =
+openings-gathered {m} {top} {keys} F {W} I small classes =
     gathered-all m keys classes W (records-once F I small)
     (λ p v. in-hands (openings m top keys W) _ .1 (hands-all F I small _ .0 (record { at = p; inside = v; is = refl })))
-    bytes

@@ -20,7 +20,7 @@ pub use Rattle.window.proofs.Few.{blocks-few}
 pub use Rattle.window.proofs.Tests.{window-refused, window-passed, window-inside, inside-12}
 pub use Rattle.window.proofs.Keys.{keys-of, key-at, pixel-in, key-named}
 pub use Rattle.window.proofs.Walk.{walked-first, walked-next, walked-last, walked-split, walked-room, goes-in, goes-exponent, goes-less}
-pub use Rattle.window.proofs.Loops.{maximal-most}
+pub use Rattle.window.proofs.Loops.{rows-length, pixels-most, maximal-most}
 pub use Rattle.window.proofs.Tables.{keys-length}
 
 -- The list has the maximal blocks, and no other: each lies in the window, and no larger block that lies in the window contains it. That each is listed once, by row and then by
