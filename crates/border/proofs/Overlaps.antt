@@ -41,7 +41,7 @@ within-is {i = i} {s = s} {j = j} {t = t} x y = rw (start-is x, end-is x, start-
     tests = both _ _
 
 -- the larger of two sizes has the larger exponent
-size-le : {i j : ℕ} → 4 ^ i ≤ 4 ^ j → i ≤ j
+pub size-le : {i j : ℕ} → 4 ^ i ≤ 4 ^ j → i ≤ j
 size-le {i} {j} h = go (decLe i j)
   where
     go : Dec (i ≤ j) → i ≤ j

@@ -1,7 +1,10 @@
-mod Runs
-mod Seeking
-mod Examples
 mod Lists
+mod Sums
+mod Runs
+mod Totals
+mod Areas
 mod Picked
 mod Found
 mod Selection
+mod Seeking
+mod Examples

@@ -149,15 +149,15 @@ module _ (m : ℕ) (keys classes : List ℕ) (class key : ℕ) where
 
   module _ (first : ℕ) {count : ℕ} where
     pub picked-one : count ≡ 1 → getD classes first 0 ≡ class → picked m keys classes class key first count ≡ key ∷ []
-    unfolding picked
+    unfolding picked pickedRun
     picked-one e d = rw (eq-eqb count 1 e, eq-eqb (getD classes first 0) class d)
 
     pub picked-none : count ≡ 1 → ¬ (getD classes first 0 ≡ class) → picked m keys classes class key first count ≡ []
-    unfolding picked
+    unfolding picked pickedRun
     picked-none e d = rw (eq-eqb count 1 e, ne-eqb (getD classes first 0) class d)
 
     pub picked-many : ¬ (count ≡ 1) → picked m keys classes class key first count ≡ map (λ n. getD keys n 0) (keep (λ n. eqb (getD classes n 0) class) (upFrom first count))
-    unfolding picked
+    unfolding picked pickedRun
     picked-many e = rw (ne-eqb count 1 e)
 
 -- ---- the law

@@ -1,8 +1,8 @@
 -- The classes of a window's pixels: which of them there are, and how many pixels have each.
 -- Assumes nothing.
 use mathlib.Core.Bool.{Bool}
-use mathlib.Core.List.{List, map}
-use Prim.Native.Nat.{ℕ}
+use mathlib.Core.List.{List, [], _∷_, map}
+use Prim.Native.Nat.{ℕ, _+_}
 use lib.Dec.{eqb}
 use lib.ListN.{getD}
 use Rattle.key.specs.Lists.{upFrom}
@@ -36,3 +36,8 @@ total m keys classes W class = howMany (hasClass m keys classes class) (pixels W
 -- the totals of all 256 classes, class by class
 unfoldable pub totals : ℕ → List ℕ → List ℕ → Window → List ℕ
 totals m keys classes W = map (total m keys classes W) (upFrom 0 256)
+
+-- numbers, added up
+unfoldable pub sum : List ℕ → ℕ
+sum [] = 0
+sum (n ∷ ns) = n + sum ns

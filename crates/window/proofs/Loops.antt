@@ -4,7 +4,7 @@ use mathlib.Core.Path.{_≡_, refl, sym, ap, _∙_}
 use mathlib.Core.Bool.{Bool, true, false, cond}
 use mathlib.Core.List.{List, [], _∷_, _++_, map, map-append}
 use Prim.Native.Nat.{ℕ, zero, suc, _+_, _*_, _≤_, _<_}
-use native.Mathlib.Nat.{suc-mul, mul-le-mul-right}
+use native.Mathlib.Nat.{suc-mul, mul-le-mul}
 use native.Mathlib.Omega.{arith}
 use lib.ListN.{length, set, length-append, length-map}
 use Rattle.answers.specs.Cells.{overwrite}
@@ -36,16 +36,17 @@ unfolding across
 across-length r c zero = refl
 across-length r c (suc n) = ap suc (across-length r (suc c) n)
 
-rows-length : (r c n w : ℕ) → length (rows r c n w) ≡ n * w
+pub rows-length : (r c n w : ℕ) → length (rows r c n w) ≡ n * w
 unfolding rows
 rows-length r c zero w = omega arith
 rows-length r c (suc n) w = rw (suc-mul n w) (simp length-append (omega (arith, across-length r c w, rows-length (suc r) c n w)))
 
+pub pixels-most : (W : Window) → Inside 12 W → W .h * W .w ≤ 16777216
+pixels-most W I = mul-le-mul {n₂ = 4096} {m₂ = 4096} (omega (arith, I)) (omega (arith, I))
+
 pub maximal-most : (W : Window) (top : ℕ) → Inside 12 W → length (maximal W top) ≤ 16777216
 unfolding maximal
-maximal-most W top I =
-    let a : W .h * W .w ≤ 4096 * W .w = mul-le-mul-right (W .w) (omega (arith, I)) in
-    omega (arith, keep-most (isCorner W top) (rows (W .r0) (W .c0) (W .h) (W .w)), rows-length (W .r0) (W .c0) (W .h) (W .w), I)
+maximal-most W top I = omega (arith, keep-most (isCorner W top) (rows (W .r0) (W .c0) (W .h) (W .w)), rows-length (W .r0) (W .c0) (W .h) (W .w), pixels-most W I)
 
 -- ---- counting
 

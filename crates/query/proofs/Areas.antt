@@ -1,0 +1,189 @@
+-- The part of a record in the window, as a product of two overlaps: rows and columns are tested apart, and the block around a pixel is an interval of each. A record in a block
+-- that lies in the window is whole.
+-- Assumes nothing.
+use mathlib.Core.Path.{_≡_, refl, sym, ap, ap₂, _∙_}
+use mathlib.Core.Logic.{_↔_, _≢_}
+use mathlib.Core.Bool.{Bool, true, false, cond, _&&_}
+use mathlib.Core.List.{List, List·Memᴰ}
+use Prim.Native.Nat.{ℕ, zero, suc, min, max, _+_, _*_, _^_, _≤_, _<_}
+use native.Mathlib.Nat.{mul-le-mul}
+use native.Mathlib.Decide.{decLe, decLt}
+use native.Mathlib.Omega.{arith}
+use lib.Dec.{eqb}
+use lib.ListN.{getD}
+use lib.Pow.{pow-add}
+use borrow.Author.Tests.{eqb-true, eq-eqb}
+use Rattle.answers.proofs.Tests.{never, both}
+use Rattle.key.specs.Lists.{upFrom}
+use Rattle.key.specs.Picture.{place}
+use Rattle.key.specs.Form.{formOf}
+use Rattle.key.specs.Blocks.{Among}
+use Rattle.key.proofs.Laws.{up-in, pow-most, four}
+use Rattle.window.specs.declared.Window.{Window}
+use Rattle.window.specs.Window.{Px, In, Inside}
+use Rattle.window.specs.Blocks
+use Rattle.window.specs.Blocks.{floor, Same, Fits, across, rows}
+use Rattle.window.specs.Decompose.{keyOf}
+use Rattle.window.proofs.Laws.{floor-le, floor-lt, floor-eq, same-div, fits-same, fits-down, exponent-fits, corner→same, pixel-in, key-named}
+use Rattle.map.specs.declared.Run.{Run}
+use Rattle.map.specs.Lists.{howMany}
+use Rattle.map.specs.Spans.{exponent}
+use Rattle.map.specs.Sound.{Follow}
+use Rattle.map.specs.Records.{SomeRecord, exponentOf, pixelRecord, pixelExponent}
+use Rattle.map.specs.Runs.{runOf, Nest, contained, filled, Meets}
+use Rattle.map.proofs.Laws.{tiling, record-at, block-records, exponent-is}
+use Rattle.border.specs.Openings.{indices, met}
+use Rattle.border.specs.Step.{Corner}
+use Rattle.border.proofs.Laws.{size-le, met-pixels, met-first}
+use Rattle.query.specs.Classes.{pixels}
+use Rattle.query.specs.Gather.{area, shared, clipped}
+use Rattle.query.proofs.Sums.{agree, many-same, many-append}
+use Rattle.query.proofs.Totals.{in-pixels}
+
+-- ---- rows and columns
+
+module _ (f g : ℕ → Bool) where
+  across-count : (r c n : ℕ) → howMany (λ p. f (p .0) && g (p .1)) (across r c n) ≡ cond (f r) (howMany g (upFrom c n)) 0
+  unfolding across upFrom howMany
+  across-count r c zero = go (f r)
+    where
+      go : (b : Bool) → zero ≡ cond b zero zero
+      go true = refl
+      go false = refl
+  across-count r c (suc n) = go (f r) (g c) (howMany g (upFrom (suc c) n)) (across-count r (suc c) n)
+    where
+      go : (a b : Bool) {s : ℕ} (k : ℕ) → s ≡ cond a k 0 → cond (a && b) (suc s) s ≡ cond a (cond b (suc k) k) 0
+      go true true k e = omega arith
+      go true false k e = e
+      go false b k e = e
+
+  -- pixels whose row passes one test and whose column passes another
+  rows-count : (r c n w : ℕ) → howMany (λ p. f (p .0) && g (p .1)) (rows r c n w) ≡ howMany f (upFrom r n) * howMany g (upFrom c w)
+  unfolding rows upFrom howMany
+  rows-count r c zero w = omega arith
+  rows-count r c (suc n) w =
+      many-append (λ p. f (p .0) && g (p .1)) (across r c w) (rows (suc r) c n w)
+      ∙ go (f r) (howMany f (upFrom (suc r) n)) (howMany g (upFrom c w)) (across-count r c w) (rows-count (suc r) c n w)
+    where
+      go : (b : Bool) {a s : ℕ} (n k : ℕ) → a ≡ cond b k 0 → s ≡ n * k → a + s ≡ cond b (suc n) n * k
+      go true n k d e = omega arith
+      go false n k d e = omega arith
+
+-- ---- an interval
+
+module _ (f : ℕ → Bool) {b k : ℕ} (is : (x : ℕ) → (f x ≡ true) ↔ Among b k x) where
+  -- of the n numbers from a on, as many pass as are among the k from b on
+  up-count : (a n : ℕ) → howMany f (upFrom a n) ≡ shared a n b k
+  unfolding upFrom howMany shared
+  up-count a zero = omega arith
+  up-count a (suc n) = go (f a) refl (decLe b a) (decLt a (b + k)) (up-count (suc a) n)
+    where
+      go : (t : Bool) → f a ≡ t → Dec (b ≤ a) → Dec (a < b + k) → {s : ℕ} → s ≡ shared (suc a) n b k → cond t (suc s) s ≡ shared a (suc n) b k
+      go true e h l d = omega (arith, is a .0 e)
+      go false e (no h) l d = omega arith
+      go false e (yes h) (no l) d = omega arith
+      go false e (yes h) (yes l) d = never (sym (is a .1 (omega arith)) ∙ e)
+
+-- x has y's block of exponent e exactly when it is one of the block's numbers
+floor-among : (e x y : ℕ) → (eqb (floor e x) (floor e y) ≡ true) ↔ Among (floor e y) (2 ^ e) x
+floor-among e x y = (to, λ h. eq-eqb _ _ (floor-eq e y x (h .least) (h .most)))
+  where
+    to : eqb (floor e x) (floor e y) ≡ true → Among (floor e y) (2 ^ e) x
+    to t = omega (arith, eqb-true (floor e x) (floor e y) t, floor-le e x, floor-lt e x)
+
+-- ---- the record of a pixel
+
+-- q has p's block of exponent e
+abbrev inBlock : ℕ → Px → Px → Bool
+inBlock e p q = eqb (floor e (q .0)) (floor e (p .0)) && eqb (floor e (q .1)) (floor e (p .1))
+
+in-block : (e : ℕ) (p q : Px) → (inBlock e p q ≡ true) ↔ Same e p q
+in-block e p q =
+    let t = both (eqb (floor e (q .0)) (floor e (p .0))) (eqb (floor e (q .1)) (floor e (p .1))) in (
+      λ h. record { row = sym (eqb-true _ _ (t .0 h .0)); col = sym (eqb-true _ _ (t .0 h .1)) },
+      λ s. t .1 (eq-eqb _ _ (sym (s .row)), eq-eqb _ _ (sym (s .col))),
+    )
+
+-- as many pixels of the window do as it shares with that block
+block-count : (W : Window) (e : ℕ) (p : Px) → howMany (inBlock e p) (pixels W) ≡ clipped W e p
+unfolding clipped
+block-count W e p = rows-count (around (p .0)) (around (p .1)) (W .r0) (W .c0) (W .h) (W .w) ∙ ap₂ _*_ (along (p .0) (W .r0) (W .h)) (along (p .1) (W .c0) (W .w))
+  where
+    around : ℕ → ℕ → Bool
+    around y x = eqb (floor e x) (floor e y)
+
+    along : (y a n : ℕ) → howMany (around y) (upFrom a n) ≡ shared a n (floor e y) (2 ^ e)
+    along y = up-count (around y) (λ x. floor-among e x y)
+
+module _ {m : ℕ} {keys : List ℕ} (F : Follow m 0 keys) {W : Window} (I : Inside m W) where
+  -- the window's part of p's record is its part of p's block of that record's exponent
+  pub area-around : {p : Px} → In W p → area m keys W (pixelRecord m keys (p .0) (p .1)) ≡ clipped W (pixelExponent m keys (p .0) (p .1)) p
+  unfolding area
+  area-around {p} v = many-same (pixels W) (λ q l. agree _ _ (same q (in-pixels W .0 l))) ∙ block-count W (pixelExponent m keys (p .0) (p .1)) p
+    where
+      same : (q : Px) → In W q → (eqb (pixelRecord m keys (q .0) (q .1)) (pixelRecord m keys (p .0) (p .1)) ≡ true) ↔ (inBlock (pixelExponent m keys (p .0) (p .1)) p q ≡ true)
+      same q u =
+          let one = tiling F .law (pixel-in I v) (pixel-in I u) in
+          let block = in-block (pixelExponent m keys (p .0) (p .1)) p q in
+          (λ t. block .1 (same-div .1 (one .0 (sym (eqb-true _ _ t)))), λ t. eq-eqb _ _ (sym (one .1 (same-div .0 (block .0 t)))))
+
+  -- the same by the record's number
+  pub area-at : {p : Px} {n : ℕ} → In W p → pixelRecord m keys (p .0) (p .1) ≡ n → area m keys W n ≡ clipped W (exponent (formOf m (getD keys n 0))) p
+  unfolding exponentOf
+  area-at v e = rw (← e) (area-around v)
+
+-- ---- the records of a maximal block
+
+-- of a block that lies in the window nothing is cut off
+clipped-whole : {W : Window} {e : ℕ} {p : Px} → Fits W e p → clipped W e p ≡ 4 ^ e
+unfolding clipped shared
+clipped-whole {W} {e} {p} f =
+    ap₂ _*_ (omega arith) (omega arith) ∙ sym (pow-add 2 e e) ∙ ap (λ (k : ℕ). 2 ^ k) (omega arith) ∙ four e
+
+module _ {m top : ℕ} {keys : List ℕ} (F : Follow m 0 keys) {W : Window} (I : Inside m W) (small : top ≤ m) {b : Px} (C : Corner W top b) {n : ℕ}
+    (l : List·Memᴰ n (met m keys (keyOf m top W b))) where
+  abbrev found : Run
+  found = runOf m keys (keyOf m top W b)
+
+  meets : Meets m keys (Blocks.exponent W top b) (place (b .0) (b .1)) (found .first) (found .count)
+  meets = block-records F (key-named I small (C .inside) (C .own))
+
+  among : Among (found .first) (found .count) n
+  unfolding indices
+  among = up-in _ _ n .0 l
+
+  -- one of several lies in the block
+  met-smaller : found .count ≢ 1 → exponent (formOf m (getD keys n 0)) ≤ Blocks.exponent W top b
+  met-smaller d = go (record-at F n (omega (arith, among, meets .room))) (meets .nest)
+    where
+      go : SomeRecord m keys n → Nest m keys (Blocks.exponent W top b) (place (b .0) (b .1)) (found .first) (found .count) → exponent (formOf m (getD keys n 0)) ≤ Blocks.exponent W top b
+      go R (contained e r h) = absurd (d e)
+      go R (filled h) = rw (exponent-is (R .is .names)) (size-le (omega (arith, h n (R .exponent) (R .start) among (R .is))))
+
+  -- and so in the window
+  pub area-inside : found .count ≢ 1 → area m keys W n ≡ 4 ^ exponent (formOf m (getD keys n 0))
+  area-inside d =
+      let o = met-pixels F I small C n .0 l in
+      let s = corner→same W top (C .inside) (o .inside) (C .own ∙ sym (o .block)) in
+      area-at F I (o .inside) (o .is) ∙ clipped-whole (fits-down (met-smaller d) (fits-same s (exponent-fits W top (C .inside))))
+
+  -- a single one is that of the corner
+  pub met-corner : found .count ≡ 1 → n ≡ pixelRecord m keys (b .0) (b .1)
+  met-corner e = omega (arith, among, met-first F I small C)
+
+  pub area-corner : found .count ≡ 1 → area m keys W n ≡ clipped W (exponent (formOf m (getD keys n 0))) b
+  area-corner e = area-at F I (C .inside) (sym (met-corner e))
+
+-- ---- what a program needs of it
+
+-- the ends of an overlap with the block around a number that both have stand in order, and the overlap is no longer than the block
+pub shared-order : (a n e x : ℕ) → a ≤ x → x < a + n → max a (floor e x) < min (a + n) (floor e x + 2 ^ e)
+shared-order a n e x h l = omega (arith, floor-le e x, floor-lt e x)
+
+pub shared-most : (a n b e : ℕ) → e ≤ 12 → shared a n b (2 ^ e) ≤ 4096
+unfolding shared
+shared-most a n b e h = omega (arith, pow-most 1 e h)
+
+pub clipped-most : (W : Window) (e : ℕ) (p : Px) → e ≤ 12 → clipped W e p ≤ 16777216
+unfolding clipped
+clipped-most W e p h = mul-le-mul (shared-most (W .r0) (W .h) (floor e (p .0)) e h) (shared-most (W .c0) (W .w) (floor e (p .1)) e h)
