@@ -3,12 +3,13 @@
 use mathlib.Core.Path.{_≡_, refl, sym, ap, _∙_}
 use mathlib.Core.Logic.{_↔_}
 use mathlib.Core.Bool.{true, false}
-use mathlib.Core.List.{List, [], _∷_, _++_, map, map-append, append-assoc, append-nil, List·Memᴰ·not-nil, List·Memᴰ·head, Memᴰ·append-right}
+use mathlib.Core.List.{List, [], _∷_, _++_, map, map-append, append-assoc, append-nil, List·Memᴰ, List·Memᴰ·not-nil, List·Memᴰ·head, Memᴰ·append-right}
 use Prim.Native.Nat.{ℕ, suc, _+_, _-_, _≤_, _<_}
 use native.Mathlib.Decide.{decLt}
 use native.Mathlib.Omega.{arith}
 use lib.ListN.{length, getD, take, drop, replicate, length-append, length-replicate, take-append-drop}
 use borrow.Author.Tests.{lt-ltb, le-ltb}
+use Rattle.answers.specs.Cells.{overwrite}
 use Rattle.answers.proofs.Tests.{refuted}
 use Rattle.answers.proofs.Laws.{overwrite-part, overwrite-same}
 use Rattle.key.specs.Picture.{Pixel}
@@ -22,6 +23,7 @@ use Rattle.window.specs.Decompose.{keyOf}
 use Rattle.window.proofs.Laws.{walked-first, goes-in, goes-corner, goes-exponent, goes-cursor, exponent-le, key-at, pixel-in}
 use Rattle.map.specs.Records.{pixelExponent}
 use Rattle.map.specs.Runs.{runOf}
+use Rattle.map.specs.Runs as runs
 use Rattle.map.proofs.Laws.{tiling}
 use Rattle.border.specs.declared.Stepped.{Stepped}
 use Rattle.border.specs.declared.Stepped.the-variants as stepped
@@ -37,7 +39,9 @@ use Rattle.border.proofs.Filled.{filled-length, filled-beyond, raised-l
 use Rattle.border.proofs.Steps.{step-skipped, step-opened}
 use Rattle.border.proofs.Stays.{stated-as, begins, ends, skip-iff}
 use Rattle.border.proofs.Fold.{opens-none, skip-opens, take-opens, opens-append, openings-are, hands-append}
+use Rattle.border.proofs.Overlaps.{met-room}
 use Rattle.border.proofs.Handing.{listed-corner, all-handed, handed-out, skip-test}
+use Rattle.border.proofs.Laws.{opening-block}
 
 pub kept-none : {W : Window} {cells : List ℕ} → Kept W cells cells
 kept-none = record { same = refl; beyond = refl }
@@ -50,6 +54,14 @@ unfolding spent
 spent-kept {W} {cells} {border} k =
     let l : length (replicate (W .w) (W .r0 + W .h)) ≡ W .w = length-replicate (W .w) (W .r0 + W .h) in
     overwrite-same (replicate (W .w) (W .r0 + W .h)) cells border (rw l (k .beyond))
+
+filled-spent : (W : Window) (cells : List ℕ) → W .w ≤ length cells → filled 0 (W .w) (W .r0 + W .h) cells ≡ spent W cells
+unfolding filled spent overwrite
+filled-spent W cells l =
+    let z : W .w - 0 ≡ W .w = omega arith in
+    let y : 0 + (W .w - 0) ≡ W .w = omega arith in
+    let e : take 0 cells ++ replicate (W .w - 0) (W .r0 + W .h) ++ drop (0 + (W .w - 0)) cells ≡ replicate (W .w) (W .r0 + W .h) ++ drop (W .w) cells = rw (y, z) in
+    rw (length-replicate (W .w) (W .r0 + W .h)) e
 
 -- ---- one step
 
@@ -277,6 +289,12 @@ module _ {m top : ℕ} {keys : List ℕ} {W : Window} {border₀ border : List �
     pub finding-usable : Usable m top keys W (length border₀) → Usable m top keys W (length border)
     finding-usable U = rw (F .kept .same) U
 
+    -- cells that are filled to the end are spent, however far the walk is
+    pub finding-spent : {after : List ℕ} → Usable m top keys W (length border₀) → after ≡ filled 0 (W .w) (W .r0 + W .h) border → (after ≡ spent W border₀) × (length after ≡ length border₀)
+    finding-spent U e =
+        let l = finding-usable U .wide in
+        (e ∙ filled-spent W border l ∙ spent-kept (F .kept), rw e (filled-length 0 (W .w) (W .r0 + W .h) border (omega arith) l) ∙ F .kept .same)
+
     pub finding-next : {row col key first count after : ℕ} {border′ : List ℕ} → Finds m top keys W s border (found.Opening row col key first count after) border′
         → Finding m top keys W border₀ border′ (row, after) (done ++ (made key first count ∷ []))
     finding-next (finds.opening K n c k e l) = record {
@@ -289,6 +307,23 @@ module _ {m top : ℕ} {keys : List ℕ} {W : Window} {border₀ border : List �
     pub finding-last : {border′ : List ℕ} → Finds m top keys W s border found.End border′ → (openings m top keys W ≡ done) × (border′ ≡ spent W border₀) × Kept W border₀ border′
     finding-last (finds.end k e l) = (F .all ∙ rw (e, append-nil), sym l ∙ F .left, kept-more (F .kept) k)
 
+-- the block with corner b is opened with the `count` records from `first` on
+pub record Opens (m top : ℕ) (keys : List ℕ) (W : Window) (b : Px) (first count : ℕ) : Type 0 where
+  pub corner : Corner W top b
+  pub run : runOf m keys (keyOf m top W b) ≡ runs.run first count
+  pub room : first + count ≤ length keys
+
 module _ {m top : ℕ} {keys : List ℕ} {W : Window} {s : Px} {cells border : List ℕ} {row col key first count after : ℕ} where
+  -- what is found is an opening of the block with that corner
+  pub finds-opens : {n : ℕ} {border₀ : List ℕ} {done : List Opening} → Usable m top keys W n → Finding m top keys W border₀ cells s done
+      → Finds m top keys W s cells (found.Opening row col key first count after) border → Opens m top keys W (row, col) first count
+  unfolding opening
+  finds-opens {done = done} U F (finds.opening K n c k e l) =
+      let listed : List·Memᴰ (made key first count) (openings m top keys W) = rw (F .all, e) (Memᴰ·append-right done (List·Memᴰ·head {xs = madeFrom m top keys W border (row, after)} refl)) in
+      let t = opening-block (U .sound) (U .inside) (U .cap) (made key first count) listed in
+      let d : keyOf m top W (t .0) ≡ keyOf m top W (row, col) = sym (ap (λ (o : Opening). o .key) (t .2)) ∙ n in
+      let r : runOf m keys (keyOf m top W (row, col)) ≡ runs.run first count = rw (← d) (ap (λ (o : Opening). runs.run (o .first) (o .count)) (sym (t .2))) in
+      record { corner = K; run = r; room = rw r at (met-room (U .sound) (U .inside) (U .cap) K) }
+
   pub finds-less : Finds m top keys W s cells (found.Opening row col key first count after) border → length (madeFrom m top keys W border (row, after)) < length (madeFrom m top keys W cells s)
   finds-less (finds.opening K n c k e l) = rw e (omega arith)

@@ -7,4 +7,5 @@ mod Picked
 mod Found
 mod Selection
 mod Seeking
+mod Tables
 mod Examples

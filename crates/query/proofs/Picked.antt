@@ -28,7 +28,7 @@ use Rattle.map.proofs.Laws.{record-at, holder, one-holder, block-records}
 use Rattle.border.specs.Openings.{any, within}
 use Rattle.border.specs.Step.{Corner}
 use Rattle.border.proofs.Laws.{any-has, has-any, within-is}
-use Rattle.query.specs.Select.{around, inside, selected, picked}
+use Rattle.query.specs.Select.{around, inside, selected, pickedRun, picked}
 use Rattle.query.proofs.Lists.{same-tests, keep-none, keep-same, keep-run}
 
 -- ---- the run of a block

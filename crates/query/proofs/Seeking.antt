@@ -1,13 +1,22 @@
 -- Looking for a record of the class: along a run, and from opening to opening.
 -- Assumes nothing.
-use mathlib.Core.Path.{_≡_, refl, sym, _∙_}
+use mathlib.Core.Path.{_≡_, refl, _∙_}
 use mathlib.Core.Bool.{Bool, true, false}
-use mathlib.Core.List.{List, [], _∷_}
+use mathlib.Core.List.{List, [], _∷_, _++_, append-assoc}
 use Prim.Native.Nat.{ℕ, _+_, _-_, _≤_, _<_}
 use native.Mathlib.Omega.{arith}
 use Rattle.key.specs.Lists.{upFrom}
-use Rattle.border.specs.Openings.{any}
-use Rattle.query.proofs.Runs.{run-whole, run-next, run-last}
+use Rattle.window.specs.declared.Window.{Window}
+use Rattle.window.specs.Window.{Px}
+use Rattle.border.specs.declared.Found.the-variants as found
+use Rattle.border.specs.Openings.{any, Opening, openings}
+use Rattle.border.specs.Promises.{allHands}
+use Rattle.border.specs.Step.{Usable}
+use Rattle.border.specs.Found.{made, madeFrom, Finds}
+use Rattle.border.proofs.Finding.{Finding, finding-next, finding-last}
+use Rattle.query.specs.Classes.{classed, exists}
+use Rattle.query.proofs.Found.{exists-hands, any-no-opening, any-opening, opening-any}
+use Rattle.query.proofs.Runs.{run-next, run-last}
 
 -- none was found before n: whether there is one at all is whether there is one from n on
 pub record Looking (f : ℕ → Bool) (first end n : ℕ) : Type 0 where
@@ -31,3 +40,35 @@ module _ (f : ℕ → Bool) {first end : ℕ} where
     pub looking-last : end ≤ n → any f (upFrom first (end - first)) ≡ false
     unfolding any
     looking-last l = L .same ∙ rw (run-last l)
+
+-- ---- from opening to opening
+
+-- the walk stands at s, and none of the records handed out so far has the class
+pub record Seeking (m : ℕ) (keys classes : List ℕ) (W : Window) (class : ℕ) (border₀ border : List ℕ) (s : Px) : Type 0 where
+  pub done : List Opening
+  pub finding : Finding m m keys W border₀ border s done
+  pub none : any (classed classes class) (allHands done) ≡ false
+
+module _ {m : ℕ} {keys : List ℕ} (classes : List ℕ) {W : Window} (class : ℕ) where
+  pub seeking-first : {border : List ℕ} → Finding m m keys W border border (W .r0, W .c0) [] → Seeking m keys classes W class border border (W .r0, W .c0)
+  seeking-first F = record { done = []; finding = F; none = any-no-opening (classed classes class) }
+
+  module _ {n : ℕ} (U : Usable m m keys W n) {border₀ border : List ℕ} {s : Px} (S : Seeking m keys classes W class border₀ border s) where
+    whole : exists m keys classes W class ≡ any (classed classes class) (allHands (openings m m keys W))
+    whole = exists-hands (U .sound) (U .inside) (U .cap) classes class
+
+    module _ {row col key first count after : ℕ} {border′ : List ℕ} (f : Finds m m keys W s border (found.Opening row col key first count after) border′) where
+      pub seeking-next : any (classed classes class) (upFrom first count) ≡ false → Seeking m keys classes W class border₀ border′ (row, after)
+      seeking-next e = record {
+        done = S .done ++ (made key first count ∷ []);
+        finding = finding-next (S .finding) f;
+        none = any-opening (classed classes class) (S .done) (made key first count) (S .none) e;
+      }
+
+      pub seeking-found : any (classed classes class) (upFrom first count) ≡ true → exists m keys classes W class ≡ true
+      seeking-found e =
+          let rest = madeFrom m m keys W border′ (row, after) in
+          whole ∙ rw (finding-next (S .finding) f .all, append-assoc (S .done) (made key first count ∷ []) rest) (opening-any (classed classes class) (S .done) (made key first count) rest e)
+
+    pub seeking-last : {border′ : List ℕ} → Finds m m keys W s border found.End border′ → exists m keys classes W class ≡ false
+    seeking-last f = whole ∙ rw (finding-last (S .finding) f .0) (S .none)

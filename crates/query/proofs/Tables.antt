@@ -1,0 +1,58 @@
+-- The answers of the queries, test by test.
+-- Assumes nothing.
+use mathlib.Core.Path.{_≡_, refl, ap₂, _∙_}
+use mathlib.Core.Bool.{true, false, cond}
+use mathlib.Core.List.{List, [], _∷_}
+use Prim.Native.Nat.{ℕ, _≤_, _<_}
+use lib.ListN.{length}
+use borrow.Author.Tests.{lt-ltb, le-ltb}
+use Rattle.answers.specs.declared.Verdict.the-variants as verdict-of
+use Rattle.answers.specs.Rows.{verdict}
+use Rattle.answers.specs.Cells.{overwrite}
+use Rattle.answers.proofs.Laws.{answer-none, row-held, row-clear, on-passed, on-refused}
+use Rattle.window.specs.declared.Window.{Window}
+use Rattle.border.specs.Open.{useRows, spent}
+use Rattle.query.specs.declared.Existence.the-variants as existence
+use Rattle.query.specs.declared.Queried.the-variants.{Done, Refused}
+use Rattle.query.specs.Classes.{exists}
+use Rattle.query.specs.Query.{AfterExist, afterExist, existing, existOf, AfterQuery, afterQuery, queryOf}
+
+-- ---- exist
+
+module _ (m : ℕ) (keys classes : List ℕ) (W : Window) (class : ℕ) (border : List ℕ) where
+  pub exist-refused : {n p : ℕ} → verdict (useRows m keys (length classes) W (length border)) ≡ verdict-of.Refused n p → existOf m keys classes W class border ≡ afterExist (existence.Refused n p) border
+  unfolding existOf
+  exist-refused e = on-refused _ (useRows m keys (length classes) W (length border)) _ e
+
+  pub exist-done : verdict (useRows m keys (length classes) W (length border)) ≡ verdict-of.Passed → existOf m keys classes W class border ≡ existing m keys classes W class border
+  unfolding existOf
+  exist-done e = on-passed _ (useRows m keys (length classes) W (length border)) _ e
+
+  pub existing-yes : {after : List ℕ} → exists m keys classes W class ≡ true → after ≡ spent W border → afterExist existence.Yes after ≡ existing m keys classes W class border
+  unfolding existing
+  existing-yes e d = rw (e, d)
+
+  pub existing-no : {after : List ℕ} → exists m keys classes W class ≡ false → after ≡ spent W border → afterExist existence.No after ≡ existing m keys classes W class border
+  unfolding existing
+  existing-no e d = rw (e, d)
+
+-- ---- report and select
+
+module _ (m : ℕ) (keys : List ℕ) (classes : ℕ) (W : Window) (value : ℕ) (cells border out : List ℕ) where
+  pub query-refused : {n p : ℕ} → verdict (useRows m keys classes W (length border)) ≡ verdict-of.Refused n p → queryOf m keys classes W value cells border out ≡ afterQuery (Refused n p) border out
+  unfolding queryOf
+  query-refused e = on-refused _ (useRows m keys classes W (length border)) _ e
+
+  module _ (e : verdict (useRows m keys classes W (length border)) ≡ verdict-of.Passed) where
+    pub query-short : length out < length cells → queryOf m keys classes W value cells border out ≡ afterQuery (Refused 8 (length cells)) (spent W border) out
+    unfolding queryOf
+    query-short l =
+        on-passed _ (useRows m keys classes W (length border)) _ e
+        ∙ row-held (λ n p. afterQuery (Refused n p) (spent W border) out) 8 _ [] _ (lt-ltb (length out) _ l)
+
+    pub query-done : length cells ≤ length out → queryOf m keys classes W value cells border out ≡ afterQuery (Done value) (spent W border) (overwrite cells out)
+    unfolding queryOf
+    query-done l =
+        on-passed _ (useRows m keys classes W (length border)) _ e
+        ∙ row-clear (λ n p. afterQuery (Refused n p) (spent W border) out) 8 _ [] _ (le-ltb (length out) _ l)
+        ∙ answer-none (λ n p. afterQuery (Refused n p) (spent W border) out) _
