@@ -35,10 +35,10 @@ use Rattle.border.proofs.Handing.{listed-corner, met-now, handed-all}
 use Rattle.border.proofs.Chosen.{Chosen, chosen}
 use Rattle.border.proofs.Tables.{use-known}
 pub use Rattle.border.proofs.Lists.{up-distinct, any-has, has-any}
-pub use Rattle.border.proofs.Overlaps.{within-is, OfPixel, spans, met-pixels, size-le, met-first}
+pub use Rattle.border.proofs.Overlaps.{within-is, OfPixel, spans, met-pixels, size-le, met-first, met-room}
 pub use Rattle.border.proofs.Fold.{opening-hands, in-hands}
 pub use Rattle.border.proofs.Handing.{listed-corner}
-pub use Rattle.border.proofs.Tables.{use-known}
+pub use Rattle.border.proofs.Tables.{use-known, use-same}
 
 pub records-out : (m top : ℕ) (keys : List ℕ) (W : Window) → handedBy m top keys W (maximal W top) ≡ allHands (openings m top keys W)
 records-out m top keys W = rw (openings-are m top keys W) (hands-opens m keys [] (map (keyOf m top W) (maximal W top)))

@@ -65,6 +65,10 @@ module _ (m : ℕ) (keys : List ℕ) (classes : ℕ) (W : Window) (cells : ℕ) 
         wide = ltb-false cells (W .w) (passed-row (ltb cells (W .w)) 7 (W .w) [] .0 (b .1) .0);
       }
 
+  pub use-same : verdict (useRows m keys classes W cells) ≡ verdict-of.Passed → length keys ≡ classes
+  unfolding useRows
+  use-same e = sound-map m keys classes .0 (passed-append (mapRows m keys classes) _ .0 e .0) .sizes .same
+
 -- ---- refusal 8, and an accepted call
 
 module _ (m : ℕ) (keys : List ℕ) (classes : ℕ) (W : Window) (border out : List ℕ) where

@@ -3,6 +3,7 @@ mod Sums
 mod Runs
 mod Totals
 mod Areas
+mod Parts
 mod Picked
 mod Found
 mod Selection

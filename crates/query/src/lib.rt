@@ -103,3 +103,40 @@ pub fn exist(
     let table = key::spread_table();
     seek(&table, m, keys, classes, window, class, border)
 }
+
+// How many numbers the n from a on and the k from b on share.
+fn shared(a: u16, n: u16, b: u16, k: u16) -> u16
+    requires { ⌜ (a + n ≤ 65535) × (b + k ≤ 65535) ⌝ }
+    ensures { λ r. ⌜ r ≡ shared a n b k ⌝ }
+{
+    let high = window::least(a + n, b + k);
+    if a < b {
+        border::ahead(high, b)
+    } else {
+        border::ahead(high, a)
+    }
+}
+
+// How many pixels the window shares with the block of side 2^e around one of its pixels.
+fn clipped(window: Window, e: u32, row: u16, col: u16) -> u32
+    requires { ⌜ (e ≤ 12) × Inside 12 window × In window (row, col) ⌝ }
+    ensures { λ r. ⌜ r ≡ clipped window e (row, col) ⌝ }
+{
+    let side = window::side(e);
+    let rows = shared(window.r0, window.h, window::floor(e, row), side);
+    let cols = shared(window.c0, window.w, window::floor(e, col), side);
+    (rows as u32) * (cols as u32)
+}
+
+// How many pixels of the window are in a record that is handed out by the opening of the block with this corner: a single one contains the block and may stick out of the window;
+// several lie in it.
+fn part(m: u32, keys: &[u32], window: Window, row: u16, col: u16, count: u32, n: u32) -> u32
+    requires { ⌜ Part m (now keys) window (row, col) count n ⌝ }
+    ensures { λ r. ⌜ r ≡ area m (now (keys .entry)) window n ⌝ }
+{
+    let e = map::exponent_of(m, keys, n);
+    if count == 1 {
+        return clipped(window, e, row, col);
+    }
+    key::pow4(e)
+}

@@ -1,37 +1,43 @@
+-- `query::exist` meets its contract. Each test decides what its law in `Tables` says.
+-- Assumes nothing.
+use mathlib.Core.Path.{_≡_, sym, _∙_}
+use lib.ListN.{length}
 use borrow.Author.Needs.{needs}
+use Rattle.answers.specs.declared.Verdict.the-variants.{Passed}
+use Rattle.answers.specs.Rows.{verdict}
+use Rattle.border.specs.Open.{useRows}
+use Rattle.border.proofs.Laws.{use-known, use-same}
+use Rattle.query.proofs.Tables.{exist-refused, exist-done}
 use Rattle.query.proofs.exist.Statement.{statement}
 use Rattle.query.proofs.exist.Tie as tie
 
--- src/lib.rt:99:9
 usable-requires : tie.Need-usable-requires
 usable-requires c κs = search needs
 
--- src/lib.rt:100:31
 enum-known-verdict : tie.Need-enum-known-verdict
 enum-known-verdict c = search needs
 
--- src/lib.rt:101:9
 returns : tie.Need-returns
-returns c = ?
+returns c = sym (exist-refused _ _ _ _ _ _ (sym (c .before .before .before .usable .ensures) ∙ c .before .verdict .given .1))
 
 enum-told : tie.Need-enum-told
 enum-told c = search needs
 
--- src/lib.rt:103:17
 spread-table-requires : tie.Need-spread-table-requires
 spread-table-requires c κs = search needs
 
--- src/lib.rt:104:5
-seek-requires : tie.Need-seek-requires
-seek-requires c κs = ?
+-- where refusals 1 to 7 do not hold
+passed : (c : tie.After-enum-told) → verdict (useRows (c .before .before .before .before .before .before .args .m) (c .before .before .before .before .before .before .args .keys .now) (length (c .before .before .before .before .before .before .args .classes .now)) (c .before .before .before .before .before .before .args .window) (length (c .before .before .before .before .before .before .args .border .now))) ≡ Passed
+passed c = sym (c .before .before .usable .ensures) ∙ c .enum-told .given .1
 
--- src/lib.rt:89:1
+seek-requires : tie.Need-seek-requires
+seek-requires c κs = (c .before .before .spread-table .ensures, use-known _ _ _ _ _ (passed (c .before .before .before)), use-same _ _ _ _ _ (passed (c .before .before .before)))
+
 same-length : tie.Need-same-length
 same-length c = search needs
 
--- src/lib.rt:89:1
 returns-2 : tie.Need-returns-2
-returns-2 c = ?
+returns-2 c = c .before .before .seek .ensures ∙ sym (exist-done _ _ _ _ _ _ (passed (c .before .before .before .before .before .before)))
 
 pub exist-spec : {M : Type 1} → statement M
 exist-spec =
