@@ -55,7 +55,7 @@ spent-kept {W} {cells} {border} k =
     let l : length (replicate (W .w) (W .r0 + W .h)) ≡ W .w = length-replicate (W .w) (W .r0 + W .h) in
     overwrite-same (replicate (W .w) (W .r0 + W .h)) cells border (rw l (k .beyond))
 
-filled-spent : (W : Window) (cells : List ℕ) → W .w ≤ length cells → filled 0 (W .w) (W .r0 + W .h) cells ≡ spent W cells
+pub filled-spent : (W : Window) (cells : List ℕ) → W .w ≤ length cells → filled 0 (W .w) (W .r0 + W .h) cells ≡ spent W cells
 unfolding filled spent overwrite
 filled-spent W cells l =
     let z : W .w - 0 ≡ W .w = omega arith in

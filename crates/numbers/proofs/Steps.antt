@@ -66,18 +66,6 @@ pub put-first : (cells : List ℕ) → Filling (bytesOf []) cells cells
 unfolding bytesOf
 put-first cells = filling-first cells
 
--- a loop that writes g of the first i elements of a list has written g of all
-pub list-last : (g : List ℕ → List ℕ) (from : List ℕ) (i : ℕ) {cells₀ cells : List ℕ} → Filling (g (take i from)) cells₀ cells → length from ≤ i
-    → cells ≡ overwrite (g from) cells₀
-list-last g from i f l = f .is ∙ rw (take-all i from l)
-
-module _ (from : List ℕ) (i : ℕ) {cells₀ cells : List ℕ} (f : Filling (take i from) cells₀ cells) where
-  pub copy-next : i < length from → i < length cells₀ → Filling (take (i + 1) from) cells₀ (set cells i (getD from i 0))
-  copy-next l m =
-      let e : take i from ++ (getD from i 0 ∷ []) ≡ take (i + 1) from = rw (add-one, take-suc from i 0) in
-      subst (λ (part : List ℕ). Filling part cells₀ (set cells i (getD from i 0))) e
-      (filling-cell f i (length-take-le i from (omega arith)) (getD from i 0) m)
-
 module _ (from : List ℕ) (i : ℕ) {cells₀ cells : List ℕ} (f : Filling (numbers i from) cells₀ cells) where
   pub get-next : {y : ℕ} → y ≡ number 4 (lent (4 * i) from) → i < length cells₀ → Filling (numbers (i + 1) from) cells₀ (set cells i y)
   get-next {y} e l =

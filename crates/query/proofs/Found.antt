@@ -65,24 +65,16 @@ exists-hands {m} {top} {keys} F {W} I small classes class = same-tests _ _ to fr
         let h = hands-all F I small (t .0) .1 (in-hands os (t .0) .0 (t .1)) in
         exists-means m keys classes class W .1 (h .at, h .inside, rw (h .is) (eqb-true _ _ (t .2)))
 
--- one record of the class among those that overlap a maximal block is enough
-pub exists-block : {m top : ℕ} {keys : List ℕ} → Follow m 0 keys → {W : Window} → Inside m W → top ≤ m → (classes : List ℕ) (class : ℕ) {b : Px} → Corner W top b
-    → any (λ n. eqb (getD classes n 0) class) (met m keys (keyOf m top W b)) ≡ true → exists m keys classes W class ≡ true
-exists-block {m} {top} {keys} F {W} I small classes class {b} C e =
-    let t = any-has (λ n. eqb (getD classes n 0) class) (met m keys (keyOf m top W b)) e in
-    let o = met-pixels F I small C (t .0) .0 (t .1) in
-    exists-means m keys classes class W .1 (o .at, o .inside, rw (o .is) (eqb-true _ _ (t .2)))
-
 -- ---- part by part
 
-pub all-append : (os os′ : List Opening) → allHands (os ++ os′) ≡ allHands os ++ allHands os′
+pub hands-append : (os os′ : List Opening) → allHands (os ++ os′) ≡ allHands os ++ allHands os′
 unfolding allHands
-all-append [] os′ = refl
-all-append (o ∷ os) os′ = rw (all-append os os′) (sym (append-assoc (hands o) (allHands os) (allHands os′)))
+hands-append [] os′ = refl
+hands-append (o ∷ os) os′ = rw (hands-append os os′) (sym (append-assoc (hands o) (allHands os) (allHands os′)))
 
-all-one : (o : Opening) → allHands (o ∷ []) ≡ hands o
+pub hands-one : (o : Opening) → allHands (o ∷ []) ≡ hands o
 unfolding allHands
-all-one o = append-nil (hands o)
+hands-one o = append-nil (hands o)
 
 module _ (f : ℕ → Bool) where
   -- no opening, and one more
@@ -91,21 +83,9 @@ module _ (f : ℕ → Bool) where
   any-no-opening = refl
 
   pub any-opening : (os : List Opening) (o : Opening) → any f (allHands os) ≡ false → any f (hands o) ≡ false → any f (allHands (os ++ (o ∷ []))) ≡ false
-  any-opening os o e d = rw (all-append os (o ∷ []), all-one o, any-append f (allHands os) (hands o), e, d)
+  any-opening os o e d = rw (hands-append os (o ∷ []), hands-one o, any-append f (allHands os) (hands o), e, d)
 
   pub opening-any : (os : List Opening) (o : Opening) (os′ : List Opening) → any f (hands o) ≡ true → any f (allHands (os ++ o ∷ os′)) ≡ true
   opening-any os o os′ e =
       let t = any-has f (hands o) e in
       has-any f (in-hands (os ++ o ∷ os′) (t .0) .1 (record { by = o; listed = Memᴰ·append-right os (List·Memᴰ·head refl); hands = t .1 })) (t .2)
-
-  -- no record of a run, and one more
-  pub any-no-record : (a : ℕ) → any f (upFrom a 0) ≡ false
-  unfolding any upFrom
-  any-no-record a = refl
-
-  pub any-record : (a n : ℕ) → any f (upFrom a n) ≡ false → f (a + n) ≡ false → any f (upFrom a (n + 1)) ≡ false
-  unfolding any upFrom
-  any-record a n e d = rw (up-append a n 1, any-append f (upFrom a n) (upFrom (a + n) 1), e, d)
-
-  pub record-any : (a n k : ℕ) → n < k → f (a + n) ≡ true → any f (upFrom a k) ≡ true
-  record-any a n k l e = has-any f (up-in a k (a + n) .1 (omega arith)) e

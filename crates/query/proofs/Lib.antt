@@ -4,9 +4,11 @@ mod Runs
 mod Totals
 mod Areas
 mod Parts
+mod Gathers
 mod Picked
 mod Found
 mod Selection
 mod Seeking
+mod Adds
 mod Tables
 mod Examples

@@ -1,9 +1,9 @@
 -- The answers of the queries, test by test.
 -- Assumes nothing.
-use mathlib.Core.Path.{_≡_, refl, ap₂, _∙_}
-use mathlib.Core.Bool.{true, false, cond}
+use mathlib.Core.Path.{_≡_, sym, _∙_}
+use mathlib.Core.Bool.{true, false}
 use mathlib.Core.List.{List, [], _∷_}
-use Prim.Native.Nat.{ℕ, _≤_, _<_}
+use Prim.Native.Nat.{ℕ, _*_, _≤_, _<_}
 use lib.ListN.{length}
 use borrow.Author.Tests.{lt-ltb, le-ltb}
 use Rattle.answers.specs.declared.Verdict.the-variants as verdict-of
@@ -14,8 +14,9 @@ use Rattle.window.specs.declared.Window.{Window}
 use Rattle.border.specs.Open.{useRows, spent}
 use Rattle.query.specs.declared.Existence.the-variants as existence
 use Rattle.query.specs.declared.Queried.the-variants.{Done, Refused}
-use Rattle.query.specs.Classes.{exists}
-use Rattle.query.specs.Query.{AfterExist, afterExist, existing, existOf, AfterQuery, afterQuery, queryOf}
+use Rattle.query.specs.Classes.{exists, totals}
+use Rattle.query.specs.Query.{afterExist, existing, existOf, afterQuery, queryOf, reportOf, selectOf}
+use Rattle.query.proofs.Totals.{totals-length}
 
 -- ---- exist
 
@@ -56,3 +57,19 @@ module _ (m : ℕ) (keys : List ℕ) (classes : ℕ) (W : Window) (value : ℕ) 
         on-passed _ (useRows m keys classes W (length border)) _ e
         ∙ row-clear (λ n p. afterQuery (Refused n p) (spent W border) out) 8 _ [] _ (le-ltb (length out) _ l)
         ∙ answer-none (λ n p. afterQuery (Refused n p) (spent W border) out) _
+
+module _ (m : ℕ) (keys classes : List ℕ) (W : Window) (border out : List ℕ) where
+  pub report-refused : {n p : ℕ} → verdict (useRows m keys (length classes) W (length border)) ≡ verdict-of.Refused n p → reportOf m keys classes W border out ≡ afterQuery (Refused n p) border out
+  unfolding reportOf
+  report-refused e = query-refused m keys (length classes) W _ _ border out e
+
+  module _ (e : verdict (useRows m keys (length classes) W (length border)) ≡ verdict-of.Passed) {after : List ℕ} (d : after ≡ spent W border) where
+    pub report-short : length out < 256 → afterQuery (Refused 8 256) after out ≡ reportOf m keys classes W border out
+    unfolding reportOf
+    report-short l =
+        let n = totals-length m keys classes W in
+        rw d (sym (rw n at (query-short m keys (length classes) W (W .h * W .w) (totals m keys classes W) border out e (rw n l))))
+
+    pub report-done : {cells out′ : List ℕ} → 256 ≤ length out → cells ≡ totals m keys classes W → out′ ≡ overwrite cells out → afterQuery (Done (W .h * W .w)) after out′ ≡ reportOf m keys classes W border out
+    unfolding reportOf
+    report-done l t o = rw (d, o, t) (sym (query-done m keys (length classes) W (W .h * W .w) (totals m keys classes W) border out e (rw (totals-length m keys classes W) l)))

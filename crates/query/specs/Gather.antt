@@ -3,12 +3,13 @@
 use mathlib.Core.Path.{_≡_}
 use mathlib.Core.Logic.{_≢_}
 use mathlib.Core.List.{List, [], _∷_, _++_, List·Memᴰ}
-use Prim.Native.Nat.{ℕ, min, max, _+_, _-_, _*_, _^_}
+use Prim.Native.Nat.{ℕ, min, max, _+_, _-_, _*_, _^_, _≤_}
 use lib.Dec.{eqb}
 use lib.ListN.{getD, set, replicate}
 use Rattle.key.specs.Lists.{upFrom}
+use Rattle.key.specs.Blocks.{Among}
 use Rattle.window.specs.declared.Window.{Window}
-use Rattle.window.specs.Window.{Px}
+use Rattle.window.specs.Window.{Px, Inside}
 use Rattle.window.specs.Lists.{Ordered}
 use Rattle.window.specs.Blocks.{floor}
 use Rattle.window.specs.Decompose.{keyOf}
@@ -49,6 +50,13 @@ pub record Part (m : ℕ) (keys : List ℕ) (W : Window) (b : Px) (count n : ℕ
   pub corner : Corner W top b
   pub many : count ≡ runOf m keys (keyOf m top W b) .count
   pub listed : List·Memᴰ n (met m keys (keyOf m top W b))
+
+-- so it does with each of the `count` records from `first` on, and they all have a class
+pub record Hands (m : ℕ) (keys : List ℕ) (classes : ℕ) (W : Window) (b : Px) (first count : ℕ) : Type 0 where
+  pub parts : (n : ℕ) → Among first count n → Part m keys W b count n
+  pub room : first + count ≤ classes
+  pub few : classes ≤ 65536
+  pub inside : Inside 12 W
 
 -- the totals are those of records that do not come again among the `count` from `first` on
 pub record Gathering (m : ℕ) (keys classes : List ℕ) (W : Window) (first count : ℕ) (cells : List ℕ) : Type 0 where

@@ -7,6 +7,7 @@ ghost use mathlib.Core.Path.{_≡_};
 ghost use mathlib.Core.Bool.{true};
 ghost use Prim.Native.Nat.{_+_, _≤_};
 ghost use lib.ListN.{length, getD};
+ghost use Rattle.answers.specs.Cells.{overwrite};
 ghost use Rattle.key.specs.Spread.{spreads};
 ghost use Rattle.key.specs.Lists.{upFrom};
 ghost use Rattle.window.specs.Window.{In, Inside};
@@ -14,7 +15,7 @@ ghost use Rattle.border.specs.Openings.{any};
 ghost use Rattle.border.specs.Step.{Usable};
 ghost use Rattle.border.specs.Open.{spent};
 ghost use Rattle.query.specs.Classes.{classed, totals};
-ghost use Rattle.query.specs.Gather.{shared, clipped, area, gathered, Part, Gathering};
+ghost use Rattle.query.specs.Gather.{shared, clipped, area, gathered, Part, Hands, Gathering};
 ghost use Rattle.query.specs.Select.{listed, keyed, pickedRun, picked, selection};
 ghost use Rattle.query.specs.Query.{afterExist, existing, existOf, afterQuery, reportOf, selectOf};
 
@@ -139,4 +140,115 @@ fn part(m: u32, keys: &[u32], window: Window, row: u16, col: u16, count: u32, n:
         return clipped(window, e, row, col);
     }
     key::pow4(e)
+}
+
+// Adds the parts of the records that an opening hands out to the totals of their classes.
+fn gather(
+    m: u32,
+    keys: &[u32],
+    classes: &[u8],
+    window: Window,
+    row: u16,
+    col: u16,
+    first: u32,
+    count: u32,
+    totals: &mut [u32; 256],
+)
+    requires { ⌜ Hands m (now keys) (length (now classes)) window (row, col) first count × Gathering m (now keys) (now classes) window first count (now totals) ⌝ }
+    ensures { λ r. ⌜ now (totals .exit) ≡ gathered m (now (keys .entry)) (now (classes .entry)) window (upFrom first count) (now (totals .entry)) ⌝ }
+{
+    let end = first + count;
+    let mut n = first;
+    while n < end {
+        let area = part(m, keys, window, row, col, count, n);
+        totals[classes[n as usize] as usize] += area;
+        n += 1;
+    }
+}
+
+// The totals of all classes, gathered from opening to opening.
+fn add_up(
+    table: &[u32; 256],
+    m: u32,
+    keys: &[u32],
+    classes: &[u8],
+    window: Window,
+    border: &mut [u16],
+) -> [u32; 256]
+    requires { ⌜ (now table ≡ spreads) × Usable m m (now keys) window (length (now border)) × (length (now keys) ≡ length (now classes)) ⌝ }
+    ensures { λ r. ⌜ (r ≡ totals m (now (keys .entry)) (now (classes .entry)) window) × (now (border .exit) ≡ spent window (now (border .entry))) ⌝ }
+{
+    let mut totals: [u32; 256] = [0; 256];
+    border::fill(border, 0, window.w as usize, window.r0);
+    let mut r = window.r0;
+    let mut c = window.c0;
+    loop {
+        let found = border::next_opening(table, m, m, keys, window, r, c, border);
+        let Found::Opening {
+            row,
+            col,
+            first,
+            count,
+            after,
+            ..
+        } = found
+        else {
+            return totals;
+        };
+        gather(
+            m,
+            keys,
+            classes,
+            window,
+            row,
+            col,
+            first,
+            count,
+            &mut totals,
+        );
+        r = row;
+        c = after;
+    }
+}
+
+// Writes the totals into the lent slice.
+fn put_totals(totals: &[u32; 256], out: &mut [u32])
+    requires { ⌜ (length (now totals) ≡ 256) × (256 ≤ length (now out)) ⌝ }
+    ensures { λ r. ⌜ now (out .exit) ≡ overwrite (now (totals .entry)) (now (out .entry)) ⌝ }
+{
+    let mut k: usize = 0;
+    while k < 256 {
+        out[k] = totals[k];
+        k += 1;
+    }
+}
+
+// How many pixels of the window each class has.
+pub fn report(
+    m: u32,
+    keys: &[u32],
+    classes: &[u8],
+    window: Window,
+    border: &mut [u16],
+    out: &mut [u32],
+) -> Queried
+    ensures { λ r. ⌜ afterQuery r (now (border .exit)) (now (out .exit)) ≡ reportOf m (now (keys .entry)) (now (classes .entry)) window (now (border .entry)) (now (out .entry)) ⌝ }
+{
+    let verdict = border::usable(m, keys, classes, window, border.len());
+    if let Verdict::Refused { number, place } = verdict {
+        return Queried::Refused { number, place };
+    }
+    if out.len() < 256 {
+        border::fill(border, 0, window.w as usize, window.r0 + window.h);
+        return Queried::Refused {
+            number: 8,
+            place: 256,
+        };
+    }
+    let table = key::spread_table();
+    let totals = add_up(&table, m, keys, classes, window, border);
+    put_totals(&totals, out);
+    Queried::Done {
+        value: (window.h as u32) * (window.w as u32),
+    }
 }

@@ -1,0 +1,105 @@
+-- `query::report` meets its contract. Each test decides what its law in `Tables` says.
+-- Assumes nothing.
+use mathlib.Core.Path.{_≡_, ap, sym, _∙_}
+use native.Mathlib.Omega.{arith}
+use lib.ListN.{length}
+use borrow.Author.Needs.{needs}
+use Rattle.answers.specs.declared.Verdict.the-variants.{Passed}
+use Rattle.answers.specs.Rows.{verdict}
+use Rattle.window.proofs.Laws.{inside-12, pixels-most}
+use Rattle.border.specs.Step.{Usable}
+use Rattle.border.specs.Open.{useRows}
+use Rattle.border.proofs.Laws.{use-known, use-same}
+use Rattle.border.proofs.Finding.{filled-spent}
+use Rattle.query.proofs.Totals.{totals-length}
+use Rattle.query.proofs.Tables.{report-refused, report-short, report-done}
+use Rattle.query.proofs.report.Statement.{statement}
+use Rattle.query.proofs.report.Tie as tie
+
+usable-requires : tie.Need-usable-requires
+usable-requires c κs = search needs
+
+enum-known-verdict : tie.Need-enum-known-verdict
+enum-known-verdict c = search needs
+
+returns : tie.Need-returns
+returns c = sym (report-refused _ _ _ _ _ _ (sym (c .before .before .before .usable .ensures) ∙ c .before .verdict .given .1))
+
+enum-told : tie.Need-enum-told
+enum-told c = search needs
+
+-- where refusals 1 to 7 do not hold
+module _ (c : tie.After-enum-told) where
+  abbrev entry : tie.Start
+  entry = c .before .before .before .before .before .before .before
+
+  passed : verdict (useRows (entry .args .m) (entry .args .keys .now) (length (entry .args .classes .now)) (entry .args .window) (length (entry .args .border .now))) ≡ Passed
+  passed = sym (c .before .before .usable .ensures) ∙ c .enum-told .given .1
+
+  known : Usable (entry .args .m) (entry .args .m) (entry .args .keys .now) (entry .args .window) (length (entry .args .border .now))
+  known = use-known _ _ _ _ _ passed
+
+cast-fill : tie.Need-cast-fill
+cast-fill c = search needs
+
+add-fill : tie.Need-add-fill
+add-fill c = let u = known (c .before .before .before .before) in let i = inside-12 (u .small) (u .inside) in omega (arith, i)
+
+fill-requires : tie.Need-fill-requires
+fill-requires c κs = (omega arith, known (c .before .before .before .before) .wide)
+
+same-length : tie.Need-same-length
+same-length c = search needs
+
+returns-2 : tie.Need-returns-2
+returns-2 c = report-short _ _ _ _ _ _ (passed (c .before .before .before .before .before .before .before)) (c .before .before .fill .ensures ∙ filled-spent _ _ (known (c .before .before .before .before .before .before .before) .wide)) (omega (arith, c .before .before .before .before .before .before .if1 .taken))
+
+spread-table-requires : tie.Need-spread-table-requires
+spread-table-requires c κs = search needs
+
+add-up-requires : tie.Need-add-up-requires
+add-up-requires c κs = (c .before .before .spread-table .ensures, known (c .before .before .before .before), use-same _ _ _ _ _ (passed (c .before .before .before .before)))
+
+put-totals-requires : tie.Need-put-totals-requires
+put-totals-requires c κs = (ap length (c .before .before .before .before .add-up .ensures .0) ∙ totals-length _ _ _ _, omega (arith, c .before .before .before .before .before .before .before .before .if1 .left))
+
+cast-t27 : tie.Need-cast-t27
+cast-t27 c = search needs
+
+cast-t28 : tie.Need-cast-t28
+cast-t28 c = search needs
+
+mul-t29 : tie.Need-mul-t29
+mul-t29 c = let u = known (c .before .before .before .before .before .before .before .before .before .before .before .before .before .before) in omega (arith, pixels-most (c .before .before .before .before .before .before .before .before .before .before .before .before .before .before .before .before .before .before .before .before .before .args .window) (inside-12 (u .small) (u .inside)))
+
+same-length-2 : tie.Need-same-length-2
+same-length-2 c = search needs
+
+same-length-3 : tie.Need-same-length-3
+same-length-3 c = search needs
+
+returns-3 : tie.Need-returns-3
+returns-3 c = report-done _ _ _ _ _ _ (passed (c .before .before .before .before .before .before .before .before .before .before .before .before .before .before)) (c .before .before .before .before .before .before .before .before .before .add-up .ensures .1) (omega (arith, c .before .before .before .before .before .before .before .before .before .before .before .before .before .if1 .left)) (c .before .before .before .before .before .before .before .before .before .add-up .ensures .0) (c .before .before .before .before .put-totals .ensures)
+
+pub report-spec : {M : Type 1} → statement M
+report-spec =
+    tie.close
+    (tie.spec
+    usable-requires
+    enum-known-verdict
+    returns
+    enum-told
+    cast-fill
+    add-fill
+    fill-requires
+    same-length
+    returns-2
+    spread-table-requires
+    add-up-requires
+    put-totals-requires
+    cast-t27
+    cast-t28
+    mul-t29
+    same-length-2
+    same-length-3
+    returns-3)
