@@ -35,7 +35,7 @@ use Rattle.border.proofs.Handing.{listed-corner, met-now, handed-all}
 use Rattle.border.proofs.Chosen.{Chosen, chosen}
 use Rattle.border.proofs.Tables.{use-known}
 pub use Rattle.border.proofs.Lists.{up-distinct, any-has, has-any}
-pub use Rattle.border.proofs.Overlaps.{within-is, OfPixel, spans, met-pixels, size-le, met-first, met-room}
+pub use Rattle.border.proofs.Overlaps.{within-is, OfPixel, spans, met-pixels, size-le, met-first, met-some, met-room, block-key}
 pub use Rattle.border.proofs.Fold.{opening-hands, in-hands}
 pub use Rattle.border.proofs.Handing.{listed-corner}
 pub use Rattle.border.proofs.Tables.{use-known, use-same}

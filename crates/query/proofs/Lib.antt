@@ -9,6 +9,9 @@ mod Picked
 mod Found
 mod Selection
 mod Seeking
+mod Listing
+mod Picking
+mod Selects
 mod Adds
 mod Tables
 mod Examples

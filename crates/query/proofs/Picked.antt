@@ -28,6 +28,7 @@ use Rattle.map.proofs.Laws.{record-at, holder, one-holder, block-records}
 use Rattle.border.specs.Openings.{any, within}
 use Rattle.border.specs.Step.{Corner}
 use Rattle.border.proofs.Laws.{any-has, has-any, within-is}
+use Rattle.query.specs.Classes.{classed}
 use Rattle.query.specs.Select.{around, inside, selected, pickedRun, picked}
 use Rattle.query.proofs.Lists.{same-tests, keep-none, keep-same, keep-run}
 
@@ -145,25 +146,29 @@ module _ (m : ℕ) (keys classes : List ℕ) (class key : ℕ) where
           let kept : List ℕ = keep (inside m keys classes class key) (upFrom 0 (length keys)) in
           rw d (omega (arith, length-map kept (λ n. getD keys n 0), keep-most (inside m keys classes class key) (upFrom 0 (length keys)), up-length 0 (length keys)))
 
-  -- ---- what is picked, by cases
+-- ---- what is picked, by cases
 
-  module _ (first : ℕ) {count : ℕ} where
-    pub picked-one : count ≡ 1 → getD classes first 0 ≡ class → picked m keys classes class key first count ≡ key ∷ []
-    unfolding picked pickedRun
-    picked-one e d = rw (eq-eqb count 1 e, eq-eqb (getD classes first 0) class d)
+module _ (keys classes : List ℕ) (class key first : ℕ) {count : ℕ} where
+  pub picked-one : count ≡ 1 → getD classes first 0 ≡ class → picked keys classes class key first count ≡ key ∷ []
+  unfolding picked
+  picked-one e d = rw (eq-eqb count 1 e, eq-eqb (getD classes first 0) class d)
 
-    pub picked-none : count ≡ 1 → ¬ (getD classes first 0 ≡ class) → picked m keys classes class key first count ≡ []
-    unfolding picked pickedRun
-    picked-none e d = rw (eq-eqb count 1 e, ne-eqb (getD classes first 0) class d)
+  pub picked-none : count ≡ 1 → ¬ (getD classes first 0 ≡ class) → picked keys classes class key first count ≡ []
+  unfolding picked
+  picked-none e d = rw (eq-eqb count 1 e, ne-eqb (getD classes first 0) class d)
 
-    pub picked-many : ¬ (count ≡ 1) → picked m keys classes class key first count ≡ map (λ n. getD keys n 0) (keep (λ n. eqb (getD classes n 0) class) (upFrom first count))
-    unfolding picked pickedRun
-    picked-many e = rw (ne-eqb count 1 e)
+  pub picked-many : ¬ (count ≡ 1) → picked keys classes class key first count ≡ pickedRun keys classes class first count
+  unfolding picked
+  picked-many e = rw (ne-eqb count 1 e)
+
+pub picked-run : (keys classes : List ℕ) (class first count : ℕ) → pickedRun keys classes class first count ≡ map (λ n. getD keys n 0) (keep (classed classes class) (upFrom first count))
+unfolding pickedRun
+picked-run keys classes class first count = refl
 
 -- ---- the law
 
 module _ {m : ℕ} {keys : List ℕ} (F : Follow m 0 keys) (classes : List ℕ) (class : ℕ) {key i s : ℕ} (B : Names m key i s) {first count : ℕ} (M : Meets m keys i s first count) where
-  pub selected-met : selected m keys classes class key ≡ picked m keys classes class key first count
+  pub selected-met : selected m keys classes class key ≡ picked keys classes class key first count
   selected-met = go (ℕ-discrete count 1) (ℕ-discrete (getD classes first 0) class)
     where
       head : SomeRecord m keys first
@@ -196,22 +201,22 @@ module _ {m : ℕ} {keys : List ℕ} (F : Follow m 0 keys) (classes : List ℕ) 
           let t = inside-is classes class B (R .is) in
           same-tests _ _ (λ a. eq-eqb _ _ (t .0 a .0)) (λ a. t .1 (eqb-true _ _ a, several F M e (R .is) k))
 
-      go : Dec (count ≡ 1) → Dec (getD classes first 0 ≡ class) → selected m keys classes class key ≡ picked m keys classes class key first count
+      go : Dec (count ≡ 1) → Dec (getD classes first 0 ≡ class) → selected m keys classes class key ≡ picked keys classes class key first count
       go (yes e) (yes d) =
           selected-whole m keys classes class key (head .is .within) (around-is classes class B (head .is) .1 (d, single F M (block-lies B .span) e (head .is)))
-          ∙ sym (picked-one m keys classes class key first e d)
+          ∙ sym (picked-one keys classes class key first e d)
       go (yes e) (no d) =
           selected-parts m keys classes class key (λ n l a. d (whole l a .0))
-          ∙ rw (keep-none (inside m keys classes class key) (upFrom 0 (length keys)) (lone e d)) (sym (picked-none m keys classes class key first e d))
+          ∙ rw (keep-none (inside m keys classes class key) (upFrom 0 (length keys)) (lone e d)) (sym (picked-none keys classes class key first e d))
       go (no e) d =
           selected-parts m keys classes class key (λ n l a. e (whole l a .1))
           ∙ rw (
             keep-run (inside m keys classes class key) first count (length keys) (M .room) (λ n l a. parts n l a .1),
             keep-same (inside m keys classes class key) (λ n. eqb (getD classes n 0) class) (upFrom first count) (among e),
-          ) (sym (picked-many m keys classes class key first e))
+          ) (sym (picked-many keys classes class key first e ∙ picked-run keys classes class first count))
 
 -- of a maximal block, by the records that overlap it
 pub block-selected : {m top : ℕ} {keys : List ℕ} → Follow m 0 keys → {W : Window} → Inside m W → top ≤ m → {b : Px} → Corner W top b → (classes : List ℕ) (class : ℕ)
     → let key : ℕ = keyOf m top W b in
-    selected m keys classes class key ≡ picked m keys classes class key (runOf m keys key .first) (runOf m keys key .count)
+    selected m keys classes class key ≡ picked keys classes class key (runOf m keys key .first) (runOf m keys key .count)
 block-selected F I small C classes class = let B = key-named I small (C .inside) (C .own) in selected-met F classes class B (block-records F B)

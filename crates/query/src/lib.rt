@@ -1,12 +1,12 @@
 // The three queries: exist, report and select.
 use answers::Verdict;
 use border::Found;
+use map::Run;
 use window::Next;
 use window::Window;
 ghost use mathlib.Core.Path.{_≡_};
-ghost use mathlib.Core.Bool.{true};
-ghost use Prim.Native.Nat.{_+_, _≤_};
-ghost use lib.ListN.{length, getD};
+ghost use Prim.Native.Nat.{_+_, _≤_, _<_};
+ghost use lib.ListN.{length};
 ghost use Rattle.answers.specs.Cells.{overwrite};
 ghost use Rattle.key.specs.Spread.{spreads};
 ghost use Rattle.key.specs.Lists.{upFrom};
@@ -16,7 +16,7 @@ ghost use Rattle.border.specs.Step.{Usable};
 ghost use Rattle.border.specs.Open.{spent};
 ghost use Rattle.query.specs.Classes.{classed, totals};
 ghost use Rattle.query.specs.Gather.{shared, clipped, area, gathered, Part, Hands, Gathering};
-ghost use Rattle.query.specs.Select.{listed, keyed, pickedRun, picked, selection};
+ghost use Rattle.query.specs.Select.{pickedRun, picked, selection, keyed, Listed};
 ghost use Rattle.query.specs.Query.{afterExist, existing, existOf, afterQuery, reportOf, selectOf};
 
 // What exist answers.
@@ -251,4 +251,135 @@ pub fn report(
     Queried::Done {
         value: (window.h as u32) * (window.w as u32),
     }
+}
+
+// Writes a key behind n others, where there is room for it.
+fn put_key(out: &mut [u32], n: u32, key: u32)
+    ensures { λ r. ⌜ now (out .exit) ≡ keyed n key (now (out .entry)) ⌝ }
+{
+    let at = n as usize;
+    if at < out.len() {
+        out[at] = key;
+    }
+}
+
+// Lists the key of record i behind n others if the record has the class. How many there are then.
+fn pick_record(keys: &[u32], classes: &[u8], class: u8, i: u32, out: &mut [u32], n: u32) -> u32
+    requires { ⌜ (i < length (now keys)) × (length (now keys) ≡ length (now classes)) × (n < 4294967295) ⌝ }
+    ensures { λ r. ⌜ Listed n (pickedRun (now (keys .entry)) (now (classes .entry)) class i 1) (now (out .entry)) r (now (out .exit)) ⌝ }
+{
+    let at = i as usize;
+    if classes[at] == class {
+        put_key(out, n, keys[at]);
+        return n + 1;
+    }
+    n
+}
+
+// Lists the keys of the records of a run that have the class.
+fn pick_run(
+    keys: &[u32],
+    classes: &[u8],
+    class: u8,
+    first: u32,
+    count: u32,
+    out: &mut [u32],
+    n: u32,
+) -> u32
+    requires { ⌜ (first + count ≤ length (now keys)) × (length (now keys) ≤ 65536) × (length (now keys) ≡ length (now classes)) × (n + count ≤ 4294967295) ⌝ }
+    ensures { λ r. ⌜ Listed n (pickedRun (now (keys .entry)) (now (classes .entry)) class first count) (now (out .entry)) r (now (out .exit)) ⌝ }
+{
+    let end = first + count;
+    let mut i = first;
+    let mut k = n;
+    while i < end {
+        k = pick_record(keys, classes, class, i, out, k);
+        i += 1;
+    }
+    k
+}
+
+// Of a maximal block and the records that overlap it: lists its own key if it lies in a record of the class, else the keys of the records inside it that have the class.
+fn pick(keys: &[u32], classes: &[u8], class: u8, key: u32, run: Run, out: &mut [u32], n: u32) -> u32
+    requires { ⌜ (1 ≤ run .count) × (run .first + run .count ≤ length (now keys)) × (length (now keys) ≤ 65536) × (length (now keys) ≡ length (now classes)) × (n + run .count ≤ 4294967295) ⌝ }
+    ensures { λ r. ⌜ Listed n (picked (now (keys .entry)) (now (classes .entry)) class key (run .first) (run .count)) (now (out .entry)) r (now (out .exit)) ⌝ }
+{
+    if run.count == 1 {
+        if classes[run.first as usize] == class {
+            put_key(out, n, key);
+            return n + 1;
+        }
+        return n;
+    }
+    pick_run(keys, classes, class, run.first, run.count, out, n)
+}
+
+// Goes through the maximal blocks and lists what each has. How many keys there are; those are written for which there is room.
+fn pick_all(
+    table: &[u32; 256],
+    m: u32,
+    keys: &[u32],
+    classes: &[u8],
+    window: Window,
+    class: u8,
+    out: &mut [u32],
+) -> u32
+    requires { ⌜ (now table ≡ spreads) × Usable m m (now keys) window (window .w) × (length (now keys) ≡ length (now classes)) ⌝ }
+    ensures { λ r. ⌜ Listed 0 (selection m m (now (keys .entry)) (now (classes .entry)) window class) (now (out .entry)) r (now (out .exit)) ⌝ }
+{
+    let mut r = window.r0;
+    let mut c = window.c0;
+    let mut n: u32 = 0;
+    loop {
+        let next = window::next_block(window, m, r, c);
+        let Next::Block {
+            row,
+            col,
+            exponent,
+            after,
+        } = next
+        else {
+            return n;
+        };
+        let key = key::block_key(table, m, exponent, row, col);
+        let run = map::records_of(m, keys, key, exponent);
+        n = pick(keys, classes, class, key, run, out, n);
+        r = row;
+        c = after;
+    }
+}
+
+// The keys of a class, in the order of maximal blocks. A slice with room for as many as there can be takes one pass; otherwise a first pass counts them and writes none, since 8
+// writes nothing into the slice.
+pub fn select(
+    m: u32,
+    keys: &[u32],
+    classes: &[u8],
+    window: Window,
+    class: u8,
+    border: &mut [u16],
+    out: &mut [u32],
+) -> Queried
+    ensures { λ r. ⌜ afterQuery r (now (border .exit)) (now (out .exit)) ≡ selectOf m (now (keys .entry)) (now (classes .entry)) window class (now (border .entry)) (now (out .entry)) ⌝ }
+{
+    let verdict = border::usable(m, keys, classes, window, border.len());
+    if let Verdict::Refused { number, place } = verdict {
+        return Queried::Refused { number, place };
+    }
+    border::fill(border, 0, window.w as usize, window.r0 + window.h);
+    let table = key::spread_table();
+    let most = 4 * ((window.w as usize) + (window.h as usize)) + keys.len();
+    if most <= out.len() {
+        let value = pick_all(&table, m, keys, classes, window, class, out);
+        return Queried::Done { value };
+    }
+    let needed = pick_all(&table, m, keys, classes, window, class, &mut out[..0]);
+    if out.len() < needed as usize {
+        return Queried::Refused {
+            number: 8,
+            place: needed,
+        };
+    }
+    let value = pick_all(&table, m, keys, classes, window, class, out);
+    Queried::Done { value }
 }
