@@ -5,7 +5,7 @@ use mathlib.Core.Path.{_≡_, refl, sym, ap, _∙_, subst}
 use mathlib.Core.Logic.{_↔_, _⊎_, inl, inr, _≢_}
 use mathlib.Core.Bool.{true}
 use mathlib.Core.List.{List, [], _∷_, _++_, append-assoc, append-nil, map, map-append, List·Memᴰ, List·Memᴰ·head, List·Memᴰ·tail, List·Memᴰ·not-nil, List·Memᴰ·eq-of-singleton, List·Memᴰ·append-cases, Memᴰ·append-left, Memᴰ·append-right, Memᴰ·cast, Memᴰ·map, Memᴰ·of-map}
-use Prim.Native.Nat.{ℕ, _+_, _^_, _≤_, _<_}
+use Prim.Native.Nat.{ℕ, _+_, _*_, _^_, _≤_, _<_}
 use native.Mathlib.Decide.{decLt}
 use native.Mathlib.Omega.{arith}
 use lib.ListN.{length, getD, length-map, length-append}
@@ -19,7 +19,7 @@ use Rattle.window.specs.Window.{Px, In, Inside}
 use Rattle.window.specs.Lists.{keep, Ordered, none, more}
 use Rattle.window.specs.Blocks.{exponent, maximal, Before}
 use Rattle.window.specs.Decompose.{keyOf}
-use Rattle.window.proofs.Laws.{keep-in, keep-true, in-keep, ordered-keep, ordered-append, pigeon, before-irrefl, →listed, listed-ordered, block-of, block-one, keys-of, key-named, pixel-in, maximal-most}
+use Rattle.window.proofs.Laws.{blocks-few, keep-in, keep-true, in-keep, ordered-keep, ordered-append, pigeon, before-irrefl, →listed, listed-ordered, block-of, block-one, keys-of, key-named, pixel-in, maximal-most}
 use Rattle.map.specs.Sound.{Follow}
 use Rattle.map.specs.Spans.{holds}
 use Rattle.map.specs.Records.{Record, Holder, pixelRecord}
@@ -278,3 +278,8 @@ module _ {m top : ℕ} {keys : List ℕ} (F : Follow m 0 keys) {W : Window} (I :
             let h = holds-is (place (p .0) (p .1)) (P .names) .0 (t .2) in
             let K : Holder m keys (place (p .0) (p .1)) = record { index = P .index; exponent = P .record-exponent; start = P .record-start; is = P .is; has = omega (arith, P .in-record) } in
             rw (record-of F K) (P .has)
+
+-- there are fewer keys than 4 (w + h) and the records together
+pub selection-few : {m : ℕ} {keys : List ℕ} → Follow m 0 keys → {W : Window} → Inside m W → (classes : List ℕ) (class : ℕ)
+    → length (selection m m keys classes W class) < 4 * (W .w + W .h) + length keys
+selection-few {m} F {W} I classes class = omega (arith, selection-most {top = m} F I (omega arith) classes class, blocks-few W m I)

@@ -4,6 +4,7 @@ use mathlib.Core.Path.{_≡_, sym, _∙_}
 use mathlib.Core.Bool.{true, false}
 use mathlib.Core.List.{List, [], _∷_}
 use Prim.Native.Nat.{ℕ, _*_, _≤_, _<_}
+use native.Mathlib.Omega.{arith}
 use lib.ListN.{length}
 use borrow.Author.Tests.{lt-ltb, le-ltb}
 use Rattle.answers.specs.declared.Verdict.the-variants as verdict-of
@@ -15,8 +16,10 @@ use Rattle.border.specs.Open.{useRows, spent}
 use Rattle.query.specs.declared.Existence.the-variants as existence
 use Rattle.query.specs.declared.Queried.the-variants.{Done, Refused}
 use Rattle.query.specs.Classes.{exists, totals}
+use Rattle.query.specs.Select.{selection, Listed}
 use Rattle.query.specs.Query.{afterExist, existing, existOf, afterQuery, queryOf, reportOf, selectOf}
 use Rattle.query.proofs.Totals.{totals-length}
+use Rattle.query.proofs.Listing.{listed-count, listed-all}
 
 -- ---- exist
 
@@ -73,3 +76,18 @@ module _ (m : ℕ) (keys classes : List ℕ) (W : Window) (border out : List ℕ
     pub report-done : {cells out′ : List ℕ} → 256 ≤ length out → cells ≡ totals m keys classes W → out′ ≡ overwrite cells out → afterQuery (Done (W .h * W .w)) after out′ ≡ reportOf m keys classes W border out
     unfolding reportOf
     report-done l t o = rw (d, o, t) (sym (query-done m keys (length classes) W (W .h * W .w) (totals m keys classes W) border out e (rw (totals-length m keys classes W) l)))
+
+module _ (m : ℕ) (keys classes : List ℕ) (W : Window) (class : ℕ) (border out : List ℕ) where
+  pub select-refused : {n p : ℕ} → verdict (useRows m keys (length classes) W (length border)) ≡ verdict-of.Refused n p → selectOf m keys classes W class border out ≡ afterQuery (Refused n p) border out
+  unfolding selectOf
+  select-refused e = query-refused m keys (length classes) W _ _ border out e
+
+  module _ (e : verdict (useRows m keys (length classes) W (length border)) ≡ verdict-of.Passed) {after : List ℕ} (d : after ≡ spent W border) where
+    pub select-short : {needed : ℕ} → needed ≡ length (selection m m keys classes W class) → length out < needed → afterQuery (Refused 8 needed) after out ≡ selectOf m keys classes W class border out
+    unfolding selectOf
+    select-short n l = rw (d, n) (sym (query-short m keys (length classes) W _ _ border out e (omega (arith, n))))
+
+    pub select-done : {value : ℕ} {lent out′ : List ℕ} → lent ≡ out → Listed 0 (selection m m keys classes W class) lent value out′ → length (selection m m keys classes W class) ≤ length out
+        → afterQuery (Done value) after out′ ≡ selectOf m keys classes W class border out
+    unfolding selectOf
+    select-done same L l = rw (d, listed-count L, listed-all (rw same at L) l) (sym (query-done m keys (length classes) W _ _ border out e l))
