@@ -9,12 +9,15 @@ use Rattle.window.specs.declared.Decomposed.{Decomposed}
 use Rattle.window.specs.Decompose.{AfterDecompose, afterDecompose, decomposeOf}
 use Rattle.border.specs.declared.Opened.{Opened}
 use Rattle.border.specs.Open.{AfterOpen, afterOpen, openOf}
+use Rattle.query.specs.declared.Existence.{Existence}
+use Rattle.query.specs.declared.Queried.{Queried}
+use Rattle.query.specs.Query.{AfterExist, afterExist, existOf, AfterQuery, afterQuery, reportOf, selectOf}
 use Rattle.house.specs.declared.Reading.{Reading}
 use Rattle.house.specs.declared.Writing.{Writing}
 use Rattle.house.specs.File.{AfterRead, afterRead, readOf, AfterWrite, afterWrite, writeOf}
 use Rattle.lutniorad.specs.declared.Answer.{Answer}
-use Rattle.lutniorad.specs.Numbers.{ofDecomposed, ofOpened, ofReading, ofWriting}
-use Rattle.lutniorad.specs.Calls.{Decompose, Open, Read, Write}
+use Rattle.lutniorad.specs.Numbers.{ofDecomposed, ofOpened, ofExistence, ofQueried, ofReading, ofWriting}
+use Rattle.lutniorad.specs.Calls.{Decompose, Open, Exist, Report, Select, Read, Write}
 
 pub decompose-call : {m : ℕ} {W : Window} {out out′ : List ℕ} {a : Answer} {r : Decomposed}
     → a ≡ ofDecomposed r → afterDecompose r out′ ≡ decomposeOf m W out → Decompose m W out a out′
@@ -29,6 +32,29 @@ open-call e h = record {
   answer = e ∙ ap (λ (x : AfterOpen). ofOpened (x .answer)) h;
   border-after = ap (λ (x : AfterOpen). x .border) h;
   out-after = ap (λ (x : AfterOpen). x .out) h;
+}
+
+pub exist-call : {m : ℕ} {keys classes : List ℕ} {W : Window} {class : ℕ} {border border′ : List ℕ} {a : Answer} {r : Existence}
+    → a ≡ ofExistence r → afterExist r border′ ≡ existOf m keys classes W class border → Exist m keys classes W class border a border′
+exist-call e h = record {
+  answer = e ∙ ap (λ (x : AfterExist). ofExistence (x .answer)) h;
+  border-after = ap (λ (x : AfterExist). x .border) h;
+}
+
+pub report-call : {m : ℕ} {keys classes : List ℕ} {W : Window} {border totals border′ totals′ : List ℕ} {a : Answer} {r : Queried}
+    → a ≡ ofQueried r → afterQuery r border′ totals′ ≡ reportOf m keys classes W border totals → Report m keys classes W border totals a border′ totals′
+report-call e h = record {
+  answer = e ∙ ap (λ (x : AfterQuery). ofQueried (x .answer)) h;
+  border-after = ap (λ (x : AfterQuery). x .border) h;
+  totals-after = ap (λ (x : AfterQuery). x .out) h;
+}
+
+pub select-call : {m : ℕ} {keys classes : List ℕ} {W : Window} {class : ℕ} {border out border′ out′ : List ℕ} {a : Answer} {r : Queried}
+    → a ≡ ofQueried r → afterQuery r border′ out′ ≡ selectOf m keys classes W class border out → Select m keys classes W class border out a border′ out′
+select-call e h = record {
+  answer = e ∙ ap (λ (x : AfterQuery). ofQueried (x .answer)) h;
+  border-after = ap (λ (x : AfterQuery). x .border) h;
+  out-after = ap (λ (x : AfterQuery). x .out) h;
 }
 
 pub read-call : {file keys classes keys′ classes′ : List ℕ} {a : Answer} {r : Reading}

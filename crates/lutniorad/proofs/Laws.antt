@@ -5,7 +5,7 @@ use mathlib.Core.List.{List}
 use Prim.Native.Nat.{ℕ}
 use Rattle.window.specs.declared.Window.{Window}
 use Rattle.lutniorad.specs.declared.Answer.{Answer}
-use Rattle.lutniorad.specs.Calls.{Check, Decompose, Open, Read, Write}
+use Rattle.lutniorad.specs.Calls.{Check, Decompose, Open, Exist, Report, Select, Read, Write}
 
 pub check-one : {m : ℕ} {keys classes : List ℕ} {r s : Answer} → Check m keys classes r → Check m keys classes s → r ≡ s
 check-one a b = a .answer ∙ sym (b .answer)
@@ -16,6 +16,18 @@ decompose-one a b = (a .answer ∙ sym (b .answer), a .out-after ∙ sym (b .out
 pub open-one : {m : ℕ} {keys classes border out bs bs′ o o′ : List ℕ} {W : Window} {r s : Answer} → Open m keys classes W border out r bs o → Open m keys classes W border out s bs′ o′
     → (r ≡ s) × (bs ≡ bs′) × (o ≡ o′)
 open-one a b = (a .answer ∙ sym (b .answer), a .border-after ∙ sym (b .border-after), a .out-after ∙ sym (b .out-after))
+
+pub exist-one : {m : ℕ} {keys classes border bs bs′ : List ℕ} {W : Window} {class : ℕ} {r s : Answer} → Exist m keys classes W class border r bs → Exist m keys classes W class border s bs′
+    → (r ≡ s) × (bs ≡ bs′)
+exist-one a b = (a .answer ∙ sym (b .answer), a .border-after ∙ sym (b .border-after))
+
+pub report-one : {m : ℕ} {keys classes border totals bs bs′ ts ts′ : List ℕ} {W : Window} {r s : Answer} → Report m keys classes W border totals r bs ts
+    → Report m keys classes W border totals s bs′ ts′ → (r ≡ s) × (bs ≡ bs′) × (ts ≡ ts′)
+report-one a b = (a .answer ∙ sym (b .answer), a .border-after ∙ sym (b .border-after), a .totals-after ∙ sym (b .totals-after))
+
+pub select-one : {m : ℕ} {keys classes border out bs bs′ o o′ : List ℕ} {W : Window} {class : ℕ} {r s : Answer} → Select m keys classes W class border out r bs o
+    → Select m keys classes W class border out s bs′ o′ → (r ≡ s) × (bs ≡ bs′) × (o ≡ o′)
+select-one a b = (a .answer ∙ sym (b .answer), a .border-after ∙ sym (b .border-after), a .out-after ∙ sym (b .out-after))
 
 pub read-one : {file keys classes ks ks′ cs cs′ : List ℕ} {r s : Answer} → Read file keys classes r ks cs → Read file keys classes s ks′ cs′
     → (r ≡ s) × (ks ≡ ks′) × (cs ≡ cs′)
