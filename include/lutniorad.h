@@ -30,8 +30,8 @@
  * with a pixel in the window is handed out once, and no other is; and no choice of maximal blocks that meets all of
  * these records has fewer blocks than there are openings.
  *
- * The BORDER is lent for opening a window: a 16-bit cell for each column of the window. It holds how far down the
- * column has been handed out. So in the end each of the first w cells is r0 + h.
+ * The BORDER is lent for opening a window, and for each question about its classes: a 16-bit cell for each column of
+ * the window. It holds how far down the column has been handed out. So in the end each of the first w cells is r0 + h.
  *
  * A HOUSE FILE is a map in bytes. Every number is little-endian:
  *
@@ -54,8 +54,9 @@
  *
  * WHAT THE LIBRARY KEEPS. It takes no heap and remembers nothing from one call to the next, so calls on different
  * memory may run at the same time. Every call ends. A call that refuses writes nothing, but for one: a refusal by 8
- * from lutniorad_open leaves the border as an answer would. A call that answers writes the cells named with it below,
- * and all others keep their content. What stands at entry in a slice that is written never matters.
+ * from lutniorad_open, lutniorad_report or lutniorad_select leaves the border as an answer would. A call that answers
+ * writes the cells named with it below, and all others keep their content. What stands at entry in a slice that is
+ * written never matters.
  *
  * The archive is made for Linux on x86-64.
  */
@@ -136,6 +137,66 @@ lutniorad_answer lutniorad_open(uint32_t m,
                                 uint16_t r0, uint16_t c0, uint16_t h, uint16_t w,
                                 uint16_t *border, size_t n_border,
                                 uint32_t *out, size_t n_out);
+
+/*
+ * Has this window a pixel of this class?
+ *
+ * Answers `first` = 1 when some pixel of the window has the class, and 0 when none has; `second` = 0. Either way the
+ * first w cells of `border` are then r0 + h. Any byte is a class, also one that no record has.
+ *
+ * Refuses by 1 to 7, as lutniorad_open does. There is no slice for the answer, and so no 8.
+ */
+lutniorad_answer lutniorad_exist(uint32_t m,
+                                 const uint32_t *keys, size_t n_keys,
+                                 const uint8_t *classes, size_t n_classes,
+                                 uint16_t r0, uint16_t c0, uint16_t h, uint16_t w,
+                                 uint8_t of_class,
+                                 uint16_t *border, size_t n_border);
+
+/*
+ * How many pixels of each class has this window?
+ *
+ * Answers `first` = h * w, the pixels of the window, `second` = 0. The first 256 cells of `totals` are then the numbers
+ * of its pixels of class 0, of class 1, and so on to class 255; they add up to h * w. Of a record that lies partly in
+ * the window, that part counts. The first w cells of `border` are then r0 + h.
+ *
+ * On the map of the keys 5, 11, 12, 13, 14, 15, 20 at m = 2, with the classes 1, 2, 2, 3, 1, 1, 2, the window r0 = 0,
+ * c0 = 1, h = 3, w = 3 has 4 pixels of class 1, 4 of class 2, 1 of class 3, and none of any other.
+ *
+ * Refuses by 1 to 7, as lutniorad_open does; and 8, with place 256, when `totals` has fewer cells than that. On 8 the
+ * first w cells of `border` are r0 + h, and nothing else was written.
+ */
+lutniorad_answer lutniorad_report(uint32_t m,
+                                  const uint32_t *keys, size_t n_keys,
+                                  const uint8_t *classes, size_t n_classes,
+                                  uint16_t r0, uint16_t c0, uint16_t h, uint16_t w,
+                                  uint16_t *border, size_t n_border,
+                                  uint32_t *totals, size_t n_totals);
+
+/*
+ * Which blocks of this window are of this class?
+ *
+ * Goes through the maximal blocks of the window in their order. For each it lists the block's own key, if the block
+ * lies in a record of the class; otherwise the keys of those records inside the block that have the class, in the order
+ * of the map. So each key is that of a block inside the window, and each pixel of the window that has the class lies in
+ * just one of these blocks.
+ *
+ * Answers `first` = the number of keys, `second` = 0. The first so many cells of `out` are then the keys, and the first
+ * w cells of `border` are r0 + h. An `out` of Q + 4(w + h) cells is always long enough; where no key is listed, none is
+ * needed.
+ *
+ * On the map and the window of the example above, class 1 has the keys 7, 14, 9, 17, and class 2 has 11, 12, 21, 22.
+ *
+ * Refuses by 1 to 7, as lutniorad_open does; and 8, with the number of keys as place, when `out` is shorter than that.
+ * On 8 the first w cells of `border` are r0 + h, and nothing else was written.
+ */
+lutniorad_answer lutniorad_select(uint32_t m,
+                                  const uint32_t *keys, size_t n_keys,
+                                  const uint8_t *classes, size_t n_classes,
+                                  uint16_t r0, uint16_t c0, uint16_t h, uint16_t w,
+                                  uint8_t of_class,
+                                  uint16_t *border, size_t n_border,
+                                  uint32_t *out, size_t n_out);
 
 /*
  * Reads a house file that lies in memory, the whole of it and nothing more.

@@ -10,6 +10,7 @@
  */
 #include "harness.h"
 #include "maps.h"
+#include "queries.h"
 #include "windows.h"
 
 #include <string.h>
@@ -32,7 +33,7 @@ static void require_painted(const map *a, size_t q)
 
 static lutniorad_answer compare_check(const map *a, size_t n_keys, size_t n_classes)
 {
-    call c = {&CHECK, a->m, NO_WINDOW, {{a->keys, n_keys}, {a->classes, n_classes}}};
+    call c = {&CHECK, a->m, NO_WINDOW, NO_CLASS, {{a->keys, n_keys}, {a->classes, n_classes}}};
     lutniorad_answer answer = compare(c);
     if (answer.refusal == 0)
         require_painted(a, n_keys);
@@ -41,13 +42,13 @@ static lutniorad_answer compare_check(const map *a, size_t n_keys, size_t n_clas
 
 static lutniorad_answer compare_read(size_t n, size_t n_keys, size_t n_classes)
 {
-    call c = {&READ, 0, NO_WINDOW, {{file, n}, {NULL, n_keys}, {NULL, n_classes}}};
+    call c = {&READ, 0, NO_WINDOW, NO_CLASS, {{file, n}, {NULL, n_keys}, {NULL, n_classes}}};
     return compare(c);
 }
 
 static lutniorad_answer compare_write(const map *a, size_t n_keys, size_t n_classes, size_t n_out)
 {
-    call c = {&WRITE, a->m, NO_WINDOW, {{a->keys, n_keys}, {a->classes, n_classes}, {NULL, n_out}}};
+    call c = {&WRITE, a->m, NO_WINDOW, NO_CLASS, {{a->keys, n_keys}, {a->classes, n_classes}, {NULL, n_out}}};
     return compare(c);
 }
 
@@ -542,8 +543,11 @@ static const group groups[] = {
     {"vast slices", group_vast_slices, false},
     {"windows written out", group_windows_written_out, false},
     {"small windows", group_small_windows, false},
+    {"queries written out", group_queries_written_out, false},
+    {"small queries", group_small_queries, false},
     {"refusals of windows", group_window_refusals, false},
     {"lengths of borders and answers", group_window_lengths, false},
+    {"old contents", group_old_contents, false},
     {"windows on damaged maps", group_windows_on_damaged_maps, false},
     {"vast borders and answers", group_vast_windows, false},
     {"the walk", group_walk, false},

@@ -49,13 +49,20 @@ typedef struct {
     lutniorad_answer (*decompose)(uint32_t, uint16_t, uint16_t, uint16_t, uint16_t, uint32_t *, size_t);
     lutniorad_answer (*open)(uint32_t, const uint32_t *, size_t, const uint8_t *, size_t, uint16_t, uint16_t, uint16_t,
                              uint16_t, uint16_t *, size_t, uint32_t *, size_t);
+    lutniorad_answer (*exist)(uint32_t, const uint32_t *, size_t, const uint8_t *, size_t, uint16_t, uint16_t, uint16_t,
+                              uint16_t, uint8_t, uint16_t *, size_t);
+    lutniorad_answer (*report)(uint32_t, const uint32_t *, size_t, const uint8_t *, size_t, uint16_t, uint16_t,
+                               uint16_t, uint16_t, uint16_t *, size_t, uint32_t *, size_t);
+    lutniorad_answer (*select)(uint32_t, const uint32_t *, size_t, const uint8_t *, size_t, uint16_t, uint16_t,
+                               uint16_t, uint16_t, uint8_t, uint16_t *, size_t, uint32_t *, size_t);
     lutniorad_answer (*read)(const uint8_t *, size_t, uint32_t *, size_t, uint8_t *, size_t);
     lutniorad_answer (*write)(uint32_t, const uint32_t *, size_t, const uint8_t *, size_t, uint8_t *, size_t);
 } program;
 
-static const program library = {lutniorad_check, lutniorad_decompose, lutniorad_open, lutniorad_read, lutniorad_write};
-static const program reference = {reference_check, reference_decompose, reference_open, reference_read,
-                                  reference_write};
+static const program library = {lutniorad_check,  lutniorad_decompose, lutniorad_open, lutniorad_exist,
+                                lutniorad_report, lutniorad_select,    lutniorad_read, lutniorad_write};
+static const program reference = {reference_check,  reference_decompose, reference_open, reference_exist,
+                                  reference_report, reference_select,    reference_read, reference_write};
 
 static lutniorad_answer run_check(const program *p, const call *c, const slice *s)
 {
@@ -71,6 +78,24 @@ static lutniorad_answer run_open(const program *p, const call *c, const slice *s
 {
     return p->open(c->m, s[0].cells, s[0].length, s[1].cells, s[1].length, c->at.r0, c->at.c0, c->at.h, c->at.w,
                    s[2].cells, s[2].length, s[3].cells, s[3].length);
+}
+
+static lutniorad_answer run_exist(const program *p, const call *c, const slice *s)
+{
+    return p->exist(c->m, s[0].cells, s[0].length, s[1].cells, s[1].length, c->at.r0, c->at.c0, c->at.h, c->at.w,
+                    c->of_class, s[2].cells, s[2].length);
+}
+
+static lutniorad_answer run_report(const program *p, const call *c, const slice *s)
+{
+    return p->report(c->m, s[0].cells, s[0].length, s[1].cells, s[1].length, c->at.r0, c->at.c0, c->at.h, c->at.w,
+                     s[2].cells, s[2].length, s[3].cells, s[3].length);
+}
+
+static lutniorad_answer run_select(const program *p, const call *c, const slice *s)
+{
+    return p->select(c->m, s[0].cells, s[0].length, s[1].cells, s[1].length, c->at.r0, c->at.c0, c->at.h, c->at.w,
+                     c->of_class, s[2].cells, s[2].length, s[3].cells, s[3].length);
 }
 
 static lutniorad_answer run_read(const program *p, const call *c, const slice *s)
@@ -92,18 +117,24 @@ typedef struct {
 struct operation {
     const char *name;
     lutniorad_answer (*run)(const program *, const call *, const slice *);
-    bool takes_m, takes_window;
+    bool takes_m, takes_window, takes_class;
     size_t n_slices;
     parameter slices[MOST_SLICES];
 };
 
-const operation CHECK = {"check", run_check, true, false, 2, {{"keys", 4}, {"classes", 1}}};
-const operation DECOMPOSE = {"decompose", run_decompose, true, true, 1, {{"out", 4}}};
-const operation OPEN = {"open", run_open, true, true, 4, {{"keys", 4}, {"classes", 1}, {"border", 2}, {"out", 4}}};
-const operation READ = {"read", run_read, false, false, 3, {{"file", 1}, {"keys", 4}, {"classes", 1}}};
-const operation WRITE = {"write", run_write, true, false, 3, {{"keys", 4}, {"classes", 1}, {"out", 1}}};
+const operation CHECK = {"check", run_check, true, false, false, 2, {{"keys", 4}, {"classes", 1}}};
+const operation DECOMPOSE = {"decompose", run_decompose, true, true, false, 1, {{"out", 4}}};
+const operation OPEN = {
+    "open", run_open, true, true, false, 4, {{"keys", 4}, {"classes", 1}, {"border", 2}, {"out", 4}}};
+const operation EXIST = {"exist", run_exist, true, true, true, 3, {{"keys", 4}, {"classes", 1}, {"border", 2}}};
+const operation REPORT = {
+    "report", run_report, true, true, false, 4, {{"keys", 4}, {"classes", 1}, {"border", 2}, {"totals", 4}}};
+const operation SELECT = {
+    "select", run_select, true, true, true, 4, {{"keys", 4}, {"classes", 1}, {"border", 2}, {"out", 4}}};
+const operation READ = {"read", run_read, false, false, false, 3, {{"file", 1}, {"keys", 4}, {"classes", 1}}};
+const operation WRITE = {"write", run_write, true, false, false, 3, {{"keys", 4}, {"classes", 1}, {"out", 1}}};
 
-static const operation *const operations[] = {&CHECK, &DECOMPOSE, &OPEN, &READ, &WRITE};
+static const operation *const operations[] = {&CHECK, &DECOMPOSE, &OPEN, &EXIST, &REPORT, &SELECT, &READ, &WRITE};
 
 /* ---- Cases, and what is said when one fails ---- */
 
@@ -141,6 +172,8 @@ static void print_call(const call *c)
         printf(", m %" PRIu32, c->m);
     if (c->operation->takes_window)
         printf(", r0 %d, c0 %d, h %d, w %d", c->at.r0, c->at.c0, c->at.h, c->at.w);
+    if (c->operation->takes_class)
+        printf(", class %d", c->of_class);
     for (size_t i = 0; i < c->operation->n_slices; i++) {
         const given *g = &c->slices[i];
         printf("\n    %s: %zu cells", c->operation->slices[i].name, g->length);

@@ -5,8 +5,8 @@
  * TO ADD AN OPERATION that both programs have, write in harness.c, beside those of the others:
  *   - one pair of function pointers: a member of `program`, and its function in `library` and in `reference`;
  *   - one run_ function, which hands the numbers and slices of a call to that member in the order of its parameters;
- *   - one row: the operation's name, its run_ function, whether it takes m, whether it takes a window, how many slices
- *     it takes, and for each its name and the bytes in a cell, 1, 2 or 4; and the row's place in `operations`.
+ *   - one row: the operation's name, its run_ function, whether it takes m, a window, a class, how many slices it
+ *     takes, and for each its name and the bytes in a cell, 1, 2 or 4; and the row's place in `operations`.
  * Declare the row below with the others. MOST_SLICES is as many slices as any of them has. A case then fills in a
  * `call` of the operation and hands it to `compare`.
  *
@@ -38,12 +38,12 @@ size_t near_length(size_t right);
 
 typedef struct operation operation;
 
-extern const operation CHECK, DECOMPOSE, OPEN, READ, WRITE;
+extern const operation CHECK, DECOMPOSE, OPEN, EXIST, REPORT, SELECT, READ, WRITE;
 
 enum { MOST_SLICES = 4 };
 
 /*
- * A slice of a call before it is laid out. One that the call writes has no content, and garbage will stand in it.
+ * A slice of a call before it is laid out. Garbage will stand in one without content, as most are that the call writes.
  * Of a vast slice, one of about VAST cells, only the first CELLS_OF_VAST need be there.
  */
 typedef struct {
@@ -51,15 +51,18 @@ typedef struct {
     size_t length;
 } given;
 
-enum { CELLS_OF_VAST = 64 };
+enum { CELLS_OF_VAST = CLASSES + 64 };
 #define VAST ((size_t)1 << 32)
 
-extern const window NO_WINDOW; /* of a call that takes none */
+/* Of a call that takes none. */
+extern const window NO_WINDOW;
+enum { NO_CLASS = 0 };
 
 typedef struct {
     const operation *operation;
     uint32_t m;
     window at;
+    uint8_t of_class;
     given slices[MOST_SLICES];
 } call;
 
@@ -75,7 +78,7 @@ const void *left(size_t i);
  * bytes is a mismatch. All bytes count from the top of that stack down to the last one that was written: those of the
  * library, and of the run_ function that calls it, with the parameters it hands over.
  */
-enum { MOST_STACK = 8192 };
+enum { MOST_STACK = 4000 };
 void watch_stack(void);
 void end_watch(void);
 

@@ -70,7 +70,7 @@ void make_map(map *a, uint32_t m, shape how, size_t cuts)
     a->m = m;
     a->q = 0;
     cut_block(a, how, m, 0, cuts);
-    paint(a, RANDOM);
+    paint(a, below(2) == 0 ? RANDOM : FEW);
 }
 
 void make_random_map(map *a)
@@ -95,8 +95,22 @@ void make_picture(map *a, uint32_t m, size_t number)
 
 void paint(map *a, int how)
 {
+    static const uint8_t few[] = {0, 1, 2, 255};
     for (size_t i = 0; i < a->q; i++)
-        a->classes[i] = (uint8_t)(how == RISING ? i + 1 : how == ALL_0 ? 0 : how == ALL_255 ? 255 : random_number());
+        a->classes[i] = how == RISING    ? (uint8_t)(i + 1)
+                        : how == ALL_0   ? 0
+                        : how == ALL_255 ? 255
+                        : how == FEW     ? few[below(COUNT(few))]
+                                         : (uint8_t)random_number();
+}
+
+uint8_t some_class(const map *a)
+{
+    size_t kind = below(8);
+    return kind == 0                ? 0
+           : kind == 1              ? 255
+           : kind == 2 || a->q == 0 ? (uint8_t)random_number()
+                                    : a->classes[below(a->q)];
 }
 
 void for_small_maps(map *a, void (*run)(void), int paints)
@@ -159,6 +173,14 @@ static uint32_t last_place(uint32_t m, uint32_t key)
     while (place < power_of_5(m) && key / place % 5 == 0)
         place *= 5;
     return place;
+}
+
+size_t side_of_block(uint32_t m, uint32_t key)
+{
+    size_t side = 1;
+    for (uint32_t place = last_place(m, key); place > 1; place /= 5)
+        side *= 2;
+    return side;
 }
 
 static void take_parent(map *a, size_t i)
@@ -256,6 +278,20 @@ window whole_picture(uint32_t m)
     return at;
 }
 
+size_t n_small_windows(uint32_t m)
+{
+    size_t values = side_of(m) + (size_t)2;
+    return values * values * values * values;
+}
+
+window small_window(uint32_t m, size_t number)
+{
+    size_t values = side_of(m) + (size_t)2;
+    window at = {(uint16_t)(number % values), (uint16_t)(number / values % values),
+                 (uint16_t)(number / values / values % values), (uint16_t)(number / values / values / values)};
+    return at;
+}
+
 /* A row or column, or the end of the last one. */
 static size_t random_place(size_t side)
 {
@@ -321,7 +357,7 @@ void make_map_around(map *a, uint32_t m, window at, uint32_t least)
     a->m = m;
     a->q = 0;
     cut_around(a, at, least, m, 0, 0, 0);
-    paint(a, RANDOM);
+    paint(a, below(2) == 0 ? RANDOM : FEW);
 }
 
 /* ---- Files ---- */

@@ -41,7 +41,7 @@ size_t most_cuts(uint32_t exponent);
 /* How the cuts are dealt out to the four quadrants: all to as few as will take them, evenly, or at random. */
 typedef enum { DEEP, EVEN, RAGGED, SHAPES } shape;
 
-/* A map of 1 + 3 * cuts records, with random classes. */
+/* A map of 1 + 3 * cuts records, with random classes: any, or few. */
 void make_map(map *a, uint32_t m, shape how, size_t cuts);
 
 /* Of every size: as often few records as many, and now and then as many as there can be. */
@@ -53,12 +53,19 @@ extern const size_t pictures[3];
 /* One of the pictures, its classes as they were. */
 void make_picture(map *a, uint32_t m, size_t number);
 
-enum { RISING, ALL_0, ALL_255, RANDOM, PAINTS };
+/* FEW is not counted among the paints: four classes at random, so that many records have the same. */
+enum { RISING, ALL_0, ALL_255, RANDOM, PAINTS, FEW = PAINTS };
 
 void paint(map *a, int how);
 
 /* Makes every picture up to m = 2, in the first so many paints, and calls `run` after each. That is one case. */
 void for_small_maps(map *a, void (*run)(void), int paints);
+
+/* A class to ask about: mostly that of a record, or else any, and often 0 or 255. */
+uint8_t some_class(const map *a);
+
+/* The side of a key's block. */
+size_t side_of_block(uint32_t m, uint32_t key);
 
 /* ---- Damaged maps ---- */
 
@@ -82,6 +89,11 @@ uint16_t side_of(uint32_t m); /* of a picture, 2^m */
 
 window whole_picture(uint32_t m);
 
+/* Windows by number, inside and outside: each of the four numbers from 0 on to one beyond the side. */
+size_t n_small_windows(uint32_t m);
+
+window small_window(uint32_t m, size_t number);
+
 /*
  * A window inside the picture: thin as often as square, often at an edge of the picture, or beginning or ending at a
  * multiple of some power of two or beside one. It has at most so many pixels, a power of two.
@@ -91,7 +103,7 @@ window random_window(uint32_t m, size_t most_pixels);
 /*
  * A map made for a window: blocks are cut as long as they lie partly in the window, down to the side 2^least. With
  * least = 0 each maximal block is a record, and so there are as many openings as there can be; else there are records
- * that have many maximal blocks. With random classes.
+ * that have many maximal blocks. With random classes: any, or few.
  */
 void make_map_around(map *a, uint32_t m, window at, uint32_t least);
 

@@ -2,8 +2,6 @@
 
 #include "harness.h"
 
-#include <stdbool.h>
-
 static uint32_t raster[MOST_PIXELS];
 
 /* Fewer than 4(w + h) keys, `apart` cells from one to the next, and each that of a maximal block. */
@@ -120,4 +118,31 @@ void require_opened(const map *a, window at, lutniorad_answer answer, const uint
     require(reference_raster(a->m, a->keys, a->q, at, raster), "a sound map does not paint every pixel once");
     require_just_these(a->q, at, handed_out);
     require_fewest(a, at, answer.first);
+}
+
+/* ---- Queries ---- */
+
+void require_reported(window at, lutniorad_answer answer, const uint32_t *totals)
+{
+    uint64_t sum = 0;
+    for (size_t i = 0; i < CLASSES; i++)
+        sum += totals[i];
+    require(sum == (uint64_t)at.h * at.w, "the totals do not add up to the pixels of the window");
+    require(sum == answer.first, "the totals do not add up to what the answer says");
+}
+
+void require_selected(const map *a, window at, const uint32_t *keys, size_t n)
+{
+    require(n < a->q + 4 * ((size_t)at.w + at.h), "there are not fewer than Q + 4(w + h) keys");
+    for (size_t i = 0; i < n; i++)
+        require(reference_lies_in(a->m, keys[i], at), "there is a key of no block inside the window");
+}
+
+void require_agreement(uint32_t m, uint32_t total, bool exists, const uint32_t *keys, size_t n)
+{
+    uint64_t pixels = 0;
+    for (size_t i = 0; i < n; i++)
+        pixels += (uint64_t)side_of_block(m, keys[i]) * side_of_block(m, keys[i]);
+    require(exists == (total != 0), "a class exists and has no pixel, or has pixels and does not exist");
+    require(pixels == total, "the blocks that were selected have other pixels than were reported");
 }

@@ -8,6 +8,8 @@
 #include "maps.h"
 #include "reference.h"
 
+#include <stdbool.h>
+
 /* n keys, from decomposing a window: fewer than 4(w + h) maximal blocks, and each pixel of the window in just one. */
 void require_decomposed(uint32_t m, window at, const uint32_t *keys, size_t n);
 
@@ -16,5 +18,17 @@ void require_decomposed(uint32_t m, window at, const uint32_t *keys, size_t n);
  * pixel in the window handed out once, and no other; as many as the answer says; and no fewer blocks bring them all.
  */
 void require_opened(const map *a, window at, lutniorad_answer answer, const uint32_t *openings);
+
+/* The 256 totals of a window add up to its pixels, and to what the answer says. */
+void require_reported(window at, lutniorad_answer answer, const uint32_t *totals);
+
+/* n keys, selected from a window on a sound map: each of a block inside the window, and fewer than Q + 4(w + h). */
+void require_selected(const map *a, window at, const uint32_t *keys, size_t n);
+
+/*
+ * The three queries about one class of a window: it exists exactly when the total that was reported is not 0, and the
+ * blocks of the n keys that were selected have that many pixels.
+ */
+void require_agreement(uint32_t m, uint32_t total, bool exists, const uint32_t *keys, size_t n);
 
 #endif

@@ -2,6 +2,7 @@
 #include "reference.h"
 
 #include <stdlib.h>
+#include <string.h>
 
 enum { MOST_DIGITS = 12, MOST_RECORDS = 65536, HEADER = 20 };
 
@@ -153,6 +154,12 @@ static bool is_maximal(square block, window at, uint64_t side_of_all)
     return true;
 }
 
+bool reference_lies_in(uint32_t m, uint32_t key, window at)
+{
+    uint64_t digits[MOST_DIGITS];
+    return digits_of(key, m, digits) && has_the_form(digits, m) && lies_in(block_of(digits, m), at);
+}
+
 bool reference_maximal(uint32_t m, uint32_t key, window at)
 {
     uint64_t digits[MOST_DIGITS];
@@ -175,17 +182,33 @@ static void append_block(block_list *list, square block)
     list->blocks[list->n++] = block;
 }
 
-/* The maximal blocks by the row of the corner, then by its column: every block at every pixel is tried. */
-static void list_maximal(block_list *list, window at, uint64_t side_of_all)
+static bool same_window(window a, window b)
 {
-    list->n = 0;
+    return a.r0 == b.r0 && a.c0 == b.c0 && a.h == b.h && a.w == b.w;
+}
+
+/*
+ * The maximal blocks by the row of the corner, then by its column: every block at every pixel is tried. The last list
+ * is kept, since a large window takes long and is asked about more than once.
+ */
+static const block_list *list_maximal(window at, uint64_t side_of_all)
+{
+    static block_list list;
+    static window kept_at;
+    static uint64_t kept_side; /* 0: there is none yet */
+    if (side_of_all == kept_side && same_window(at, kept_at))
+        return &list;
+    kept_at = at;
+    kept_side = side_of_all;
+    list.n = 0;
     for (uint64_t row = at.r0; row < (uint64_t)at.r0 + at.h; row++)
         for (uint64_t col = at.c0; col < (uint64_t)at.c0 + at.w; col++)
             for (uint64_t side = 1; side <= side_of_all && row % side == 0 && col % side == 0; side = 2 * side) {
                 square block = {row, col, side};
                 if (is_maximal(block, at, side_of_all))
-                    append_block(list, block);
+                    append_block(&list, block);
             }
+    return &list;
 }
 
 /* A digit for each halving of the picture: the quadrant that the block lies in, or 0 where it is not that small. */
@@ -204,19 +227,18 @@ lutniorad_answer reference_decompose(uint32_t m,
                                      uint16_t r0, uint16_t c0, uint16_t h, uint16_t w,
                                      uint32_t *out, size_t n_out)
 {
-    static block_list maximal;
     window at = {r0, c0, h, w};
     if (m > MOST_DIGITS)
         return refused(1, 0);
     uint64_t side_of_all = side_of_picture(m);
     if (!is_inside(at, side_of_all))
         return refused(6, 0);
-    list_maximal(&maximal, at, side_of_all);
-    if (n_out < maximal.n)
-        return refused(8, maximal.n);
-    for (uint64_t i = 0; i < maximal.n; i++)
-        out[i] = (uint32_t)key_of(maximal.blocks[i], side_of_all);
-    return answered(maximal.n, 0);
+    const block_list *maximal = list_maximal(at, side_of_all);
+    if (n_out < maximal->n)
+        return refused(8, maximal->n);
+    for (uint64_t i = 0; i < maximal->n; i++)
+        out[i] = (uint32_t)key_of(maximal->blocks[i], side_of_all);
+    return answered(maximal->n, 0);
 }
 
 /* ---- Rasters ---- */
@@ -271,23 +293,74 @@ bool reference_raster(uint32_t m, const uint32_t *keys, size_t q, window at, uin
     return true;
 }
 
-/* ---- Openings ---- */
+/* ---- A window on a map ---- */
 
-/* Opening a window on a sound map: the raster of its records, and which opening handed each of them out. */
-enum { NO_OPENING = MOST_BLOCKS };
-
+/* The raster of the window at hand: for each pixel the record that it lies in. */
 static uint32_t records[MOST_PIXELS];
-static uint64_t handed_out_by[MOST_RECORDS];
 
-/* A block is skipped when it lies in a record already handed out: one that has all pixels of the block. */
-static bool is_skipped(square block, window at)
+/* Paints the records of a sound map. As with the maximal blocks, what was painted last is kept. */
+static void paint_records(uint32_t m, const uint32_t *keys, uint64_t q, window at)
+{
+    static uint32_t kept_m, kept_keys[MOST_RECORDS];
+    static uint64_t kept_q; /* 0: there is none yet */
+    static window kept_at;
+    bool same = m == kept_m && q == kept_q && same_window(at, kept_at);
+    if (same && memcmp(keys, kept_keys, q * sizeof *keys) == 0)
+        return;
+    if (!reference_raster(m, keys, q, at, records))
+        abort();
+    kept_m = m;
+    kept_q = q;
+    kept_at = at;
+    memcpy(kept_keys, keys, q * sizeof *keys);
+}
+
+/*
+ * What every question about a window on a map begins with: refusals 1 to 7, or refusal 0. Then the records are painted,
+ * and the border is as it has to be in the end, whatever comes of the answer slice.
+ */
+static lutniorad_answer begin_question(uint32_t m,
+                                       const uint32_t *keys, size_t n_keys,
+                                       const uint8_t *classes, size_t n_classes,
+                                       window at,
+                                       uint16_t *border, size_t n_border)
+{
+    lutniorad_answer check = reference_check(m, keys, n_keys, classes, n_classes);
+    if (check.refusal != 0)
+        return check;
+    if (!is_inside(at, side_of_picture(m)))
+        return refused(6, 0);
+    if (n_border < at.w)
+        return refused(7, at.w);
+    paint_records(m, keys, n_keys, at);
+    for (uint64_t i = 0; i < at.w; i++)
+        border[i] = (uint16_t)(at.r0 + at.h);
+    return answered(0, 0);
+}
+
+/* The record that has all pixels of the block, or NO_RECORD where these lie in more than one. */
+static uint32_t record_around(square block, window at)
 {
     uint32_t record = records[place_in_raster(at, block.row, block.col)];
     for (uint64_t row = block.row; row < block.row + block.side; row++)
         for (uint64_t col = block.col; col < block.col + block.side; col++)
             if (records[place_in_raster(at, row, col)] != record)
-                return false;
-    return handed_out_by[record] != NO_OPENING;
+                return NO_RECORD;
+    return record;
+}
+
+/* ---- Openings ---- */
+
+/* Which opening handed each record out. */
+enum { NO_OPENING = MOST_BLOCKS };
+
+static uint64_t handed_out_by[MOST_RECORDS];
+
+/* A block is skipped when it lies in a record already handed out. */
+static bool is_skipped(square block, window at)
+{
+    uint32_t record = record_around(block, at);
+    return record != NO_RECORD && handed_out_by[record] != NO_OPENING;
 }
 
 typedef struct {
@@ -309,20 +382,16 @@ static opening open_block(square block, window at, uint64_t side_of_all, uint64_
     return made;
 }
 
-/* Makes the openings of a window inside a sound map of q records, and returns their number. */
-static uint64_t make_openings(uint64_t m, const uint32_t *keys, uint64_t q, window at, opening openings[MOST_BLOCKS])
+/* Makes the openings of the window at hand, on a map of q records, and returns their number. */
+static uint64_t make_openings(uint64_t q, window at, uint64_t side_of_all, opening openings[MOST_BLOCKS])
 {
-    static block_list maximal;
-    uint64_t side_of_all = side_of_picture(m);
+    const block_list *maximal = list_maximal(at, side_of_all);
     uint64_t n = 0;
-    if (!reference_raster((uint32_t)m, keys, q, at, records))
-        abort();
     for (uint64_t i = 0; i < q; i++)
         handed_out_by[i] = NO_OPENING;
-    list_maximal(&maximal, at, side_of_all);
-    for (uint64_t i = 0; i < maximal.n; i++)
-        if (!is_skipped(maximal.blocks[i], at)) {
-            openings[n] = open_block(maximal.blocks[i], at, side_of_all, n);
+    for (uint64_t i = 0; i < maximal->n; i++)
+        if (!is_skipped(maximal->blocks[i], at)) {
+            openings[n] = open_block(maximal->blocks[i], at, side_of_all, n);
             n++;
         }
     return n;
@@ -337,16 +406,10 @@ lutniorad_answer reference_open(uint32_t m,
 {
     static opening openings[MOST_BLOCKS];
     window at = {r0, c0, h, w};
-    lutniorad_answer check = reference_check(m, keys, n_keys, classes, n_classes);
-    if (check.refusal != 0)
-        return check;
-    if (!is_inside(at, side_of_picture(m)))
-        return refused(6, 0);
-    if (n_border < w)
-        return refused(7, w);
-    uint64_t n = make_openings(m, keys, n_keys, at, openings);
-    for (uint64_t i = 0; i < w; i++) /* for the refusal by 8 too */
-        border[i] = (uint16_t)(r0 + h);
+    lutniorad_answer begun = begin_question(m, keys, n_keys, classes, n_classes, at, border, n_border);
+    if (begun.refusal != 0)
+        return begun;
+    uint64_t n = make_openings(n_keys, at, side_of_picture(m), openings);
     if (n_out < 3 * n)
         return refused(8, 3 * n);
     uint64_t handed_out = 0;
@@ -357,6 +420,109 @@ lutniorad_answer reference_open(uint32_t m,
         handed_out += openings[i].count;
     }
     return answered(n, handed_out);
+}
+
+/* ---- Queries ---- */
+
+/* The pixels of each class in the window at hand. */
+static void count_classes(window at, const uint8_t *classes, uint64_t totals[CLASSES])
+{
+    for (uint64_t i = 0; i < CLASSES; i++)
+        totals[i] = 0;
+    for (uint64_t i = 0; i < (uint64_t)at.h * at.w; i++)
+        totals[classes[records[i]]]++;
+}
+
+lutniorad_answer reference_exist(uint32_t m,
+                                 const uint32_t *keys, size_t n_keys,
+                                 const uint8_t *classes, size_t n_classes,
+                                 uint16_t r0, uint16_t c0, uint16_t h, uint16_t w,
+                                 uint8_t of_class,
+                                 uint16_t *border, size_t n_border)
+{
+    uint64_t totals[CLASSES];
+    window at = {r0, c0, h, w};
+    lutniorad_answer begun = begin_question(m, keys, n_keys, classes, n_classes, at, border, n_border);
+    if (begun.refusal != 0)
+        return begun;
+    count_classes(at, classes, totals);
+    return answered(totals[of_class] > 0, 0);
+}
+
+lutniorad_answer reference_report(uint32_t m,
+                                  const uint32_t *keys, size_t n_keys,
+                                  const uint8_t *classes, size_t n_classes,
+                                  uint16_t r0, uint16_t c0, uint16_t h, uint16_t w,
+                                  uint16_t *border, size_t n_border,
+                                  uint32_t *totals, size_t n_totals)
+{
+    uint64_t counted[CLASSES];
+    window at = {r0, c0, h, w};
+    lutniorad_answer begun = begin_question(m, keys, n_keys, classes, n_classes, at, border, n_border);
+    if (begun.refusal != 0)
+        return begun;
+    if (n_totals < CLASSES)
+        return refused(8, CLASSES);
+    count_classes(at, classes, counted);
+    for (uint64_t i = 0; i < CLASSES; i++)
+        totals[i] = (uint32_t)counted[i];
+    return answered((uint64_t)h * w, 0);
+}
+
+/* Room for the key of each block, and of each record: one that lies inside a block lies in no other. */
+typedef struct {
+    uint64_t n;
+    uint64_t keys[MOST_BLOCKS + MOST_RECORDS];
+} key_list;
+
+/* Lists the records of the class, in map order, that have a pixel in a block which lies in none of them. */
+static void select_records(key_list *list, square block, window at, const uint32_t *keys, const uint8_t *classes,
+                           uint8_t of_class)
+{
+    static bool is_met[MOST_RECORDS]; /* false for all, before and after */
+    uint64_t first = NO_RECORD, end = 0;
+    for (uint64_t row = block.row; row < block.row + block.side; row++)
+        for (uint64_t col = block.col; col < block.col + block.side; col++) {
+            uint32_t record = records[place_in_raster(at, row, col)];
+            is_met[record] = true;
+            first = lesser(first, record);
+            end = greater(end, record + (uint64_t)1);
+        }
+    for (uint64_t i = first; i < end; i++) {
+        if (is_met[i] && classes[i] == of_class)
+            list->keys[list->n++] = keys[i];
+        is_met[i] = false;
+    }
+}
+
+lutniorad_answer reference_select(uint32_t m,
+                                  const uint32_t *keys, size_t n_keys,
+                                  const uint8_t *classes, size_t n_classes,
+                                  uint16_t r0, uint16_t c0, uint16_t h, uint16_t w,
+                                  uint8_t of_class,
+                                  uint16_t *border, size_t n_border,
+                                  uint32_t *out, size_t n_out)
+{
+    static key_list list;
+    window at = {r0, c0, h, w};
+    lutniorad_answer begun = begin_question(m, keys, n_keys, classes, n_classes, at, border, n_border);
+    if (begun.refusal != 0)
+        return begun;
+    const block_list *maximal = list_maximal(at, side_of_picture(m));
+    list.n = 0;
+    for (uint64_t i = 0; i < maximal->n; i++) {
+        square block = maximal->blocks[i];
+        uint32_t around = record_around(block, at);
+        if (around == NO_RECORD)
+            select_records(&list, block, at, keys, classes, of_class);
+        else if (classes[around] == of_class)
+            list.keys[list.n++] = key_of(block, side_of_picture(m));
+    }
+    if (n_out < list.n)
+        return refused(8, list.n);
+    for (uint64_t i = 0; i < list.n; i++)
+        out[i] = (uint32_t)list.keys[i];
+    return answered(list.n, 0);
 }
 
 /* ---- The house file ---- */

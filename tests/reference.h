@@ -31,6 +31,28 @@ lutniorad_answer reference_open(uint32_t m,
                                 uint16_t *border, size_t n_border,
                                 uint32_t *out, size_t n_out);
 
+lutniorad_answer reference_exist(uint32_t m,
+                                 const uint32_t *keys, size_t n_keys,
+                                 const uint8_t *classes, size_t n_classes,
+                                 uint16_t r0, uint16_t c0, uint16_t h, uint16_t w,
+                                 uint8_t of_class,
+                                 uint16_t *border, size_t n_border);
+
+lutniorad_answer reference_report(uint32_t m,
+                                  const uint32_t *keys, size_t n_keys,
+                                  const uint8_t *classes, size_t n_classes,
+                                  uint16_t r0, uint16_t c0, uint16_t h, uint16_t w,
+                                  uint16_t *border, size_t n_border,
+                                  uint32_t *totals, size_t n_totals);
+
+lutniorad_answer reference_select(uint32_t m,
+                                  const uint32_t *keys, size_t n_keys,
+                                  const uint8_t *classes, size_t n_classes,
+                                  uint16_t r0, uint16_t c0, uint16_t h, uint16_t w,
+                                  uint8_t of_class,
+                                  uint16_t *border, size_t n_border,
+                                  uint32_t *out, size_t n_out);
+
 lutniorad_answer reference_read(const uint8_t *file, size_t n,
                                 uint32_t *keys, size_t n_keys,
                                 uint8_t *classes, size_t n_classes);
@@ -40,8 +62,8 @@ lutniorad_answer reference_write(uint32_t m,
                                  const uint8_t *classes, size_t n_classes,
                                  uint8_t *out, size_t n_out);
 
-/* The most pixels that a picture has. */
-enum { MOST_PIXELS = 4096 * 4096 };
+/* The most pixels that a picture has, and how many classes there are. */
+enum { MOST_PIXELS = 4096 * 4096, CLASSES = 256 };
 
 /*
  * The raster of a window: for each of its pixels, row by row from the north-west on, the index of the block that it
@@ -49,6 +71,9 @@ enum { MOST_PIXELS = 4096 * 4096 };
  * and every pixel of the window was painted just once. m is at most 12, and the window inside the picture.
  */
 bool reference_raster(uint32_t m, const uint32_t *keys, size_t q, window at, uint32_t *raster);
+
+/* Is this the key of a block that lies in the window? m is at most 12. */
+bool reference_lies_in(uint32_t m, uint32_t key, window at);
 
 /* Is this the key of a maximal block of the window? m is at most 12. */
 bool reference_maximal(uint32_t m, uint32_t key, window at);

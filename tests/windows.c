@@ -1,55 +1,13 @@
 #include "windows.h"
 
-#include "harness.h"
-#include "maps.h"
-#include "promises.h"
+#include "questions.h"
 
 #include <inttypes.h>
 #include <stdio.h>
 #include <string.h>
 
-/* ---- The case at hand, and its calls ---- */
-
-/* A sound map, and one that need not be sound. */
+/* The case at hand: a sound map, and one that need not be sound. */
 static map sound, damaged;
-
-static lutniorad_answer compare_decompose(uint32_t m, window at, size_t n_out)
-{
-    call c = {&DECOMPOSE, m, at, {{NULL, n_out}}};
-    lutniorad_answer answer = compare(c);
-    if (answer.refusal == 0)
-        require_decomposed(m, at, left(0), answer.first);
-    return answer;
-}
-
-/* The map's slices may be longer than the map, or shorter. */
-static lutniorad_answer compare_slices_open(const map *a, size_t n_keys, size_t n_classes, window at, size_t n_border,
-                                            size_t n_out)
-{
-    call c = {&OPEN, a->m, at, {{a->keys, n_keys}, {a->classes, n_classes}, {NULL, n_border}, {NULL, n_out}}};
-    lutniorad_answer answer = compare(c);
-    if (answer.refusal == 0)
-        require_opened(a, at, answer, left(3));
-    return answer;
-}
-
-static lutniorad_answer compare_open(const map *a, window at, size_t n_border, size_t n_out)
-{
-    return compare_slices_open(a, a->q, a->q, at, n_border, n_out);
-}
-
-/* Cells that are always enough for decomposing a window. An opening takes three times as many. */
-static size_t enough(window at)
-{
-    return 4 * ((size_t)at.w + at.h);
-}
-
-/* Both operations on slices that are long enough. The cells that the openings take are returned. */
-static size_t try_window(const map *a, window at)
-{
-    compare_decompose(a->m, at, enough(at));
-    return 3 * (size_t)compare_open(a, at, at.w, 3 * enough(at)).first;
-}
 
 /* ---- Group: windows written out ---- */
 
@@ -74,6 +32,8 @@ static const struct {
     {2, {1, 2, 1, 1}, 1, {0, 0, 1, 0}, {13}},
     {2, {1, 1, 2, 2}, 4, {0, 0, 4, 0}, {9, 13, 17, 21}},
     {2, {0, 0, 4, 3}, 6, {0, 0, 6, 0}, {5, 11, 13, 15, 21, 23}},
+    {8, {0, 255, 1, 1}, 1, {0, 0, 1, 0}, {97656 + 97656}}, /* (5^8 - 1)/4, and E(255), which is as much */
+    {8, {255, 0, 1, 1}, 1, {0, 0, 1, 0}, {97656 + 2 * 97656}},
     {0, {0, 0, 1, 1}, 1, {0, 0, 1, 0}, {0}},
     {0, {0, 0, 1, 2}, 1, {6, 0, 0, 0}, {0}},
     {12, {0, 0, 4096, 4096}, 1, {0, 0, 1, 0}, {0}},
@@ -124,28 +84,22 @@ static const struct {
 
 static void stated_opening(size_t i)
 {
-    if (stated_openings[i].m == 0)
-        make_picture(&sound, 0, 0);
-    else
-        make_reference_map(&sound);
-    sound.m = stated_openings[i].m;
+    make_stated_map(&sound, stated_openings[i].m);
     lutniorad_answer stated = stated_openings[i].answer;
-    require_stated(compare_open(&sound, stated_openings[i].at, stated_openings[i].n_border, stated_openings[i].n_out),
-                   stated);
+    question open = {&OPEN, &sound, stated_openings[i].at, NO_CLASS};
+    require_stated(ask(open, stated_openings[i].n_border, stated_openings[i].n_out), stated);
     require(memcmp(left(3), stated_openings[i].openings, 3 * stated.first * sizeof(uint32_t)) == 0,
             "other openings than those written out");
-    const uint16_t *border = left(2);
-    for (size_t k = 0; stated_openings[i].border != 0 && k < stated_openings[i].at.w; k++)
-        require(border[k] == stated_openings[i].border, "another border than the one written out");
+    require_border(stated_openings[i].at, stated_openings[i].border);
 }
 
-/* One record more than a map may have. */
-static void stated_most_records(void)
+/* As many records as a map may have, each a pixel, and one more. The window is record 107. */
+static void stated_most_records(size_t i)
 {
     make_map(&sound, 8, EVEN, most_cuts(8));
-    window at = {7, 9, 1, 1};
-    require_numbers(compare_slices_open(&sound, 65537, 65537, at, 1, 3), 2, 0, 0, 0);
-    require_numbers(compare_slices_open(&sound, 65536, 65536, at, 1, 3), 0, 0, 1, 1);
+    question q = {questions[i], &sound, {7, 9, 1, 1}, sound.classes[107]};
+    require_numbers(ask_slices(q, 65537, 65537, 1, enough_for(q)), 2, 0, 0, 0);
+    require_numbers(ask_slices(q, 65536, 65536, 1, enough_for(q)), 0, 0, 1, q.operation == &OPEN);
 }
 
 void group_windows_written_out(void)
@@ -156,32 +110,12 @@ void group_windows_written_out(void)
     for (size_t i = 0; i < COUNT(stated_openings); i++)
         if (begin_case())
             stated_opening(i);
-    if (begin_case())
-        stated_most_records();
+    for (size_t i = 0; i < QUESTIONS; i++)
+        if (begin_case())
+            stated_most_records(i);
 }
 
 /* ---- Group: small windows ---- */
-
-/* Each of the four numbers from 0 on to one beyond the side. */
-static size_t n_small_windows(uint32_t m)
-{
-    size_t values = side_of(m) + (size_t)2;
-    return values * values * values * values;
-}
-
-static window small_window(uint32_t m, size_t number)
-{
-    size_t values = side_of(m) + (size_t)2;
-    window at = {(uint16_t)(number % values), (uint16_t)(number / values % values),
-                 (uint16_t)(number / values / values % values), (uint16_t)(number / values / values / values)};
-    return at;
-}
-
-/* A length that is too short by one, or 0 if it would be less. */
-static size_t too_short(size_t length)
-{
-    return length > 0 ? length - 1 : 0;
-}
 
 /* How many cells a window needs is found with a slice that is long enough; where the window is refused, it is none. */
 static void decompose_with_every_length(uint32_t m, window at)
@@ -192,30 +126,23 @@ static void decompose_with_every_length(uint32_t m, window at)
         compare_decompose(m, at, lengths[i]);
 }
 
-static void open_with_every_length(const map *a, window at)
-{
-    size_t n = 3 * (size_t)compare_open(a, at, at.w, 3 * enough(at)).first;
-    const size_t borders[] = {0, too_short(at.w), at.w, at.w + (size_t)3};
-    const size_t lengths[] = {0, too_short(n), n, n + 5};
-    for (size_t i = 0; i < (n == 0 ? 1 : COUNT(borders) * COUNT(lengths)); i++)
-        compare_open(a, at, borders[i % COUNT(borders)], lengths[i / COUNT(borders)]);
-}
-
 /* On a small map. */
 static void open_every_window(void)
 {
-    for (size_t number = 0; number < n_small_windows(sound.m); number++)
-        open_with_every_length(&sound, small_window(sound.m, number));
+    for (size_t number = 0; number < n_small_windows(sound.m); number++) {
+        question open = {&OPEN, &sound, small_window(sound.m, number), NO_CLASS};
+        ask_with_every_length(open);
+    }
 }
 
 /* On so many maps, each some other one. */
-static void open_on_some_maps(uint32_t m, window at, size_t maps)
+static void try_on_some_maps(uint32_t m, window at, size_t maps)
 {
-    if (compare_decompose(m, at, enough(at)).refusal != 0)
+    if (compare_decompose(m, at, 0).refusal != 8)
         return;
     for (size_t i = 0; i < maps; i++) {
         make_map(&sound, m, (shape)below(SHAPES), below(most_cuts(m) + 1));
-        compare_open(&sound, at, at.w, 3 * enough(at));
+        try_window(&sound, at, some_class(&sound));
     }
 }
 
@@ -229,7 +156,7 @@ void group_small_windows(void)
     for (uint32_t m = 3; m <= 4; m++)
         for (size_t number = 0; number < n_small_windows(m); number++)
             if (begin_case())
-                open_on_some_maps(m, small_window(m, number), m == 3 ? 8 : 1);
+                try_on_some_maps(m, small_window(m, number), m == 3 ? 8 : 1);
 }
 
 /* ---- Group: refusals of windows ---- */
@@ -252,23 +179,44 @@ static const uint32_t third_keys[] = {12, 1, 5, 13};
 
 static const uint32_t chosen_ms[] = {2, 0, 1, 3, 12, 13, 258, 65538, UINT32_MAX};
 
+/* What the reference window needs of the answer slice. */
+static const struct {
+    const operation *operation;
+    uint8_t of_class;
+    size_t n_outs;
+    size_t outs[3];
+} reference_needs[] = {
+    {&OPEN, NO_CLASS, 3, {0, 11, 12}},
+    {&EXIST, 1, 1, {0}},
+    {&REPORT, NO_CLASS, 3, {0, 255, 256}},
+    {&SELECT, 1, 3, {0, 3, 4}},
+};
+
+/* The map as it is then: with each border and each answer slice. */
+static void ask_with_every_slice(window at, size_t n_keys, size_t n_classes)
+{
+    static const size_t borders[] = {0, 2, 3};
+    for (size_t k = 0; k < COUNT(reference_needs); k++) {
+        question q = {reference_needs[k].operation, &damaged, at, reference_needs[k].of_class};
+        for (size_t i = 0; i < COUNT(borders) * reference_needs[k].n_outs; i++)
+            ask_slices(q, n_keys, n_classes, borders[i % COUNT(borders)], reference_needs[k].outs[i / COUNT(borders)]);
+    }
+}
+
 /* Each reason with each other: m, the slices' lengths, the records, the window, the border and the answer slice. */
-static void open_with_reasons_together(window at)
+static void ask_with_reasons_together(window at)
 {
     static const size_t lengths[][2] = {{7, 7}, {6, 7}, {7, 6}, {8, 8}, {6, 6}, {0, 0}};
-    static const size_t borders[] = {0, 2, 3};
-    static const size_t outs[] = {0, 11, 12};
     make_reference_map(&damaged);
     damaged.keys[REFERENCE_Q] = 20; /* a record more, for the slices that are longer than the map */
     damaged.classes[REFERENCE_Q] = 2;
     for (size_t key = 0; key < COUNT(third_keys); key++)
-        for (size_t k = 0; k < COUNT(chosen_ms) * COUNT(lengths); k++)
-            for (size_t i = 0; i < COUNT(borders) * COUNT(outs); i++) {
-                const size_t *n = lengths[k / COUNT(chosen_ms)];
-                damaged.keys[2] = third_keys[key];
-                damaged.m = chosen_ms[k % COUNT(chosen_ms)];
-                compare_slices_open(&damaged, n[0], n[1], at, borders[i % COUNT(borders)], outs[i / COUNT(borders)]);
-            }
+        for (size_t k = 0; k < COUNT(chosen_ms) * COUNT(lengths); k++) {
+            const size_t *n = lengths[k / COUNT(chosen_ms)];
+            damaged.keys[2] = third_keys[key];
+            damaged.m = chosen_ms[k % COUNT(chosen_ms)];
+            ask_with_every_slice(at, n[0], n[1]);
+        }
 }
 
 static void decompose_with_reasons_together(window at)
@@ -284,7 +232,7 @@ void group_window_refusals(void)
 {
     for (size_t i = 0; i < COUNT(chosen_windows); i++)
         if (begin_case()) {
-            open_with_reasons_together(chosen_windows[i]);
+            ask_with_reasons_together(chosen_windows[i]);
             decompose_with_reasons_together(chosen_windows[i]);
         }
 }
@@ -293,10 +241,14 @@ void group_window_refusals(void)
 
 static void every_border_and_answer(window at)
 {
+    static const uint8_t asked[] = {1, 2, 3, 0, 255};
     make_reference_map(&sound);
-    for (size_t n_border = 0; n_border <= at.w + (size_t)4; n_border++)
-        for (size_t n_out = 0; n_out <= 3 * enough(at); n_out++)
-            compare_open(&sound, at, n_border, n_out);
+    for (size_t i = 0; i < QUESTIONS * COUNT(asked); i++) {
+        question q = {questions[i % QUESTIONS], &sound, at, asked[i / QUESTIONS]};
+        for (size_t n_border = 0; n_border <= at.w + (size_t)4; n_border++)
+            for (size_t n_out = 0; n_out <= enough_for(q); n_out++)
+                ask(q, n_border, n_out);
+    }
     for (size_t n_out = 0; n_out <= enough(at); n_out++)
         compare_decompose(sound.m, at, n_out);
 }
@@ -309,36 +261,67 @@ void group_window_lengths(void)
             every_border_and_answer(windows[i]);
 }
 
-/* ---- Group: windows on damaged maps ---- */
+/* ---- Group: old contents ---- */
 
-/* Inside and outside, on a border and an answer slice that are long enough and that are too short. */
-static void open_damaged(void)
+/* The border as it would be before the work, on its way and in the end, of this window or another. */
+static void ask_over_old_contents(window at)
 {
-    const window windows[] = {whole_picture(damaged.m), {0, 0, 1, 1}, {0, 0, 0, 1}, {65535, 0, 1, 1}};
-    for (size_t i = 0; i < COUNT(windows); i++) {
-        compare_open(&damaged, windows[i], windows[i].w, 3 * enough(windows[i]));
-        compare_open(&damaged, windows[i], 0, 0);
+    const int olds[] = {0, at.r0, at.r0 + 1, at.r0 + at.h - 1, at.r0 + at.h, at.r0 + at.h + 1, UINT16_MAX};
+    for (size_t i = 0; i < QUESTIONS * COUNT(olds); i++) {
+        question q = {questions[i % QUESTIONS], &sound, at, some_class(&sound)};
+        ask_over(q, (uint16_t)olds[i / QUESTIONS]);
     }
 }
 
-static void open_every_damage(void)
+/* On a small map, whose windows have a maximal block each, or are refused by 6. */
+static void old_contents_of_every_window(void)
+{
+    for (size_t number = 0; number < n_small_windows(sound.m); number++) {
+        window at = small_window(sound.m, number);
+        if (compare_decompose(sound.m, at, 0).refusal == 8)
+            ask_over_old_contents(at);
+    }
+}
+
+void group_old_contents(void)
+{
+    for_small_maps(&sound, old_contents_of_every_window, 1);
+}
+
+/* ---- Group: windows on damaged maps ---- */
+
+/* Inside and outside, on a border and an answer slice that are long enough and that are too short. */
+static void ask_of_damaged(const operation *o)
+{
+    const window windows[] = {whole_picture(damaged.m), {0, 0, 1, 1}, {0, 0, 0, 1}, {65535, 0, 1, 1}};
+    for (size_t i = 0; i < COUNT(windows); i++) {
+        question q = {o, &damaged, windows[i], some_class(&damaged)};
+        ask_in_full(q);
+        ask(q, 0, 0);
+    }
+}
+
+static void ask_of_every_damage(void)
 {
     for (size_t i = 0; i < sound.q; i++)
-        for (size_t k = 0; k < n_damages; k++) {
+        for (size_t k = 0; k < n_damages * QUESTIONS; k++) {
             copy_map(&damaged, &sound);
-            damage(&damaged, k, i);
-            open_damaged();
+            damage(&damaged, k / QUESTIONS, i);
+            ask_of_damaged(questions[k % QUESTIONS]);
         }
 }
 
 void group_windows_on_damaged_maps(void)
 {
-    for_small_maps(&sound, open_every_damage, 1);
+    for_small_maps(&sound, ask_of_every_damage, 1);
 }
 
 /* ---- Group: vast borders and answers ---- */
 
-/* Of the reference window, whose border takes 3 cells, its openings 12 and its maximal blocks 6. */
+/*
+ * Of the reference window, whose border takes 3 cells, its openings 12, its totals 256 and its maximal blocks 6. Of the
+ * class that is asked about, which is 1, there are 4 keys.
+ */
 static const struct {
     const operation *operation;
     size_t n_keys, n_classes, n_border, n_out;
@@ -357,6 +340,30 @@ static const struct {
     {&OPEN, VAST + 7, VAST + 7, 3, 12, {2, 0, 0, 0}},
     {&OPEN, VAST + 7, 7, 3, 12, {2, 0, 0, 0}},
     {&OPEN, 7, VAST + 7, 3, 12, {2, 0, 0, 0}},
+    {&EXIST, 7, 7, VAST, 0, {0, 0, 1, 0}},
+    {&EXIST, 7, 7, VAST + 2, 0, {0, 0, 1, 0}},
+    {&EXIST, 7, 7, 65538, 0, {0, 0, 1, 0}},
+    {&EXIST, VAST + 7, VAST + 7, 3, 0, {2, 0, 0, 0}},
+    {&EXIST, VAST + 7, 7, 3, 0, {2, 0, 0, 0}},
+    {&EXIST, 7, VAST + 7, 3, 0, {2, 0, 0, 0}},
+    {&REPORT, 7, 7, VAST + 2, 256, {0, 0, 9, 0}},
+    {&REPORT, 7, 7, 3, VAST, {0, 0, 9, 0}},
+    {&REPORT, 7, 7, VAST + 2, VAST + 255, {0, 0, 9, 0}},
+    {&REPORT, 7, 7, 65538, 65536 + 255, {0, 0, 9, 0}},
+    {&REPORT, 7, 7, VAST + 3, 255, {8, 256, 0, 0}},
+    {&REPORT, 7, 7, 2, VAST + 256, {7, 3, 0, 0}},
+    {&REPORT, VAST + 7, VAST + 7, 3, 256, {2, 0, 0, 0}},
+    {&REPORT, VAST + 7, 7, 3, 256, {2, 0, 0, 0}},
+    {&REPORT, 7, VAST + 7, 3, 256, {2, 0, 0, 0}},
+    {&SELECT, 7, 7, VAST + 2, 4, {0, 0, 4, 0}},
+    {&SELECT, 7, 7, 3, VAST, {0, 0, 4, 0}},
+    {&SELECT, 7, 7, VAST + 2, VAST + 3, {0, 0, 4, 0}},
+    {&SELECT, 7, 7, 65538, 65539, {0, 0, 4, 0}},
+    {&SELECT, 7, 7, VAST + 3, 3, {8, 4, 0, 0}},
+    {&SELECT, 7, 7, 2, VAST + 4, {7, 3, 0, 0}},
+    {&SELECT, VAST + 7, VAST + 7, 3, 4, {2, 0, 0, 0}},
+    {&SELECT, VAST + 7, 7, 3, 4, {2, 0, 0, 0}},
+    {&SELECT, 7, VAST + 7, 3, 4, {2, 0, 0, 0}},
     {&DECOMPOSE, 0, 0, 0, VAST, {0, 0, 6, 0}},
     {&DECOMPOSE, 0, 0, 0, VAST + 5, {0, 0, 6, 0}},
     {&DECOMPOSE, 0, 0, 0, VAST - 1, {0, 0, 6, 0}},
@@ -367,11 +374,11 @@ static const struct {
 static void vast_window(size_t i)
 {
     make_reference_map(&sound);
-    lutniorad_answer answer =
-        vast_windows[i].operation == &DECOMPOSE
-            ? compare_decompose(sound.m, REFERENCE_WINDOW, vast_windows[i].n_out)
-            : compare_slices_open(&sound, vast_windows[i].n_keys, vast_windows[i].n_classes, REFERENCE_WINDOW,
-                                  vast_windows[i].n_border, vast_windows[i].n_out);
+    question q = {vast_windows[i].operation, &sound, REFERENCE_WINDOW, 1};
+    lutniorad_answer answer = q.operation == &DECOMPOSE
+                                  ? compare_decompose(sound.m, REFERENCE_WINDOW, vast_windows[i].n_out)
+                                  : ask_slices(q, vast_windows[i].n_keys, vast_windows[i].n_classes,
+                                               vast_windows[i].n_border, vast_windows[i].n_out);
     require_stated(answer, vast_windows[i].answer);
 }
 
@@ -410,12 +417,14 @@ static window wide_window(uint32_t m, size_t number)
     return windows[number];
 }
 
-/* On the map at hand, and with slices that are too short as well. */
+/* On the map at hand, and some question with slices that are too short as well. */
 static void large_window(window at)
 {
-    size_t n = try_window(&sound, at);
-    compare_open(&sound, at, at.w, n - 1);
-    compare_open(&sound, at, too_short(at.w), n);
+    question q = {questions[below(QUESTIONS)], &sound, at, some_class(&sound)};
+    try_window(&sound, at, q.of_class);
+    size_t n = ask(q, at.w, 0).place; /* refused by 8, if it needs a cell */
+    ask(q, at.w, too_short(n));
+    ask(q, too_short(at.w), n);
 }
 
 void group_large_windows(void)
@@ -436,11 +445,11 @@ void group_large_windows(void)
     for (size_t number = 0; number < WIDE_WINDOWS; number++)
         if (begin_case()) {
             make_map_around(&sound, 12, wide_window(12, number), number % 2 == 0 ? 2 : 0);
-            try_window(&sound, wide_window(12, number));
+            try_window(&sound, wide_window(12, number), some_class(&sound));
         }
     if (begin_case()) {
         make_map(&sound, 12, RAGGED, most_cuts(8));
-        try_window(&sound, whole_picture(12));
+        try_window(&sound, whole_picture(12), some_class(&sound));
     }
 }
 
@@ -449,12 +458,15 @@ void group_large_windows(void)
 /* A window on the map at hand: on slices that are long enough, on some that may not be, and on the map damaged. */
 static void try_window_at_random(window at)
 {
-    size_t n = try_window(&sound, at);
+    try_window(&sound, at, some_class(&sound));
+    question q = {questions[below(QUESTIONS)], &sound, at, some_class(&sound)};
+    size_t n = ask_in_full(q);
     size_t n_border = near_length(at.w);
-    compare_open(&sound, at, n_border, near_length(n));
+    ask(q, n_border, near_length(n));
     copy_map(&damaged, &sound);
     damage_at_random(&damaged);
-    compare_open(&damaged, at, at.w, n);
+    q.map = &damaged;
+    ask(q, at.w, n);
 }
 
 /* On some map, on one made for the window, and on one made for another window. */
@@ -477,12 +489,13 @@ static void random_small_windows(void)
     uint32_t m = 3 + (uint32_t)below(3);
     make_map(&sound, m, (shape)below(SHAPES), below((most_cuts(m) >> below(8)) + 1));
     for (int i = 0; i < 16; i++) {
-        window at = random_window(m, (size_t)1 << 2 * m);
-        size_t n = try_window(&sound, at);
-        at.h = (uint16_t)near_length(at.h);
-        at.w = (uint16_t)near_length(at.w);
-        size_t n_border = near_length(at.w);
-        compare_open(&sound, at, n_border, near_length(n));
+        question q = {questions[below(QUESTIONS)], &sound, random_window(m, (size_t)1 << 2 * m), some_class(&sound)};
+        try_window(&sound, q.at, q.of_class);
+        size_t n = ask_in_full(q);
+        q.at.h = (uint16_t)near_length(q.at.h);
+        q.at.w = (uint16_t)near_length(q.at.w);
+        size_t n_border = near_length(q.at.w);
+        ask(q, n_border, near_length(n));
     }
 }
 
@@ -498,17 +511,6 @@ void group_random_windows(void)
 
 /* ---- Group: the walk ---- */
 
-/* The side of a key's block at m = 12: each zero at the key's end doubles it. The whole picture is all zeros. */
-static size_t side_of_block(uint32_t key)
-{
-    size_t side = 1;
-    for (int i = 0; i < 12 && key % 5 == 0; i++) {
-        key /= 5;
-        side *= 2;
-    }
-    return side;
-}
-
 /*
  * The walk through the maximal blocks comes to a block once in each row that crosses it, and to the end of each row:
  * the first as often as the sides of the blocks add up to. That has to be about (w + h) log T, and not w x h.
@@ -519,7 +521,7 @@ static void count_steps(window at)
     const uint32_t *keys = left(0);
     size_t steps = 0;
     for (uint32_t i = 0; i < n; i++)
-        steps += side_of_block(keys[i]);
+        steps += side_of_block(12, keys[i]);
     require(steps <= 2 * 12 * ((size_t)at.w + at.h), "a walk of too many steps");
     printf("walk over window %d %d %d %d at m = 12: %" PRIu32 " blocks, %zu steps and %d ends of rows\n", at.r0, at.c0,
            at.h, at.w, n, steps, at.h);
@@ -540,16 +542,16 @@ static void call_everything(void)
 {
     static uint8_t file[ROOM_FOR_FILE];
     size_t n = make_file(file, &sound);
-    call check = {&CHECK, sound.m, NO_WINDOW, {{sound.keys, sound.q}, {sound.classes, sound.q}}};
-    call write = {&WRITE, sound.m, NO_WINDOW, {{sound.keys, sound.q}, {sound.classes, sound.q}, {NULL, n}}};
-    call read = {&READ, 0, NO_WINDOW, {{file, n}, {NULL, sound.q}, {NULL, sound.q}}};
+    call check = {&CHECK, sound.m, NO_WINDOW, NO_CLASS, {{sound.keys, sound.q}, {sound.classes, sound.q}}};
+    call write = {&WRITE, sound.m, NO_WINDOW, NO_CLASS, {{sound.keys, sound.q}, {sound.classes, sound.q}, {NULL, n}}};
+    call read = {&READ, 0, NO_WINDOW, NO_CLASS, {{file, n}, {NULL, sound.q}, {NULL, sound.q}}};
     require_numbers(compare(check), 0, 0, (uint32_t)sound.q, 0);
     require_numbers(compare(write), 0, 0, (uint32_t)n, 0);
     require_numbers(compare(read), 0, 0, sound.m, (uint32_t)sound.q);
     for (size_t i = 0; i < THIN_WINDOWS; i++)
-        try_window(&sound, thin_window(sound.m, i));
+        try_window(&sound, thin_window(sound.m, i), some_class(&sound));
     for (int i = 0; i < 4; i++)
-        try_window(&sound, random_window(sound.m, (size_t)1 << 16));
+        try_window(&sound, random_window(sound.m, (size_t)1 << 16), some_class(&sound));
 }
 
 void group_stack(void)

@@ -1,5 +1,6 @@
 /*
- * Groups of cases about windows: decomposing them, and opening them on maps.
+ * Groups of cases about windows: decomposing them, opening them on maps, and the queries wherever the cases are the
+ * same. Those about classes are in queries.h.
  */
 #ifndef WINDOWS_H
 #define WINDOWS_H
@@ -8,6 +9,7 @@ void group_windows_written_out(void);
 void group_small_windows(void);
 void group_window_refusals(void);
 void group_window_lengths(void);
+void group_old_contents(void);
 void group_windows_on_damaged_maps(void);
 void group_vast_windows(void);
 void group_large_windows(void);

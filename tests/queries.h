@@ -1,0 +1,10 @@
+/*
+ * Groups of cases about the classes in a window: exist, report and select.
+ */
+#ifndef QUERIES_H
+#define QUERIES_H
+
+void group_queries_written_out(void);
+void group_small_queries(void);
+
+#endif

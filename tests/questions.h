@@ -1,0 +1,56 @@
+/*
+ * Calls about windows: decomposing one, and the questions that are asked about one on a map, which are OPEN, EXIST,
+ * REPORT and SELECT. Each call is compared, and what it answers is held against what is promised of it.
+ */
+#ifndef QUESTIONS_H
+#define QUESTIONS_H
+
+#include "harness.h"
+#include "maps.h"
+
+lutniorad_answer compare_decompose(uint32_t m, window at, size_t n_out);
+
+enum { QUESTIONS = 4 };
+extern const operation *const questions[QUESTIONS];
+
+typedef struct {
+    const operation *operation;
+    const map *map;
+    window at;
+    uint8_t of_class; /* for those that take one */
+} question;
+
+lutniorad_answer ask(question q, size_t n_border, size_t n_out);
+
+/* The map's slices may be longer than the map, or shorter. */
+lutniorad_answer ask_slices(question q, size_t n_keys, size_t n_classes, size_t n_border, size_t n_out);
+
+/* Cells that are always enough for decomposing a window, and for the answer of a question. */
+size_t enough(window at);
+size_t enough_for(question q);
+
+/* Asks on slices that are long enough. The cells that the answer takes are returned: none where it is refused. */
+size_t ask_in_full(question q);
+
+/* Asks about a small window, on slices a little longer than that, with this in each cell of border and answer slice. */
+void ask_over(question q, uint16_t old);
+
+/* A length that is too short by one, or 0 if it would be less. */
+size_t too_short(size_t length);
+
+/* Asks on borders and answer slices that are empty, too short by one, just long enough and longer. */
+void ask_with_every_length(question q);
+
+/* The three queries on slices that are long enough, and about n classes. What they answer must fit together. */
+void try_queries(const map *a, window at, const uint8_t *asked, size_t n);
+
+/* For the answers written out: the reference map, with another m if it is not 2; at m = 0 the map of one pixel. */
+void make_stated_map(map *a, uint32_t m);
+
+/* After a question: each cell of the window's border is this, or 0 stands for a border that was not written. */
+void require_border(window at, uint16_t stated);
+
+/* Decomposing, and all questions, on slices that are long enough. */
+void try_window(const map *a, window at, uint8_t of_class);
+
+#endif
