@@ -1,9 +1,16 @@
 # What a user does, a target each.
-.PHONY: lib test check format
+.PHONY: lib demo test check format
 
 # The library for C: target/staticlib/liblutniorad.a. Its header is include/lutniorad.h.
 lib:
 	rt staticlib lutniorad
+
+# The window program, target/bin/window_program, and what it prints on a map of 4 by 4 pixels.
+demo:
+	@. tests/tools.sh && need $$to_run && build_window_program
+	@echo 'On its standard input the window program gets a map of 4 by 4 pixels and a window, row 0, column 1, 3 by 3.'
+	@echo 'It prints the window, its openings (key, first record, records), its classes (class, pixels) and the totals:'
+	@. tests/tools.sh && run_window_program <crates/window_program/stdin
 
 # Every test there is: the gate.
 test:
