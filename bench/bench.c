@@ -37,6 +37,13 @@ static const char *where(int operation)
     return place;
 }
 
+static void wrong_cell(int operation, const char *why)
+{
+    char cell[sizeof place + 20];
+    snprintf(cell, sizeof cell, "%s, %s", operation_names[operation], where(operation));
+    wrong(why, cell);
+}
+
 typedef struct {
     int64_t library, plain;
 } pair;
@@ -49,7 +56,7 @@ static pair measure_pair(int operation, rectangle at)
     measure(&library, operation, &a, at, &by_library);
     measure(&plain, operation, &a, at, &by_plain);
     if (!same_answers(&by_library, &by_plain))
-        wrong("library and plain C differ", where(operation));
+        wrong_cell(operation, "library and plain C differ");
     p.library = by_library.instructions;
     p.plain = by_plain.instructions;
     return p;
@@ -110,10 +117,10 @@ static void print_others(rectangle at, int64_t base)
     print_other(&growing, 12, at, base);
     if (memcmp(&by_other.answer, &by_library.answer, sizeof by_other.answer) != 0 ||
         memcmp(by_other.out, by_library.out, sizeof by_other.out) != 0)
-        wrong("library and growing list differ", where(OPEN));
+        wrong_cell(OPEN, "library and growing list differ");
     print_other(&every, 11, at, base);
     if (by_other.answer.first != call(&library, DECOMPOSE, &a, at, &by_library).first)
-        wrong("there are not as many fetches as blocks", where(OPEN));
+        wrong_cell(OPEN, "there are not as many fetches as blocks");
 }
 
 static void print_row(int operation)
@@ -121,7 +128,7 @@ static void print_row(int operation)
     rectangle at = make_window(a.m, window_number);
     pair p = measure_pair(operation, at);
     if (by_library.answer.refusal != 0)
-        wrong("the library refuses", where(operation));
+        wrong_cell(operation, "the library refuses");
     printf("| %-9s | %-15s | %-6s |", operation_names[operation], map_name(operation), window_name(operation));
     print_pair(&wholes[operation], operation, 8, p);
     if (operation > DECOMPOSE) {
@@ -207,7 +214,16 @@ static void print_fit(const char *name, const points *p, const char *of)
         xy += (p->x[i] - x) * (p->y[i] - y);
     }
     slope = xy / xx;
-    printf("%s: %.1f instructions for each %s, and %.0f more\n", name, slope, of, y - slope * x);
+    printf("%s %.1f x %s %+.0f", name, slope, of, y - slope * x);
+}
+
+static void print_fits(const points *ours, const points *plains, const char *of)
+{
+    printf("\nBy least squares: ");
+    print_fit(library.name, ours, of);
+    printf("; ");
+    print_fit(plain.name, plains, of);
+    printf(".\n");
 }
 
 static void print_growth_of_open(void)
@@ -228,9 +244,7 @@ static void print_growth_of_open(void)
         add_point(&ours, 2 * side, p.library);
         add_point(&plains, 2 * side, p.plain);
     }
-    printf("\n");
-    print_fit(library.name, &ours, "w + h");
-    print_fit(plain.name, &plains, "w + h");
+    print_fits(&ours, &plains, "(w + h)");
 }
 
 static void print_growth_of_check(void)
@@ -248,9 +262,7 @@ static void print_growth_of_check(void)
         add_point(&ours, (double)a.q, p.library);
         add_point(&plains, (double)a.q, p.plain);
     }
-    printf("\n");
-    print_fit(library.name, &ours, "record");
-    print_fit(plain.name, &plains, "record");
+    print_fits(&ours, &plains, "Q");
 }
 
 int main(int argc, char **argv)
