@@ -1,5 +1,5 @@
 # What a user does, a target each.
-.PHONY: lib demo test check format
+.PHONY: lib demo test bench check format
 
 # The library for C: target/staticlib/liblutniorad.a. Its header is include/lutniorad.h.
 lib:
@@ -15,6 +15,10 @@ demo:
 # Every test there is: the gate.
 test:
 	.ci/run
+
+# The instructions of each operation, beside those of plain C.
+bench:
+	bench/run
 
 # The proofs alone, and only of what has changed.
 check:

@@ -1,5 +1,5 @@
 # shellcheck shell=sh disable=SC2034 # the variables are for those that read this
-# What tests/run, tests/program/make and 'make demo' have in common. They read it in the root of the repository.
+# What tests/run, tests/program/make, bench/run and 'make demo' have in common. They read it in the root of the repository.
 
 built=target/tests
 strict='-Wall -Wextra -pedantic -Werror'

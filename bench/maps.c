@@ -1,0 +1,167 @@
+#include "maps.h"
+
+#include <stdbool.h>
+#include <stdlib.h>
+
+const char *const map_names[MAPS] = {
+    "65,536 pixels", "65,536 squares", "lake", "64 large blocks", "one record", "strip",
+};
+
+const char *const window_names[WINDOWS] = {"tiny", "medium", "long", "whole"};
+
+/* ---- Windows ---- */
+
+/*
+ * The long one lies across the middle of the picture, where 2^(m-1) is a multiple of every side: above and below that
+ * line stand blocks of side 4, then of side 2, then pixels. So it has more than three maximal blocks to a column.
+ */
+rectangle make_window(uint32_t m, int number)
+{
+    uint16_t side = (uint16_t)(1 << m), third = (uint16_t)(side / 3);
+    rectangle windows[WINDOWS];
+    windows[TINY] = (rectangle){third, third, 3, 3};
+    windows[MEDIUM] = (rectangle){(uint16_t)(side / 8 + 1), third, (uint16_t)(side / 4 + 1), (uint16_t)(side / 4 - 1)};
+    windows[LONG] = (rectangle){(uint16_t)(side / 2 - 7), 1, 14, (uint16_t)(side - 2)};
+    windows[WHOLE] = (rectangle){1, 1, (uint16_t)(side - 2), (uint16_t)(side - 2)};
+    return windows[number];
+}
+
+/* ---- Shapes: the class of a block, or CUT where it is cut in four ---- */
+
+enum { CUT = -1 };
+
+typedef int shape(int row, int col, int side);
+
+/* As if each block had been classed by a camera that sees nothing but noise. */
+static int noise(int row, int col, int side)
+{
+    uint32_t mixed = ((uint32_t)(row / side) * 4096 + (uint32_t)(col / side)) * 2654435761u;
+    return CLEAR + (int)(mixed >> 16) % 3;
+}
+
+static int pixels(int row, int col, int side)
+{
+    return side > 1 ? CUT : noise(row, col, side);
+}
+
+static int squares(int row, int col, int side)
+{
+    return side > 16 ? CUT : noise(row, col, side);
+}
+
+static int large(int row, int col, int side)
+{
+    return side > 512 ? CUT : noise(row, col, side);
+}
+
+static int one(int row, int col, int side)
+{
+    return noise(row, col, side);
+}
+
+static const struct {
+    int row, col, radius, class;
+} discs[] = {
+    {2011, 2120, 1600, CLEAR}, {1500, 1300, 210, SCUM}, {1610, 1570, 130, SCUM}, {2900, 2600, 320, SCUM},
+    {2350, 2890, 75, SCUM},    {1100, 2500, 40, SCUM},  {2050, 2040, 18, SCUM},
+};
+
+/* The farthest and the nearest that one of the pixels from `from` on, `side` of them, lies from a place. */
+static int farthest(int from, int side, int place)
+{
+    int before = abs(place - from), behind = abs(place - (from + side - 1));
+    return before > behind ? before : behind;
+}
+
+static int nearest(int from, int side, int place)
+{
+    int before = abs(place - from), behind = abs(place - (from + side - 1));
+    if (from <= place && place < from + side)
+        return 0;
+    return before < behind ? before : behind;
+}
+
+/* A round lake with land around it and discs of scum on it. */
+static int lake(int row, int col, int side)
+{
+    int class = LAND;
+    for (size_t i = 0; i < sizeof discs / sizeof *discs; i++) {
+        int far_row = farthest(row, side, discs[i].row), far_col = farthest(col, side, discs[i].col);
+        int near_row = nearest(row, side, discs[i].row), near_col = nearest(col, side, discs[i].col);
+        int square = discs[i].radius * discs[i].radius;
+        if (far_row * far_row + far_col * far_col <= square)
+            class = discs[i].class;
+        else if (near_row * near_row + near_col * near_col <= square)
+            return CUT; /* never a pixel: that is as near as it is far */
+    }
+    return class;
+}
+
+static bool apart(int from, int side, int start, int count)
+{
+    return from + side <= start || start + count <= from;
+}
+
+static bool within(int from, int side, int start, int count)
+{
+    return start <= from && from + side <= start + count;
+}
+
+/* Each maximal block of the long window is a record. Neighbours in a row differ in their classes. */
+static int strip(int row, int col, int side)
+{
+    rectangle at = make_window(12, LONG);
+    bool off = apart(row, side, at.r0, at.h) || apart(col, side, at.c0, at.w);
+    if (!off && !(within(row, side, at.r0, at.h) && within(col, side, at.c0, at.w)))
+        return CUT;
+    return CLEAR + col / side % 2;
+}
+
+static int corner_side;
+
+static int corner(int row, int col, int side)
+{
+    bool cut = row < corner_side && col < corner_side && side > 16;
+    return cut ? CUT : noise(row, col, side);
+}
+
+/* ---- Maps ---- */
+
+/* Appends the records of the block of this key, whose keys, with those of all blocks in it, are `keys` many. */
+static void cut(map *a, shape *is, uint32_t key, uint32_t keys, int row, int col, int side)
+{
+    int class = is(row, col, side), half = side / 2;
+    if (class == CUT) {
+        for (int i = 0; i < 4; i++) {
+            key += keys / 5;
+            cut(a, is, key, keys / 5, row + i / 2 * half, col + i % 2 * half, half);
+        }
+        return;
+    }
+    if (a->q == MOST_RECORDS)
+        abort();
+    a->keys[a->q] = key;
+    a->classes[a->q++] = (uint8_t)class;
+}
+
+static void make(map *a, uint32_t m, shape *is)
+{
+    uint32_t keys = 1;
+    for (uint32_t i = 0; i < m; i++)
+        keys *= 5;
+    a->m = m;
+    a->q = 0;
+    cut(a, is, 0, keys, 0, 0, 1 << m);
+}
+
+void make_map(map *a, int number)
+{
+    static shape *const shapes[MAPS] = {pixels, squares, lake, large, one, strip};
+    make(a, number == PIXELS ? 8 : 12, shapes[number]);
+}
+
+void make_corner(map *a, uint32_t exponent)
+{
+    corner_side = 1 << exponent;
+    make(a, 12, corner);
+}

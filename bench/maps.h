@@ -1,0 +1,35 @@
+/* The maps that are measured, and the windows on them. */
+#ifndef BENCH_MAPS_H
+#define BENCH_MAPS_H
+
+#include <stddef.h>
+#include <stdint.h>
+
+enum { MOST_RECORDS = 65536, CLEAR = 1, SCUM = 2, LAND = 3, NO_CLASS = 200 /* on no map */ };
+
+typedef struct {
+    uint32_t m;
+    size_t q;
+    uint32_t keys[MOST_RECORDS];
+    uint8_t classes[MOST_RECORDS];
+} map;
+
+enum { PIXELS, SQUARES, LAKE, LARGE, ONE, STRIP, MAPS };
+extern const char *const map_names[MAPS];
+
+/* One of the maps, by its number. */
+void make_map(map *a, int number);
+
+/* A map whose north-west corner, of side 2^exponent, is cut into blocks of 16 x 16, and the rest as few as can be. */
+void make_corner(map *a, uint32_t exponent);
+
+typedef struct {
+    uint16_t r0, c0, h, w;
+} rectangle;
+
+enum { TINY, MEDIUM, LONG, WHOLE, WINDOWS };
+extern const char *const window_names[WINDOWS];
+
+rectangle make_window(uint32_t m, int number);
+
+#endif

@@ -1,0 +1,96 @@
+#define _DEFAULT_SOURCE /* for syscall */
+
+#include "measure.h"
+
+#include "mark.h"
+
+#include <fcntl.h>
+#include <stdio.h>
+#include <stdlib.h>
+#include <string.h>
+#include <unistd.h>
+
+const program library = {
+    "library",       lutniorad_check,  lutniorad_decompose, lutniorad_open,
+    lutniorad_exist, lutniorad_report, lutniorad_select,
+};
+const program plain = {
+    "plain C", plain_check, plain_decompose, plain_open, plain_exist, plain_report, plain_select,
+};
+const program growing = {"growing list", NULL, NULL, growing_open, NULL, NULL, NULL};
+const program every = {"every block", NULL, NULL, every_open, NULL, NULL, NULL};
+
+const char *const operation_names[OPERATIONS] = {"check", "decompose", "open", "exist", "report", "select"};
+
+void wrong(const char *why, const char *where)
+{
+    printf("WRONG: %s (%s)\n", why, where);
+    exit(1);
+}
+
+lutniorad_answer call(const program *p, int operation, const map *a, rectangle at, result *r)
+{
+    static const lutniorad_answer none = {0, 0, 0, 0};
+    switch (operation) {
+    case CHECK:
+        return p->check(a->m, a->keys, a->q, a->classes, a->q);
+    case DECOMPOSE:
+        return p->decompose(a->m, at.r0, at.c0, at.h, at.w, r->out, ROOM);
+    case OPEN:
+        return p->open(a->m, a->keys, a->q, a->classes, a->q, at.r0, at.c0, at.h, at.w, r->border, CELLS, r->out, ROOM);
+    case EXIST:
+        return p->exist(a->m, a->keys, a->q, a->classes, a->q, at.r0, at.c0, at.h, at.w, NO_CLASS, r->border, CELLS);
+    case REPORT:
+        return p->report(a->m, a->keys, a->q, a->classes, a->q, at.r0, at.c0, at.h, at.w, r->border, CELLS, r->out,
+                         ROOM);
+    case SELECT:
+        return p->select(a->m, a->keys, a->q, a->classes, a->q, at.r0, at.c0, at.h, at.w, SCUM, r->border, CELLS,
+                         r->out, ROOM);
+    default:
+        return none;
+    }
+}
+
+static int counts;
+
+void begin_measuring(const char *file)
+{
+    counts = open(file, O_RDONLY);
+    if (counts < 0)
+        wrong("there are no counts: run this under the plugin", file);
+}
+
+static int64_t next_count(void)
+{
+    int64_t count;
+    if (read(counts, &count, sizeof count) != (ssize_t)sizeof count)
+        wrong("the plugin leaves no count", "measure");
+    return count;
+}
+
+/* The counts are read after the second mark, so that nothing but the call stands between the two. */
+static int64_t marked(const program *p, int operation, const map *a, rectangle at, result *r)
+{
+    int64_t before;
+    syscall(MARK);
+    r->answer = call(p, operation, a, at, r);
+    syscall(MARK);
+    before = next_count();
+    return next_count() - before;
+}
+
+void measure(const program *p, int operation, const map *a, rectangle at, result *r)
+{
+    static int64_t around; /* the marks, and the way to the call */
+    if (around == 0)
+        around = marked(p, NOTHING, a, at, r);
+    memset(r->border, 0xA5, sizeof r->border);
+    memset(r->out, 0xA5, sizeof r->out);
+    r->instructions = marked(p, operation, a, at, r) - around;
+}
+
+bool same_answers(const result *x, const result *y)
+{
+    return memcmp(&x->answer, &y->answer, sizeof x->answer) == 0 &&
+           memcmp(x->border, y->border, sizeof x->border) == 0 && memcmp(x->out, y->out, sizeof x->out) == 0;
+}

@@ -1,0 +1,52 @@
+/* Calls of the programs, with the instructions that they take. */
+#ifndef MEASURE_H
+#define MEASURE_H
+
+#include "maps.h"
+#include "programs.h"
+
+#include <stdbool.h>
+
+typedef struct {
+    const char *name;
+    check_function *check;
+    decompose_function *decompose;
+    open_function *open;
+    exist_function *exist;
+    report_function *report;
+    select_function *select;
+} program;
+
+extern const program library, plain, growing, every; /* the last two only open */
+
+enum { CHECK, DECOMPOSE, OPEN, EXIST, REPORT, SELECT, OPERATIONS, NOTHING };
+extern const char *const operation_names[OPERATIONS];
+
+/* The widest border, and out cells enough for one pass of opening and for every key that a select can list. */
+enum { CELLS = 4096, ROOM = 12 * (4096 + 4096) };
+
+typedef struct {
+    int64_t instructions;
+    lutniorad_answer answer;
+    uint16_t border[CELLS];
+    uint32_t out[ROOM];
+} result;
+
+/* Opens the file in which the plugin leaves its counts. */
+void begin_measuring(const char *counts);
+
+/*
+ * One call. Exist asks for a class that is nowhere, so it has to look everywhere; select asks for scum. Counted are the
+ * instructions from the first that hands over an argument to the return.
+ */
+void measure(const program *p, int operation, const map *a, rectangle at, result *r);
+
+/* As measure, for whoever wants the answer alone. */
+lutniorad_answer call(const program *p, int operation, const map *a, rectangle at, result *r);
+
+bool same_answers(const result *x, const result *y);
+
+/* Ends the run: a bench of a wrong program shows nothing. */
+void wrong(const char *why, const char *where);
+
+#endif

@@ -1,0 +1,49 @@
+/*
+ * What is measured beside the library. Each function takes what the library's takes.
+ *   plain     the library's algorithm
+ *   growing   opening with a list of all records fetched, in which each block is looked up
+ *   every     Algorithm-1: each maximal block fetches its records; the answer counts the blocks and what they fetch
+ */
+#ifndef PROGRAMS_H
+#define PROGRAMS_H
+
+#include "lutniorad.h"
+
+typedef lutniorad_answer check_function(uint32_t m,
+                                        const uint32_t *keys, size_t n_keys,
+                                        const uint8_t *classes, size_t n_classes);
+
+typedef lutniorad_answer decompose_function(uint32_t m,
+                                            uint16_t r0, uint16_t c0, uint16_t h, uint16_t w,
+                                            uint32_t *out, size_t n_out);
+
+typedef lutniorad_answer open_function(uint32_t m,
+                                       const uint32_t *keys, size_t n_keys,
+                                       const uint8_t *classes, size_t n_classes,
+                                       uint16_t r0, uint16_t c0, uint16_t h, uint16_t w,
+                                       uint16_t *border, size_t n_border,
+                                       uint32_t *out, size_t n_out);
+
+typedef lutniorad_answer exist_function(uint32_t m,
+                                        const uint32_t *keys, size_t n_keys,
+                                        const uint8_t *classes, size_t n_classes,
+                                        uint16_t r0, uint16_t c0, uint16_t h, uint16_t w, uint8_t class,
+                                        uint16_t *border, size_t n_border);
+
+typedef open_function report_function; /* the totals stand where the openings do */
+
+typedef lutniorad_answer select_function(uint32_t m,
+                                         const uint32_t *keys, size_t n_keys,
+                                         const uint8_t *classes, size_t n_classes,
+                                         uint16_t r0, uint16_t c0, uint16_t h, uint16_t w, uint8_t class,
+                                         uint16_t *border, size_t n_border,
+                                         uint32_t *out, size_t n_out);
+
+check_function plain_check;
+decompose_function plain_decompose;
+open_function plain_open, growing_open, every_open;
+exist_function plain_exist;
+report_function plain_report;
+select_function plain_select;
+
+#endif
