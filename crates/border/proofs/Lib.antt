@@ -11,4 +11,5 @@ mod Steps
 mod Tables
 mod Examples
 pub mod Laws
+pub mod Room
 mod Passes
