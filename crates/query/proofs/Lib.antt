@@ -1,1 +1,2 @@
 mod Examples
+pub mod Told
