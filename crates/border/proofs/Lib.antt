@@ -12,4 +12,5 @@ mod Tables
 mod Examples
 pub mod Laws
 pub mod Finding
+pub mod Room
 mod Passes

@@ -9,11 +9,12 @@ use native.Mathlib.Decide.{decLt}
 use native.Mathlib.Omega.{arith}
 use lib.Dec.{eqb, ltb}
 use lib.ListN.{length, take, drop, getD}
-use borrow.Author.Tests.{lt-ltb, le-ltb, eq-eqb, ne-eqb, eqb-true, not-false}
+use borrow.Author.Tests.{lt-ltb, le-ltb, ltb-false, eq-eqb, ne-eqb, eqb-true, not-false}
 use Rattle.answers.specs.declared.Verdict.the-variants as verdict-of
 use Rattle.answers.specs.Rows.{Row, row, answer, verdict}
 use Rattle.answers.specs.Sizes.{sizeRows, Sized}
 use Rattle.answers.specs.Cells.{overwrite}
+use Rattle.answers.proofs.Tests.{neither}
 use Rattle.answers.proofs.Laws.{answer-none, row-held, row-clear, append-passed, append-refused, accepted, passed-row, passed-append, sized}
 use Rattle.house.specs.declared.Reading.the-variants as reading
 use Rattle.house.specs.declared.Writing.the-variants as writing
@@ -171,6 +172,8 @@ pub record Taken (file keys classes : List ℕ) (m q : ℕ) (keys′ classes′ 
   pub right : Laid (length file) (numbers 5 file)
   pub m-is : fileM file ≡ m
   pub q-is : fileQ file ≡ q
+  pub keys-room : q ≤ length keys
+  pub classes-room : q ≤ length classes
   pub keys-are : overwrite (fileKeys file) keys ≡ keys′
   pub classes-are : overwrite (fileClasses file) classes ≡ classes′
 
@@ -183,11 +186,15 @@ read-accepted file keys classes {m} {q} {keys′} {classes′} e =
     (λ n p f. let g : reading.Refused n p ≡ reading.Read m q = ap (λ (x : AfterRead). x .answer) f in let z : _≡_ {A = ℕ} 0 1 = cc in omega arith) e in
     let b = passed-row (ltb (length file) 20) 9 0 _ .0 (a .0) in
     let c = passed-append (layoutRows (length file) (numbers 5 file)) _ .0 (b .1) in
+    let room = neither (ltb (length keys) (fileQ file)) (ltb (length classes) (fileQ file)) (passed-row _ 8 (fileQ file) [] .0 (c .1) .0) in
     let done : reading.Read (fileM file) (fileQ file) ≡ reading.Read m q = ap (λ (x : AfterRead). x .answer) (a .1) in
+    let q-is : fileQ file ≡ q = cc in
     record {
       right = laid _ _ .0 (c .0);
       m-is = cc;
-      q-is = cc;
+      q-is = q-is;
+      keys-room = omega (arith, ltb-false (length keys) (fileQ file) (room .0));
+      classes-room = omega (arith, ltb-false (length classes) (fileQ file) (room .1));
       keys-are = ap (λ (x : AfterRead). x .keys) (a .1);
       classes-are = ap (λ (x : AfterRead). x .classes) (a .1);
     }

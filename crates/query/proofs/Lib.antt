@@ -15,3 +15,4 @@ mod Selects
 mod Adds
 mod Tables
 mod Examples
+pub mod Told

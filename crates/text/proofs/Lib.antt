@@ -1,0 +1,4 @@
+pub mod Laws
+pub mod Telling
+mod Steps
+mod Examples

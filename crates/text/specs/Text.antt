@@ -1,0 +1,38 @@
+-- Text, as bytes of ASCII: a number in decimal digits, a line of numbers, and a text that is put into a lent slice.
+-- Assumes nothing.
+use Prim.Native.Nat.{ℕ, zero, suc, _+_, _/_, _%_}
+use mathlib.Core.Bool.{cond}
+use mathlib.Core.List.{List, [], _∷_, _++_}
+use lib.Dec.{ltb, leb}
+use lib.ListN.{length}
+use Rattle.answers.specs.Cells.{overwrite}
+
+-- the last n digits of a number, or all where it has fewer; the most significant first
+unfoldable pub digits : ℕ → ℕ → List ℕ
+digits zero x = []
+digits (suc n) x = cond (ltb x 10) ((48 + x) ∷ []) (digits n (x / 10) ++ ((48 + x % 10) ∷ []))
+
+-- all digits of a number of 32 bits, which has at most ten: none but 0 starts with a zero
+unfoldable pub digitsOf : ℕ → List ℕ
+digitsOf = digits 10
+
+-- numbers, each with a space before it
+unfoldable pub spaced : List ℕ → List ℕ
+spaced [] = []
+spaced (x ∷ xs) = 32 ∷ digitsOf x ++ spaced xs
+
+-- a line: a letter, numbers, and the end of the line
+unfoldable pub lineOf : ℕ → List ℕ → List ℕ
+lineOf letter xs = letter ∷ spaced xs ++ (10 ∷ [])
+
+-- how many bytes were put, and the lent slice afterwards
+pub record AfterPut : Type 0 where
+  pub count : ℕ
+  pub out : List ℕ
+
+abbrev pub afterPut : ℕ → List ℕ → AfterPut
+afterPut count out = record { count = count; out = out }
+
+-- a text is put whole, and bytes beyond it keep their content; where there is no room for all of it, none is put
+unfoldable pub putOf : List ℕ → List ℕ → AfterPut
+putOf text out = cond (leb (length text) (length out)) (afterPut (length text) (overwrite text out)) (afterPut 0 out)

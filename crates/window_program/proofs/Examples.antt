@@ -1,0 +1,54 @@
+-- P1's text, computed from the definitions. Its map has m = 2 and the keys 5, 11, 12, 13, 14, 15, 20; its window is 0 1 3 3.
+-- Assumes nothing.
+use mathlib.Core.Path.{_≡_, refl}
+use mathlib.Core.List.{List, [], _∷_, _++_}
+use Prim.Native.Nat.{ℕ}
+use Rattle.answers.specs.Rows.{answer}
+use Rattle.answers.specs.Sizes.{wrongCount, sizeRows}
+use Rattle.key.specs.Lists.{upFrom}
+use Rattle.key.specs.Spread.{spreadTo, spread}
+use Rattle.key.specs.Picture.{place}
+use Rattle.key.specs.Key.{pixelKey, blockKey}
+use Rattle.key.specs.Form.{from, formOf}
+use Rattle.window.specs.Window.{window, beyond, outside, windowRows}
+use Rattle.window.specs.Lists.{keep}
+use Rattle.window.specs.Blocks.{floor, lies, fits, greatest, exponent, corner, across, rows, isCorner, maximal}
+use Rattle.window.specs.Decompose.{keyOf, keysOf}
+use Rattle.map.specs.Spans as spans
+use Rattle.map.specs.Check.{recordRows, mapRows}
+use Rattle.map.specs.Lists.{before, howMany}
+use Rattle.map.specs.Records.{recordOf}
+use Rattle.map.specs.Runs.{runOf}
+use Rattle.border.specs.Openings.{any, indices, within, isHanded, opening, openFrom, openings, handsOut, cellsOf}
+use Rattle.border.specs.Open.{useRows}
+use Rattle.query.specs.Classes.{hasClass, total, totals}
+use Rattle.text.specs.Text.{digits, digitsOf, spaced, lineOf}
+use Rattle.window_program.specs.Text.{windowOf, openingLines, classLine, classLines, foundLines, foundBy, resultOf, answerOf}
+
+abbrev keys : List ℕ
+keys = 5 ∷ 11 ∷ 12 ∷ 13 ∷ 14 ∷ 15 ∷ 20 ∷ []
+
+abbrev classes : List ℕ
+classes = 1 ∷ 2 ∷ 2 ∷ 3 ∷ 1 ∷ 1 ∷ 2 ∷ []
+
+-- W 0 1 3 3, four openings, three classes, T 4 7 9
+abbrev p1-text : List ℕ
+p1-text =
+    lineOf 87 (0 ∷ 1 ∷ 3 ∷ 3 ∷ [])
+    ++ lineOf 79 (7 ∷ 0 ∷ 1 ∷ [])
+    ++ lineOf 79 (10 ∷ 1 ∷ 4 ∷ [])
+    ++ lineOf 79 (17 ∷ 5 ∷ 1 ∷ [])
+    ++ lineOf 79 (21 ∷ 6 ∷ 1 ∷ [])
+    ++ lineOf 65 (1 ∷ 4 ∷ [])
+    ++ lineOf 65 (2 ∷ 4 ∷ [])
+    ++ lineOf 65 (3 ∷ 1 ∷ [])
+    ++ lineOf 84 (4 ∷ 7 ∷ 9 ∷ [])
+
+pub record Examples : Type 0 where
+  pub p1-window : windowOf (0 ∷ 0 ∷ 1 ∷ 0 ∷ 3 ∷ 0 ∷ 3 ∷ 0 ∷ []) ≡ window 0 1 3 3
+  pub p1 : answerOf 2 keys classes (window 0 1 3 3) ≡ p1-text
+  pub p12 : answerOf 2 keys classes (window 2 0 3 1) ≡ lineOf 87 (2 ∷ 0 ∷ 3 ∷ 1 ∷ []) ++ lineOf 82 (6 ∷ 0 ∷ [])
+
+pub examples : Examples
+unfolding answer wrongCount sizeRows upFrom spreadTo spread place pixelKey blockKey from formOf beyond outside windowRows keep floor lies fits greatest exponent corner across rows isCorner maximal keyOf keysOf spans.malformed spans.exponent spans.start spans.end spans.holds spans.overlap recordRows mapRows before howMany recordOf runOf any indices within isHanded opening openFrom openings handsOut cellsOf useRows hasClass total totals digits digitsOf spaced lineOf openingLines classLine classLines foundLines foundBy resultOf answerOf
+examples = record { p1-window = refl; p1 = refl; p12 = refl }

@@ -1,0 +1,3 @@
+mod Lines
+mod Results
+mod Examples

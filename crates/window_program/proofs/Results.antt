@@ -1,0 +1,107 @@
+-- What is said of a window: how long it can be, and that it is what the calls answer.
+-- Assumes nothing.
+use mathlib.Core.Path.{_≡_, refl, sym, ap, _∙_}
+use mathlib.Core.List.{List, [], _∷_}
+use Prim.Native.Nat.{ℕ, _+_, _*_, _≤_}
+use native.Mathlib.Omega.{arith}
+use lib.ListN.{length, take, length-append}
+use lib.Seq.{take-all}
+use Rattle.answers.specs.declared.Verdict.{Verdict}
+use Rattle.answers.specs.declared.Verdict.the-variants.{Passed, Refused}
+use Rattle.answers.specs.Rows.{answer, verdict}
+use Rattle.answers.proofs.Laws.{on-passed, on-refused}
+use Rattle.house.specs.declared.Reading.{Reading}
+use Rattle.house.specs.declared.Reading.the-variants as reading
+use Rattle.house.specs.File.{afterRead, readOf}
+use Rattle.house.proofs.Laws.{read-room}
+use Rattle.window.specs.declared.Window.{Window}
+use Rattle.border.specs.Openings.{openings, handsOut, cellsOf}
+use Rattle.border.specs.declared.Opened.{Opened}
+use Rattle.border.specs.declared.Opened.the-variants as opened
+use Rattle.border.specs.Open.{useRows, afterOpen, openOf}
+use Rattle.border.specs.Promises.{Answered}
+use Rattle.border.proofs.Laws.{answered}
+use Rattle.border.proofs.Room.{openings-fit, roomy}
+use Rattle.query.specs.Classes.{totals}
+use Rattle.query.specs.declared.Queried.{Queried}
+use Rattle.query.specs.declared.Queried.the-variants as queried
+use Rattle.query.specs.Query.{afterQuery, reportOf}
+use Rattle.query.proofs.Told.{Counted, counted, uncounted, totals-length}
+use Rattle.text.proofs.Laws.{line-most}
+use Rattle.window_program.specs.Text.{refusalLine, foundLines, foundBy, resultOf, answerOf}
+use Rattle.window_program.proofs.Lines.{openings-most, classes-most}
+
+-- ---- how long
+
+pub found-most : (cells totals : List ℕ) (openings records pixels : ℕ) → length (foundLines cells totals openings records pixels) ≤ 12 * length cells + (24 * length totals + 35)
+unfolding foundLines
+found-most cells totals openings records pixels =
+    simp length-append (omega (arith, openings-most cells, classes-most 0 totals, line-most 84 (openings ∷ records ∷ pixels ∷ [])))
+
+module _ (m : ℕ) (keys classes : List ℕ) (W : Window) where
+  -- what is said of a window on a map of 1,000 records or fewer
+  pub result-most : length keys ≤ 1000 → length (resultOf m keys classes W) ≤ 42179
+  unfolding resultOf foundBy
+  result-most few = go (verdict (useRows m keys (length classes) W 4096)) refl
+    where
+      go : (v : Verdict) → verdict (useRows m keys (length classes) W 4096) ≡ v → length (resultOf m keys classes W) ≤ 42179
+      go Passed e =
+          let os = openings m m keys W in
+          let fit = openings-fit m keys (length classes) W 4096 e in
+          rw (on-passed refusalLine (useRows m keys (length classes) W 4096) _ e)
+          (omega (arith, found-most (cellsOf os) (totals m keys classes W) (length os) (handsOut os) (W .h * W .w), fit .0, fit .1, totals-length m keys classes W))
+      go (Refused n p) e = rw (on-refused refusalLine (useRows m keys (length classes) W 4096) _ e) (omega (arith, line-most 82 (n ∷ p ∷ [])))
+
+  pub answer-most : length keys ≤ 1000 → length (answerOf m keys classes W) ≤ 42225
+  unfolding answerOf
+  answer-most few = simp length-append (omega (arith, line-most 87 (W .r0 ∷ W .c0 ∷ W .h ∷ W .w ∷ []), result-most few))
+
+-- ---- what the calls answer
+
+module _ (m : ℕ) (keys classes : List ℕ) (W : Window) (border out : List ℕ) {r : Queried} {border′ out′ : List ℕ} (e : afterQuery r border′ out′ ≡ reportOf m keys classes W border out)
+    (wide : length border ≡ 4096) (room : length out ≡ 256) where
+  told : {a : Queried} → r ≡ a → reportOf m keys classes W border out ≡ afterQuery a border′ out′
+  told d = sym e ∙ ap (λ (x : Queried). afterQuery x border′ out′) d
+
+  -- report refuses, with the number and place that are said
+  pub report-refused : {n p : ℕ} → r ≡ queried.Refused n p → refusalLine n p ≡ resultOf m keys classes W
+  unfolding resultOf
+  report-refused d =
+      let v = rw wide at (uncounted m keys classes W border out (omega arith) (told d)) in
+      sym (on-refused refusalLine (useRows m keys (length classes) W 4096) _ v)
+
+  module _ {value : ℕ} (d : r ≡ queried.Done value) where
+    C : Counted m keys classes W (length border) value out′
+    C = counted m keys classes W border out (omega arith) (told d)
+
+    pub report-passed : {n : ℕ} → n ≡ length border → verdict (useRows m keys (length classes) W n) ≡ Passed
+    report-passed l = rw l (C .passed)
+
+    -- or it counts what is said with the openings
+    pub report-counted : length out′ ≡ length out → foundBy m keys W out′ value ≡ resultOf m keys classes W
+    unfolding resultOf
+    report-counted l =
+        let list : out′ ≡ totals m keys classes W = sym (take-all 256 out′ (omega arith)) ∙ C .list in
+        rw (list, C .pixels) (sym (on-passed refusalLine (useRows m keys (length classes) W 4096) _ (rw wide at (C .passed))))
+
+module _ (m : ℕ) (keys : List ℕ) (classes : ℕ) (W : Window) (border out : List ℕ) {r : Opened} {border′ out′ : List ℕ} (e : afterOpen r border′ out′ ≡ openOf m keys classes W border out)
+    (passed : verdict (useRows m keys classes W (length border)) ≡ Passed) (few : length keys ≤ 1000) (room : length out ≡ 3000) where
+  -- opening does not refuse
+  pub open-never : {A : Type 0} {n p : ℕ} → r ≡ opened.Refused n p → A
+  open-never d = absurd (roomy m keys classes W border out passed (omega arith) (sym e ∙ ap (λ (x : Opened). afterOpen x border′ out′) d))
+
+  module _ {count records : ℕ} (d : r ≡ opened.Done count records) where
+    T : Answered m keys W count records out′
+    T = answered m keys classes W border out (sym e ∙ ap (λ (x : Opened). afterOpen x border′ out′) d)
+
+    pub open-fits : 3 * count ≤ 3000
+    open-fits = omega (arith, T .many, openings-fit m keys classes W (length border) passed .0)
+
+    pub open-found : (totals : List ℕ) (pixels : ℕ) → foundLines (take (3 * count) out′) totals count records pixels ≡ foundBy m keys W totals pixels
+    unfolding foundBy
+    open-found totals pixels = rw (T .list, T .many, T .records-are)
+
+-- reading fills no more cells than there are
+pub read-fits : (file keys classes : List ℕ) {r : Reading} {keys′ classes′ : List ℕ} {m q : ℕ} → afterRead r keys′ classes′ ≡ readOf file keys classes → r ≡ reading.Read m q
+    → (q ≤ length keys) × (q ≤ length classes)
+read-fits file keys classes {keys′ = keys′} {classes′ = classes′} e d = read-room file keys classes (sym e ∙ ap (λ (x : Reading). afterRead x keys′ classes′) d)
