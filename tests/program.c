@@ -7,7 +7,7 @@
 #include <stdio.h>
 #include <stdlib.h>
 
-enum { LENGTH_FIELD = 4, LONGEST_FILE = 5020, MOST_RECORDS = 1000, MOST_COLUMNS = 4096, CLASSES = 256 };
+enum { LENGTH_FIELD = 4, LONGEST_FILE = 5020, MOST_RECORDS = 1000, MOST_COLUMNS = 4096 };
 
 static uint8_t file[LONGEST_FILE];
 static uint32_t keys[MOST_RECORDS];

@@ -43,11 +43,6 @@ abbrev old : List ℕ
 old = 90 ∷ 91 ∷ 92 ∷ 93 ∷ 94 ∷ 95 ∷ 96 ∷ 97 ∷ 98 ∷ 99 ∷ 100 ∷ 101 ∷ 102 ∷ []
 
 pub record Examples : Type 0 where
-  pub p1 : openings 2 2 keys W ≡ made 7 0 1 ∷ made 10 1 4 ∷ made 17 5 1 ∷ made 21 6 1 ∷ []
-  pub p1-openings : length (openings 2 2 keys W) ≡ 4
-  pub p1-records : handsOut (openings 2 2 keys W) ≡ 7
-  pub p5 : openings 2 2 keys (window 0 0 4 4) ≡ made 0 0 7 ∷ []
-  pub p6 : openings 0 0 (0 ∷ []) (window 0 0 1 1) ≡ made 0 0 1 ∷ []
   -- one record over all: the first block opens it, and all others are skipped
   pub single : openings 2 2 (0 ∷ []) W ≡ made 7 0 1 ∷ []
   -- P1's first steps: block 7 raises the cell of its column to the bottom of record 0; block 9, after block 10, is skipped
@@ -66,11 +61,6 @@ pub record Examples : Type 0 where
 pub examples : Examples
 unfolding answer wrongCount sizeRows overwrite upFrom spreadTo spread place pixelKey blockKey from formOf beyond outside windowRows keep floor lies fits greatest exponent corner across rows isCorner maximal keyOf keysOf spans.malformed spans.exponent spans.start spans.end spans.holds spans.overlap recordRows mapRows before howMany recordOf exponentOf runOf any indices within isHanded opening openFrom handedAfter openings handsOut cellsOf filled raised stepOf useRows spent accepted openOf
 examples = record {
-  p1 = refl;
-  p1-openings = refl;
-  p1-records = refl;
-  p5 = refl;
-  p6 = refl;
   single = refl;
   step-7 = refl;
   step-10 = refl;

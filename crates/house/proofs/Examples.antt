@@ -27,9 +27,7 @@ abbrev under : List ℕ → List ℕ
 under fields = bytesOf fields ++ bytesOf keys ++ classes
 
 record Examples : Type 0 where
-  p1-length : length (fileOf 2 keys classes) ≡ 55
-  p1-header : take 20 (fileOf 2 keys classes) ≡ bytesOf (55 ∷ 2 ∷ 7 ∷ 20 ∷ 48 ∷ [])
-  p1-first : take 4 (fileOf 2 keys classes) ≡ 55 ∷ 0 ∷ 0 ∷ 0 ∷ []
+  first-bytes : take 4 (fileOf 2 keys classes) ≡ 55 ∷ 0 ∷ 0 ∷ 0 ∷ []
   read-whole : readOf (fileOf 2 keys classes) (old 8) (old 8) ≡ afterRead (reading.Read 2 7) (keys ++ old 1) (classes ++ old 1)
   written-whole : writeOf 2 keys classes (old 56) ≡ afterWrite (writing.Written 55) (fileOf 2 keys classes ++ old 1)
   too-short : readOf (take 19 (fileOf 2 keys classes)) (old 8) (old 8) ≡ afterRead (reading.Refused 9 0) (old 8) (old 8)
@@ -48,9 +46,7 @@ record Examples : Type 0 where
 examples : Examples
 unfolding answer wrongCount sizeRows overwrite bytes number bytesOf numbers header fileOf layoutRows readRows fileM fileQ fileKeys fileClasses readOf writeRows writeOf
 examples = record {
-  p1-length = refl;
-  p1-header = refl;
-  p1-first = refl;
+  first-bytes = refl;
   read-whole = refl;
   written-whole = refl;
   too-short = refl;

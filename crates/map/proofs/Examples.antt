@@ -25,10 +25,6 @@ pub record Examples : Type 0 where
   pub large : checkOf 13 keys 7 ≡ Refused 1 0
   pub differ : checkOf 2 keys 6 ≡ Refused 2 0
   pub empty : checkOf 2 [] 0 ≡ Refused 2 0
-  pub p9 : checkOf 2 (take 6 keys) 6 ≡ Refused 5 6
-  pub p10 : checkOf 2 (5 ∷ 7 ∷ []) 2 ≡ Refused 4 1
-  pub p11-gap : checkOf 2 (1 ∷ []) 1 ≡ Refused 3 0
-  pub p11-large : checkOf 2 (25 ∷ []) 1 ≡ Refused 3 0
   pub late : checkOf 2 (10 ∷ []) 1 ≡ Refused 5 0
   pub behind : checkOf 2 (0 ∷ 24 ∷ []) 2 ≡ Refused 4 1
   -- row 1, column 2 lies in record 3, a pixel; row 1, column 1 in record 0, of side 2
@@ -48,10 +44,6 @@ examples = record {
   large = refl;
   differ = refl;
   empty = refl;
-  p9 = refl;
-  p10 = refl;
-  p11-gap = refl;
-  p11-large = refl;
   late = refl;
   behind = refl;
   record-3 = refl;

@@ -1,7 +1,6 @@
 -- Worked examples of the queries, computed from the definitions. P1's map has m = 2 and the keys 5, 11, 12, 13, 14, 15, 20; its window is 0 1 3 3.
 -- Assumes nothing.
 use mathlib.Core.Path.{_≡_, refl}
-use mathlib.Core.Bool.{true, false}
 use mathlib.Core.List.{List, [], _∷_}
 use Prim.Native.Nat.{ℕ}
 use lib.ListN.{take, replicate}
@@ -23,8 +22,12 @@ use Rattle.map.specs.Check.{recordRows, mapRows}
 use Rattle.map.specs.Lists.{before, howMany}
 use Rattle.map.specs.Records.{recordOf}
 use Rattle.border.specs.Openings.{any, within}
+use Rattle.border.specs.Open.{useRows, spent}
+use Rattle.query.specs.declared.Existence.the-variants as existence
+use Rattle.query.specs.declared.Queried.the-variants.{Done, Refused}
 use Rattle.query.specs.Classes.{hasClass, exists, total, totals}
 use Rattle.query.specs.Select.{around, inside, selected, allSelected, selection}
+use Rattle.query.specs.Query.{afterExist, existing, existOf, afterQuery, queryOf, reportOf, selectOf}
 
 abbrev keys : List ℕ
 keys = 5 ∷ 11 ∷ 12 ∷ 13 ∷ 14 ∷ 15 ∷ 20 ∷ []
@@ -35,19 +38,44 @@ classes = 1 ∷ 2 ∷ 2 ∷ 3 ∷ 1 ∷ 1 ∷ 2 ∷ []
 abbrev W : Window
 W = window 0 1 3 3
 
+-- old contents of a border and of an answer slice
+abbrev old : ℕ → List ℕ
+old n = replicate n 99
+
+-- the four pixels of a picture
+abbrev pixels : List ℕ
+pixels = 1 ∷ 2 ∷ 3 ∷ 4 ∷ []
+
 pub record Examples : Type 0 where
-  pub p1-totals : take 5 (totals 2 keys classes W) ≡ 0 ∷ 4 ∷ 4 ∷ 1 ∷ 0 ∷ []
-  pub p3 : selection 2 2 keys classes W 1 ≡ 7 ∷ 14 ∷ 9 ∷ 17 ∷ []
-  pub p4 : selection 2 2 keys classes W 2 ≡ 11 ∷ 12 ∷ 21 ∷ 22 ∷ []
-  pub some : exists 2 keys classes W 3 ≡ true
-  pub none : exists 2 keys classes W 4 ≡ false
+  pub yes : existOf 2 keys classes W 3 (old 4) ≡ afterExist existence.Yes (3 ∷ 3 ∷ 3 ∷ 99 ∷ [])
+  pub no : existOf 2 keys classes W 4 (old 3) ≡ afterExist existence.No (3 ∷ 3 ∷ 3 ∷ [])
+  -- the class is in the picture, but not in the window
+  pub elsewhere : existOf 1 pixels (7 ∷ 0 ∷ 0 ∷ 0 ∷ []) (window 1 0 1 2) 7 (old 2) ≡ afterExist existence.No (2 ∷ 2 ∷ [])
+  -- a record that sticks out of the window counts with its part inside: one pixel of four
+  pub part : take 9 (totals 2 keys classes (window 0 1 1 1)) ≡ 0 ∷ 1 ∷ 0 ∷ 0 ∷ 0 ∷ 0 ∷ 0 ∷ 0 ∷ 0 ∷ []
+  -- 8 spends the border and leaves the slice; a slice of no cells is enough for no key
+  pub report-short : reportOf 2 keys classes W (old 3) (old 255) ≡ afterQuery (Refused 8 256) (3 ∷ 3 ∷ 3 ∷ []) (old 255)
+  pub select-short : selectOf 2 keys classes W 1 (old 3) (old 3) ≡ afterQuery (Refused 8 4) (3 ∷ 3 ∷ 3 ∷ []) (old 3)
+  pub select-none : selectOf 2 keys classes W 4 (old 3) [] ≡ afterQuery (Done 0) (3 ∷ 3 ∷ 3 ∷ []) []
+  -- 7 comes before 8 and writes nothing, 6 before 7
+  pub narrow : reportOf 2 keys classes W (old 2) [] ≡ afterQuery (Refused 7 3) (old 2) []
+  pub outside-first : selectOf 2 keys classes (window 2 0 3 1) 1 [] [] ≡ afterQuery (Refused 6 0) [] []
+  -- a block that is a record of the class is listed once; one of another class is not
+  pub own : selected 2 keys classes 3 13 ≡ 13 ∷ []
+  pub other : selected 2 keys classes 1 13 ≡ []
 
 pub examples : Examples
-unfolding answer wrongCount sizeRows overwrite upFrom spreadTo spread place pixelKey blockKey from formOf beyond outside windowRows keep floor lies fits greatest exponent corner across rows isCorner maximal keyOf keysOf spans.malformed spans.exponent spans.start spans.end spans.holds spans.overlap recordRows mapRows before howMany recordOf any within hasClass exists total totals around inside selected allSelected selection
+unfolding answer wrongCount sizeRows overwrite upFrom spreadTo spread place pixelKey blockKey from formOf beyond outside windowRows keep floor lies fits greatest exponent corner across rows isCorner maximal keyOf keysOf spans.malformed spans.exponent spans.start spans.end spans.holds spans.overlap recordRows mapRows before howMany recordOf any within useRows spent hasClass exists total totals around inside selected allSelected selection existing existOf queryOf reportOf selectOf
 examples = record {
-  p1-totals = refl;
-  p3 = refl;
-  p4 = refl;
-  some = refl;
-  none = refl;
+  yes = refl;
+  no = refl;
+  elsewhere = refl;
+  part = refl;
+  report-short = refl;
+  select-short = refl;
+  select-none = refl;
+  narrow = refl;
+  outside-first = refl;
+  own = refl;
+  other = refl;
 }

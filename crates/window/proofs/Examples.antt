@@ -20,7 +20,6 @@ six = 1 ∷ 2 ∷ 3 ∷ 4 ∷ 5 ∷ 6 ∷ []
 
 pub record Examples : Type 0 where
   -- the window 0 1 3 3 of a picture of 4 by 4
-  pub p2 : keysOf 2 2 (window 0 1 3 3) ≡ 7 ∷ 10 ∷ 9 ∷ 17 ∷ 21 ∷ 22 ∷ []
   pub corners : maximal (window 0 1 3 3) 2 ≡ (0, 1) ∷ (0, 2) ∷ (1, 1) ∷ (2, 1) ∷ (2, 2) ∷ (2, 3) ∷ []
   -- no larger than a pixel each
   pub capped : keysOf 1 0 (window 0 0 2 2) ≡ 1 ∷ 2 ∷ 3 ∷ 4 ∷ []
@@ -29,8 +28,8 @@ pub record Examples : Type 0 where
   pub thin : keysOf 2 2 (window 1 0 3 4) ≡ 8 ∷ 9 ∷ 13 ∷ 14 ∷ 15 ∷ 20 ∷ []
   -- from row 1, column 2 of the first window on
   pub from : blocksFrom (window 0 1 3 3) 2 (1, 2) ≡ (2, 1) ∷ (2, 2) ∷ (2, 3) ∷ []
-  pub p12-refused : verdict (windowRows 2 (window 2 0 3 1)) ≡ verdict-of.Refused 6 0
-  pub p12-accepted : verdict (windowRows 2 (window 2 0 2 1)) ≡ verdict-of.Passed
+  pub south : verdict (windowRows 2 (window 2 0 3 1)) ≡ verdict-of.Refused 6 0
+  pub fits-south : verdict (windowRows 2 (window 2 0 2 1)) ≡ verdict-of.Passed
   pub no-rows : verdict (windowRows 2 (window 0 0 0 1)) ≡ verdict-of.Refused 6 0
   pub no-columns : verdict (windowRows 2 (window 0 0 1 0)) ≡ verdict-of.Refused 6 0
   pub far : verdict (windowRows 2 (window 65535 0 1 1)) ≡ verdict-of.Refused 6 0
@@ -44,14 +43,13 @@ pub record Examples : Type 0 where
 pub examples : Examples
 unfolding answer overwrite spreadTo spread pixelKey blockKey beyond outside windowRows keep floor lies fits greatest exponent corner across rows isCorner maximal pixelsFrom blocksFrom keyOf keysOf decomposeRows decomposeOf
 examples = record {
-  p2 = refl;
   corners = refl;
   capped = refl;
   whole = refl;
   thin = refl;
   from = refl;
-  p12-refused = refl;
-  p12-accepted = refl;
+  south = refl;
+  fits-south = refl;
   no-rows = refl;
   no-columns = refl;
   far = refl;
