@@ -255,8 +255,10 @@ lutniorad_answer plain_select(uint32_t m, const uint32_t *keys, size_t n_keys, c
     if (verdict.refusal != 0)
         return verdict;
     fill(border, 0, w, (uint32_t)r0 + h);
-    needed = list_pass(on, classes, class, out, 0);
-    if (n_out < needed)
-        return refused(8, needed);
+    if (n_out < 4 * ((size_t)w + h) + n_keys) {
+        needed = list_pass(on, classes, class, out, 0);
+        if (n_out < needed)
+            return refused(8, needed);
+    }
     return answered(list_pass(on, classes, class, out, n_out), 0);
 }
