@@ -23,7 +23,7 @@ use Rattle.window.proofs.Laws.{blocks-few, keep-in, keep-true, in-keep, ordered
 use Rattle.map.specs.Sound.{Follow}
 use Rattle.map.specs.Spans.{holds}
 use Rattle.map.specs.Records.{Record, Holder, pixelRecord}
-use Rattle.map.proofs.Laws.{record-at, keys-rise, record-of, pixel-holder, holds-is}
+use Rattle.map.proofs.Laws.{record-at, one-holder, keys-rise, record-of, pixel-holder, holds-is}
 use Rattle.border.specs.Step.{Corner}
 use Rattle.border.proofs.Laws.{up-distinct, spans, listed-corner}
 use Rattle.query.specs.Select.{inside, selected, allSelected, selection}
@@ -161,6 +161,27 @@ module _ {m : ℕ} {keys : List ℕ} (F : Follow m 0 keys) (classes : List ℕ) 
               in-keep (inside m keys classes class key) (up-in 0 (length keys) (H .index) .1 (omega (arith, H .is .within)))
               (inside-is classes class B (H .is) .1 (e, stands (blocks-stand B (H .is .names))))
 
+  -- and one only
+  selected-one : (q : ℕ) {x y : ℕ} → List·Memᴰ x (selected m keys classes class key) → List·Memᴰ y (selected m keys classes class key) → holds q (formOf m x) ≡ true → holds q (formOf m y) ≡ true
+      → x ≡ y
+  selected-one q {x} {y} l n h k = go (choice m keys classes class key)
+    where
+      -- a record inside the block, by its key
+      found : {z : ℕ} → (t : ℕ) × List·Memᴰ t (keep (inside m keys classes class key) (upFrom 0 (length keys))) × (getD keys t 0 ≡ z) → holds q (formOf m z) ≡ true → Holder m keys q
+      found t e =
+          let k = up-in 0 (length keys) (t .0) .0 (keep-in (inside m keys classes class key) (upFrom 0 (length keys)) (t .1)) in
+          let R = record-at F (t .0) (omega arith) in
+          record { index = t .0; exponent = R .exponent; start = R .start; is = R .is; has = holds-is q (R .is .names) .0 (rw (t .2) e) }
+
+      go : Choice m keys classes class key → x ≡ y
+      go (whole j a d) = List·Memᴰ·eq-of-singleton (rw d at l) ∙ sym (List·Memᴰ·eq-of-singleton (rw d at n))
+      go (parts f d) =
+          let t = Memᴰ·of-map (λ (n : ℕ). getD keys n 0) (keep (inside m keys classes class key) (upFrom 0 (length keys))) (rw d at l) in
+          let u = Memᴰ·of-map (λ (n : ℕ). getD keys n 0) (keep (inside m keys classes class key) (upFrom 0 (length keys))) (rw d at n) in
+          let H = found t h in
+          let K = found u k in
+          sym (t .2) ∙ ap (λ (n : ℕ). getD keys n 0) (one-holder F (H .is) (K .is) (H .has) (K .has)) ∙ u .2
+
   -- from one block no key twice
   selected-once : Ordered _≢_ (selected m keys classes class key)
   selected-once = go (choice m keys classes class key)
@@ -278,6 +299,19 @@ module _ {m top : ℕ} {keys : List ℕ} (F : Follow m 0 keys) {W : Window} (I :
             let h = holds-is (place (p .0) (p .1)) (P .names) .0 (t .2) in
             let K : Holder m keys (place (p .0) (p .1)) = record { index = P .index; exponent = P .record-exponent; start = P .record-start; is = P .is; has = omega (arith, P .in-record) } in
             rw (record-of F K) (P .has)
+
+    -- and no two of these blocks share a place
+    pub selection-one : (q : ℕ) {x y : ℕ} → List·Memᴰ x (selection m top keys classes W class) → List·Memᴰ y (selection m top keys classes W class) → holds q (formOf m x) ≡ true
+        → holds q (formOf m y) ≡ true → x ≡ y
+    selection-one q l n h k =
+        let f = from (maximal W top) (rw (selection-is m keys classes class top W) at l) in
+        let g = from (maximal W top) (rw (selection-is m keys classes class top W) at n) in
+        let C = listed-corner (f .listed) in
+        let D = listed-corner (g .listed) in
+        let P = selected-part F classes class (named C) (f .gives) in
+        let Q = selected-part F classes class (named D) (g .gives) in
+        let c = one-corner {q = q} C D (omega (arith, holds-is q (P .names) .0 h, P .in-block)) (omega (arith, holds-is q (Q .names) .0 k, Q .in-block)) in
+        selected-one F classes class (named C) q (f .gives) (rw c (g .gives)) h k
 
 -- there are fewer keys than 4 (w + h) and the records together
 pub selection-few : {m : ℕ} {keys : List ℕ} → Follow m 0 keys → {W : Window} → Inside m W → (classes : List ℕ) (class : ℕ)
