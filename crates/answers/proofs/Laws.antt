@@ -12,12 +12,12 @@ use lib.Dec.{eqb, ltb}
 use lib.ListN.{length, take, drop, set, length-append, length-drop}
 use lib.Seq.{take-at, drop-at, set-at, drop-drop, drop-cons, drop-length, sets, sets-eq}
 use borrow.Author.Tests.{ltb-false, eqb-false, eqb-true, lt-ltb, le-ltb, eq-eqb, ne-eqb, not-false}
+use Rattle.lists.proofs.Tests.{never, neither}
 use Rattle.answers.specs.declared.Verdict.{Verdict}
 use Rattle.answers.specs.declared.Verdict.the-variants.{Passed, Refused}
 use Rattle.answers.specs.Rows.{Row, row, answer, verdict}
 use Rattle.answers.specs.Sizes.{wrongCount, sizeRows, Sized}
 use Rattle.answers.specs.Cells.{overwrite}
-use Rattle.answers.proofs.Tests.{never, neither}
 
 -- ---- a table answers row by row, and one table after the other
 

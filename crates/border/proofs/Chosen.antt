@@ -4,10 +4,10 @@ use mathlib.Core.Path.{_≡_, refl, sym, ap, _∙_}
 use mathlib.Core.Bool.{Bool, true, false}
 use mathlib.Core.List.{List, [], _∷_, _++_, append-assoc, map, List·Memᴰ, List·Memᴰ·head, List·Memᴰ·tail, List·Memᴰ·not-nil}
 use Prim.Native.Nat.{ℕ, _≤_}
-use Rattle.answers.proofs.Tests.{never}
+use Rattle.lists.specs.Lists.{Ordered, none, more}
+use Rattle.lists.proofs.Tests.{never}
 use Rattle.window.specs.declared.Window.{Window}
 use Rattle.window.specs.Window.{Px, Inside}
-use Rattle.window.specs.Lists.{Ordered, none, more}
 use Rattle.window.specs.Blocks.{maximal, Before}
 use Rattle.window.specs.Decompose.{keyOf}
 use Rattle.window.proofs.Laws.{listed-ordered, ordered-back}

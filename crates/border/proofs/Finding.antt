@@ -9,8 +9,8 @@ use native.Mathlib.Decide.{decLt}
 use native.Mathlib.Omega.{arith}
 use lib.ListN.{length, getD, take, drop, replicate, length-append, length-replicate, take-append-drop}
 use borrow.Author.Tests.{lt-ltb, le-ltb}
+use Rattle.lists.proofs.Tests.{refuted}
 use Rattle.answers.specs.Cells.{overwrite}
-use Rattle.answers.proofs.Tests.{refuted}
 use Rattle.answers.proofs.Laws.{overwrite-part, overwrite-same}
 use Rattle.key.specs.Picture.{Pixel}
 use Rattle.key.specs.Key.{blockKey}

@@ -7,7 +7,7 @@ use mathlib.Core.List.{List, [], _∷_, _++_, append-assoc, append-nil, map, map
 use Prim.Native.Nat.{ℕ, _+_, _*_}
 use native.Mathlib.Omega.{arith}
 use lib.ListN.{length, length-append}
-use Rattle.key.proofs.Laws.{up-length}
+use Rattle.lists.proofs.Laws.{up-length}
 use Rattle.window.specs.declared.Window.{Window}
 use Rattle.window.specs.Window.{Px}
 use Rattle.window.specs.Blocks.{maximal}

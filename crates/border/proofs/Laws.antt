@@ -7,16 +7,15 @@ use Prim.Native.Nat.{ℕ, _+_, _*_, _≤_, _<_}
 use native.Mathlib.Omega.{arith}
 use lib.Dec.{ltb}
 use lib.ListN.{length, length-map}
+use Rattle.lists.specs.Lists.{upFrom, Ordered, none, more}
+use Rattle.lists.proofs.Laws.{ordered-imp, ordered-append, pigeon, up-in, up-length, up-distinct}
 use Rattle.answers.specs.Rows.{row, answer}
 use Rattle.answers.proofs.Laws as Answers
-use Rattle.key.specs.Lists.{upFrom}
-use Rattle.key.proofs.Laws.{up-in, up-length}
 use Rattle.window.specs.declared.Window.{Window}
 use Rattle.window.specs.Window.{Px, Inside}
-use Rattle.window.specs.Lists.{Ordered, none, more}
 use Rattle.window.specs.Blocks.{maximal, Before}
 use Rattle.window.specs.Decompose.{keyOf, keysOf}
-use Rattle.window.proofs.Laws.{ordered-imp, ordered-append, pigeon, before-irrefl, trichotomy, keys-of, pixel-in, blocks-few}
+use Rattle.window.proofs.Laws.{before-irrefl, trichotomy, keys-of, pixel-in, blocks-few}
 use Rattle.map.specs.Sound.{Follow}
 use Rattle.map.specs.Records.{pixelRecord}
 use Rattle.map.proofs.Laws.{record-of, pixel-holder, tiling}
@@ -27,14 +26,12 @@ use Rattle.border.specs.declared.Opened.{Opened}
 use Rattle.border.specs.declared.Opened.the-variants.{Done, Refused}
 use Rattle.border.specs.Open.{useRows, spent, AfterOpen, afterOpen, accepted, openOf}
 use Rattle.border.specs.Promises.{Answered, Touches, openingAt, hands, allHands, HandedOut, Apart, Enough}
-use Rattle.border.proofs.Lists.{up-distinct}
 use Rattle.border.proofs.Sweep.{Out, Now, now-fresh, clash}
 use Rattle.border.proofs.Overlaps.{met-pixels, met-some}
 use Rattle.border.proofs.Fold.{opening-hands, hands-opens, openings-are, in-hands, hands-count, cells-length}
 use Rattle.border.proofs.Handing.{listed-corner, met-now, handed-all}
 use Rattle.border.proofs.Chosen.{Chosen, chosen}
 use Rattle.border.proofs.Tables.{use-known}
-pub use Rattle.border.proofs.Lists.{up-distinct, any-has, has-any}
 pub use Rattle.border.proofs.Overlaps.{within-is, OfPixel, spans, met-pixels, size-le, met-first, met-some, met-room, block-key}
 pub use Rattle.border.proofs.Fold.{opening-hands, in-hands}
 pub use Rattle.border.proofs.Handing.{listed-corner}

@@ -1,4 +1,3 @@
-mod Lists
 mod Filled
 mod Written
 mod Sweep

@@ -11,10 +11,12 @@ use native.Mathlib.Omega.{arith}
 use lib.Dec.{leb}
 use borrow.Author.Tests.{leb-true, le-leb}
 use lib.ListN.{length, getD}
+use Rattle.lists.proofs.Tests.{both}
+use Rattle.lists.proofs.Laws.{up-in}
 use Rattle.key.specs.Picture.{Pixel, place, PixelAt}
 use Rattle.key.specs.Form.{formOf}
 use Rattle.key.specs.Blocks.{Names, Among, Inside as Covers, Stand, within as lies-in, around, after, before}
-use Rattle.key.proofs.Laws.{block-lies, blocks-stand, holds-same, place-onto, pow-least, up-in}
+use Rattle.key.proofs.Laws.{block-lies, blocks-stand, holds-same, place-onto, pow-least}
 use Rattle.window.specs.declared.Window.{Window}
 use Rattle.window.specs.Window.{Px, In, Inside}
 use Rattle.window.specs.Blocks.{Same, exponent, corner}
@@ -23,7 +25,6 @@ use Rattle.window.proofs.Laws.{same-div, fits-all, exponent-fits, same→corner
 use Rattle.map.specs.Sound.{Follow}
 use Rattle.map.specs.Records.{Record, SomeRecord, Holder, pixelRecord, pixelExponent}
 use Rattle.map.specs.Runs.{runOf, BlockOf, Overlap, Meets}
-use Rattle.answers.proofs.Tests.{both}
 use Rattle.map.proofs.Laws.{record-at, apart, block-records, record-of, exponent-of, pixel-holder, start-is, end-is}
 use Rattle.border.specs.Openings.{indices, met, within}
 use Rattle.border.specs.Step.{Corner}

@@ -5,19 +5,14 @@ use mathlib.Core.List.{List, [], _∷_, _++_}
 use Prim.Native.Nat.{ℕ, _+_}
 use lib.Dec.{leb}
 use lib.ListN.{getD}
+use Rattle.lists.specs.Lists.{upFrom}
 use Rattle.key.specs.declared.Form.{Form}
-use Rattle.key.specs.Lists.{upFrom}
 use Rattle.key.specs.Form.{formOf}
 use Rattle.window.specs.declared.Window.{Window}
 use Rattle.window.specs.Decompose.{keysOf}
 use Rattle.map.specs.declared.Run.{Run}
 use Rattle.map.specs.Spans.{start, end}
 use Rattle.map.specs.Runs.{runOf}
-
--- one of the list passes
-unfoldable pub any : {A : Type 0} → (A → Bool) → List A → Bool
-any f [] = false
-any f (x ∷ l) = f x || any f l
 
 -- the indices of a run of records
 unfoldable pub indices : Run → List ℕ

@@ -5,8 +5,8 @@ use mathlib.Core.List.{List, [], _∷_, _++_, append-nil}
 use Prim.Native.Nat.{ℕ}
 use native.Mathlib.Omega.{arith}
 use lib.ListN.{length, replicate}
-use Rattle.key.specs.Lists.{upFrom}
-use Rattle.key.proofs.Laws.{up-in}
+use Rattle.lists.specs.Lists.{upFrom}
+use Rattle.lists.proofs.Laws.{ordered-part, up-in}
 use Rattle.window.specs.declared.Window.{Window}
 use Rattle.window.specs.Window.{Px}
 use Rattle.window.proofs.Laws.{inside-12}
@@ -20,7 +20,6 @@ use Rattle.border.proofs.Laws.{records-once}
 use Rattle.border.proofs.Finding.{Finding, finding-next, finding-last, finds-opens}
 use Rattle.query.specs.Classes.{totals}
 use Rattle.query.specs.Gather.{gathered, Hands, Gathering}
-use Rattle.query.proofs.Sums.{ordered-part}
 use Rattle.query.proofs.Totals.{gathered-append, openings-gathered}
 use Rattle.query.proofs.Found.{hands-append, hands-one}
 

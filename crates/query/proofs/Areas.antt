@@ -13,12 +13,13 @@ use lib.Dec.{eqb}
 use lib.ListN.{getD}
 use lib.Pow.{pow-add}
 use borrow.Author.Tests.{eqb-true, eq-eqb}
-use Rattle.answers.proofs.Tests.{never, both}
-use Rattle.key.specs.Lists.{upFrom}
+use Rattle.lists.specs.Lists.{upFrom, howMany}
+use Rattle.lists.proofs.Tests.{never, both, agree}
+use Rattle.lists.proofs.Laws.{up-in, many-same, many-append}
 use Rattle.key.specs.Picture.{place}
 use Rattle.key.specs.Form.{formOf}
 use Rattle.key.specs.Blocks.{Among}
-use Rattle.key.proofs.Laws.{up-in, pow-most, four}
+use Rattle.key.proofs.Laws.{pow-most, four}
 use Rattle.window.specs.declared.Window.{Window}
 use Rattle.window.specs.Window.{Px, In, Inside}
 use Rattle.window.specs.Blocks
@@ -26,7 +27,6 @@ use Rattle.window.specs.Blocks.{floor, Same, Fits, across, rows}
 use Rattle.window.specs.Decompose.{keyOf}
 use Rattle.window.proofs.Laws.{floor-le, floor-lt, floor-eq, same-div, fits-same, fits-down, exponent-fits, corner→same, pixel-in, key-named}
 use Rattle.map.specs.declared.Run.{Run}
-use Rattle.map.specs.Lists.{howMany}
 use Rattle.map.specs.Spans.{exponent}
 use Rattle.map.specs.Sound.{Follow}
 use Rattle.map.specs.Records.{SomeRecord, exponentOf, pixelRecord, pixelExponent}
@@ -37,7 +37,6 @@ use Rattle.border.specs.Step.{Corner}
 use Rattle.border.proofs.Laws.{size-le, met-pixels, met-first}
 use Rattle.query.specs.Classes.{pixels}
 use Rattle.query.specs.Gather.{area, shared, clipped}
-use Rattle.query.proofs.Sums.{agree, many-same, many-append}
 use Rattle.query.proofs.Totals.{in-pixels}
 
 -- ---- rows and columns

@@ -9,20 +9,20 @@ use native.Mathlib.Omega.{arith}
 use lib.Dec.{eqb}
 use lib.ListN.{getD}
 use borrow.Author.Tests.{eqb-true, eq-eqb}
-use Rattle.key.specs.Lists.{upFrom}
-use Rattle.key.proofs.Laws.{up-in}
+use Rattle.lists.specs.Lists.{upFrom, any}
+use Rattle.lists.proofs.Tests.{agree}
+use Rattle.lists.proofs.Laws.{up-in, up-append, any-has, has-any, any-append}
 use Rattle.window.specs.declared.Window.{Window}
 use Rattle.window.specs.Window.{Px, In, Inside}
 use Rattle.window.specs.Decompose.{keyOf}
 use Rattle.window.proofs.Laws.{rows-in, in-rows}
 use Rattle.map.specs.Sound.{Follow}
 use Rattle.map.specs.Records.{pixelRecord}
-use Rattle.border.specs.Openings.{any, met, Opening, openings}
+use Rattle.border.specs.Openings.{met, Opening, openings}
 use Rattle.border.specs.Step.{Corner}
 use Rattle.border.specs.Promises.{hands, allHands}
-use Rattle.border.proofs.Laws.{any-has, has-any, met-pixels, in-hands, hands-all}
+use Rattle.border.proofs.Laws.{met-pixels, in-hands, hands-all}
 use Rattle.query.specs.Classes.{pixels, hasClass, exists}
-use Rattle.query.proofs.Lists.{same-tests, up-append, any-append}
 
 -- ---- what it means
 

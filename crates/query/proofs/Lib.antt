@@ -1,5 +1,3 @@
-mod Lists
-mod Sums
 mod Runs
 mod Totals
 mod Areas

@@ -6,8 +6,9 @@ use mathlib.Core.List.{List}
 use Prim.Native.Nat.{ℕ, _^_, _≤_}
 use native.Mathlib.Omega.{arith}
 use lib.ListN.{getD}
+use Rattle.lists.proofs.Laws.{up-in}
 use Rattle.key.specs.Form.{formOf}
-use Rattle.key.proofs.Laws.{up-in, block-lies}
+use Rattle.key.proofs.Laws.{block-lies}
 use Rattle.window.specs.declared.Window.{Window}
 use Rattle.window.specs.Window.{Px}
 use Rattle.window.specs.Decompose.{keyOf}

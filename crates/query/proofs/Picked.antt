@@ -11,26 +11,25 @@ use native.Mathlib.Omega.{arith}
 use lib.Dec.{eqb}
 use lib.ListN.{length, getD, length-map}
 use borrow.Author.Tests.{eqb-true, eq-eqb, ne-eqb}
-use Rattle.answers.proofs.Tests.{refuted, both, never}
-use Rattle.key.specs.Lists.{upFrom}
+use Rattle.lists.specs.Lists.{upFrom, any, keep}
+use Rattle.lists.proofs.Tests.{never, refuted, both, agree}
+use Rattle.lists.proofs.Laws.{up-in, up-length, keep-most, keep-none, keep-same, keep-run, any-has, has-any}
 use Rattle.key.specs.Form.{formOf}
 use Rattle.key.specs.Blocks.{Names, Among, Inside as Covers}
-use Rattle.key.proofs.Laws.{one-block, block-lies, pow-least, up-in, up-length}
+use Rattle.key.proofs.Laws.{one-block, block-lies, pow-least}
 use Rattle.window.specs.declared.Window.{Window}
 use Rattle.window.specs.Window.{Px, Inside}
-use Rattle.window.specs.Lists.{keep}
 use Rattle.window.specs.Decompose.{keyOf}
-use Rattle.window.proofs.Laws.{keep-most, key-named}
+use Rattle.window.proofs.Laws.{key-named}
 use Rattle.map.specs.Sound.{Follow}
 use Rattle.map.specs.Records.{Record, SomeRecord}
 use Rattle.map.specs.Runs.{runOf, Nest, contained, filled, Meets}
 use Rattle.map.proofs.Laws.{record-at, holder, one-holder, block-records}
-use Rattle.border.specs.Openings.{any, within}
+use Rattle.border.specs.Openings.{within}
 use Rattle.border.specs.Step.{Corner}
-use Rattle.border.proofs.Laws.{any-has, has-any, within-is}
+use Rattle.border.proofs.Laws.{within-is}
 use Rattle.query.specs.Classes.{classed}
 use Rattle.query.specs.Select.{around, inside, selected, pickedRun, picked}
-use Rattle.query.proofs.Lists.{same-tests, keep-none, keep-same, keep-run}
 
 -- ---- the run of a block
 

@@ -6,13 +6,10 @@ use Prim.Native.Nat.{ℕ, suc, _+_, _-_, _≤_, _<_}
 use native.Mathlib.Omega.{arith}
 use lib.ListN.{length, getD, length-map}
 use borrow.Author.Tests.{eq-eqb, ne-eqb}
-use Rattle.key.specs.Lists.{upFrom}
-use Rattle.key.proofs.Laws.{up-length}
-use Rattle.window.specs.Lists.{keep}
-use Rattle.window.proofs.Laws.{keep-most}
+use Rattle.lists.specs.Lists.{upFrom, keep}
+use Rattle.lists.proofs.Laws.{up-length, up-append, keep-most, keep-append}
 use Rattle.query.specs.Classes.{classed}
 use Rattle.query.specs.Select.{pickedRun, Listed}
-use Rattle.query.proofs.Lists.{up-append, keep-append}
 use Rattle.query.proofs.Listing.{listed-none, listed-more}
 
 module _ (keys classes : List ℕ) (class : ℕ) where

@@ -5,11 +5,11 @@ use mathlib.Core.Bool.{Bool, true, false}
 use mathlib.Core.List.{List, [], _∷_, _++_, append-assoc}
 use Prim.Native.Nat.{ℕ, _+_, _-_, _≤_, _<_}
 use native.Mathlib.Omega.{arith}
-use Rattle.key.specs.Lists.{upFrom}
+use Rattle.lists.specs.Lists.{upFrom, any}
 use Rattle.window.specs.declared.Window.{Window}
 use Rattle.window.specs.Window.{Px}
 use Rattle.border.specs.declared.Found.the-variants as found
-use Rattle.border.specs.Openings.{any, Opening, openings}
+use Rattle.border.specs.Openings.{Opening, openings}
 use Rattle.border.specs.Promises.{allHands}
 use Rattle.border.specs.Step.{Usable}
 use Rattle.border.specs.Found.{made, madeFrom, Finds}

@@ -6,13 +6,13 @@ use Prim.Native.Nat.{ℕ, _*_, _≤_}
 use native.Mathlib.Omega.{arith}
 use lib.ListN.{length, take, length-map}
 use borrow.Author.Tests.{le-ltb}
+use Rattle.lists.specs.Lists.{upFrom}
+use Rattle.lists.proofs.Laws.{up-length}
 use Rattle.answers.specs.declared.Verdict.{Verdict}
 use Rattle.answers.specs.declared.Verdict.the-variants as verdict-of
 use Rattle.answers.specs.Rows.{row, answer, verdict}
 use Rattle.answers.specs.Cells.{overwrite}
 use Rattle.answers.proofs.Laws.{answer-none, row-clear, on-passed, on-refused, take-overwrite}
-use Rattle.key.specs.Lists.{upFrom}
-use Rattle.key.proofs.Laws.{up-length}
 use Rattle.window.specs.declared.Window.{Window}
 use Rattle.border.specs.Open.{useRows, spent}
 use Rattle.query.specs.declared.Queried.the-variants.{Done, Refused}

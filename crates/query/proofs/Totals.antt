@@ -10,21 +10,19 @@ use lib.Dec.{eqb}
 use lib.ListN.{length, getD, replicate, length-map, length-set, length-replicate, getD-replicate}
 use lib.Seq.{getD-set-same, getD-set-other, ext-getD}
 use borrow.Author.Tests.{eqb-true, eqb-false, eq-eqb}
-use Rattle.key.specs.Lists.{upFrom}
-use Rattle.key.proofs.Laws.{table-entry, up-in, up-length}
+use Rattle.lists.specs.Lists.{upFrom, sum, any, keep, Ordered, howMany}
+use Rattle.lists.proofs.Tests.{agree}
+use Rattle.lists.proofs.Laws.{ordered-part, up-in, up-length, up-distinct, table-entry, keep-true, in-keep, ordered-keep, any-has, has-any, many-same, many-all, many-most, each-once}
 use Rattle.window.specs.declared.Window.{Window}
 use Rattle.window.specs.Window.{Px, In, Inside}
-use Rattle.window.specs.Lists.{Ordered, keep}
-use Rattle.window.proofs.Laws.{keep-true, in-keep, ordered-keep, rows-in, in-rows, rows-length}
-use Rattle.map.specs.Lists.{howMany}
+use Rattle.window.proofs.Laws.{rows-in, in-rows, rows-length}
 use Rattle.map.specs.Sound.{Follow}
 use Rattle.map.specs.Records.{pixelRecord}
-use Rattle.border.specs.Openings.{any, openings}
+use Rattle.border.specs.Openings.{openings}
 use Rattle.border.specs.Promises.{allHands}
-use Rattle.border.proofs.Laws.{any-has, has-any, up-distinct, in-hands, hands-all, records-once}
-use Rattle.query.specs.Classes.{pixels, hasClass, total, totals, sum}
+use Rattle.border.proofs.Laws.{in-hands, hands-all, records-once}
+use Rattle.query.specs.Classes.{pixels, hasClass, total, totals}
 use Rattle.query.specs.Gather.{area, added, gathered}
-use Rattle.query.proofs.Sums.{agree, ordered-part, many-same, many-all, many-most, each-once}
 
 -- ---- the window's pixels
 

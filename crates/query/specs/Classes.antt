@@ -5,13 +5,11 @@ use mathlib.Core.List.{List, [], _∷_, map}
 use Prim.Native.Nat.{ℕ, _+_}
 use lib.Dec.{eqb}
 use lib.ListN.{getD}
-use Rattle.key.specs.Lists.{upFrom}
+use Rattle.lists.specs.Lists.{upFrom, any, howMany}
 use Rattle.window.specs.declared.Window.{Window}
 use Rattle.window.specs.Window.{Px}
 use Rattle.window.specs.Blocks.{rows}
-use Rattle.map.specs.Lists.{howMany}
 use Rattle.map.specs.Records.{pixelRecord}
-use Rattle.border.specs.Openings.{any}
 
 -- the window's pixels, row by row
 abbrev pub pixels : Window → List Px
@@ -36,8 +34,3 @@ total m keys classes W class = howMany (hasClass m keys classes class) (pixels W
 -- the totals of all 256 classes, class by class
 unfoldable pub totals : ℕ → List ℕ → List ℕ → Window → List ℕ
 totals m keys classes W = map (total m keys classes W) (upFrom 0 256)
-
--- numbers, added up
-unfoldable pub sum : List ℕ → ℕ
-sum [] = 0
-sum (n ∷ ns) = n + sum ns

@@ -7,13 +7,13 @@ use Prim.Native.Nat.{ℕ, zero, suc, _+_, _*_, _≤_, _<_}
 use native.Mathlib.Nat.{suc-mul, mul-le-mul}
 use native.Mathlib.Omega.{arith}
 use lib.ListN.{length, set, length-append, length-map}
+use Rattle.lists.proofs.Laws.{keep-most}
 use Rattle.answers.specs.Cells.{overwrite}
 use Rattle.answers.proofs.Filling.{Filling, filling-first, filling-cell}
 use Rattle.key.specs.Key.{blockKey}
 use Rattle.window.specs.declared.Window.{Window}
 use Rattle.window.specs.declared.Next.the-variants.{Block, End}
 use Rattle.window.specs.Window.{Px, Inside}
-use Rattle.window.specs.Lists.{keep}
 use Rattle.window.specs.Blocks.{across, rows, isCorner, maximal}
 use Rattle.window.specs.Walk.{Walked, Goes}
 use Rattle.window.specs.Decompose.{keyOf, keysOf}
@@ -21,15 +21,6 @@ use Rattle.window.proofs.Keys.{key-at}
 use Rattle.window.proofs.Walk.{walked-first, walked-next, walked-last, walked-room, goes-exponent}
 
 -- ---- no more blocks than pixels
-
-pub keep-most : {A : Type 0} (f : A → Bool) (l : List A) → length (keep f l) ≤ length l
-unfolding keep
-keep-most f [] = omega arith
-keep-most {A} f (x ∷ l) = go (f x) (keep-most f l)
-  where
-    go : (b : Bool) → length (keep f l) ≤ length l → length (cond b (x ∷ keep f l) (keep f l)) ≤ suc (length l)
-    go true h = omega arith
-    go false h = omega arith
 
 across-length : (r c n : ℕ) → length (across r c n) ≡ n
 unfolding across

@@ -5,7 +5,7 @@ use Prim.Native.Nat.{_-_}
 use native.Mathlib.Omega.{arith}
 use borrow.Author.Needs.{needs}
 use borrow.Author.Tests.{eq-eqb, ne-eqb}
-use Rattle.border.specs.Openings.{any}
+use Rattle.lists.specs.Lists.{any}
 use Rattle.query.specs.Classes.{classed}
 use Rattle.query.proofs.Runs.{run-whole}
 use Rattle.query.proofs.Seeking.{Looking, looking-first, looking-found, looking-next, looking-last}

@@ -1,34 +1,34 @@
--- Lists counted by a test, and numbers added up: tests that agree, one test or another, a list in two parts, and counts that together have each element once. By induction over the list.
+-- How many elements pass a test, and numbers added up: tests that agree, one test or another, a list in two parts, and counts that together have each element once. By induction over the list.
 -- Assumes nothing.
 use mathlib.Core.Path.{_≡_, refl, sym, _∙_}
-use mathlib.Core.Logic.{_↔_, _≢_}
+use mathlib.Core.Logic.{_≢_}
 use mathlib.Core.Bool.{Bool, true, false, cond, _||_}
-use mathlib.Core.List.{List, [], _∷_, _++_, map, List·Memᴰ, List·Memᴰ·head, List·Memᴰ·tail, Memᴰ·append-left}
+use mathlib.Core.List.{List, [], _∷_, _++_, map, List·Memᴰ, List·Memᴰ·head, List·Memᴰ·tail}
 use Prim.Native.Nat.{ℕ, suc, _+_, _≤_}
 use native.Mathlib.Omega.{arith}
 use lib.Dec.{eqb}
 use lib.ListN.{length}
 use borrow.Author.Tests.{eqb-true}
-use Rattle.answers.proofs.Tests.{never, refuted}
-use Rattle.window.specs.Lists.{Ordered, none, more}
-use Rattle.map.specs.Lists.{howMany}
-use Rattle.border.specs.Openings.{any}
-use Rattle.border.proofs.Laws.{any-has}
-use Rattle.query.specs.Classes.{sum}
+use Rattle.lists.specs.Lists.{sum, any, howMany, Ordered, none, more}
+use Rattle.lists.proofs.Tests.{never, refuted}
+use Rattle.lists.proofs.Any.{any-has}
 
--- two tests that pass alike have one value
-pub agree : (a b : Bool) → (a ≡ true) ↔ (b ≡ true) → a ≡ b
-agree true b h = sym (h .0 refl)
-agree false true h = h .1 refl
-agree false false h = refl
+pub sum-none : sum [] ≡ 0
+unfolding sum
+sum-none = refl
+
+pub sum-next : (n : ℕ) (ns : List ℕ) → sum (n ∷ ns) ≡ n + sum ns
+unfolding sum
+sum-next n ns = refl
 
 module _ {A : Type 0} where
-  -- a part at the front of an ordered list is ordered
-  pub ordered-part : {R : A → A → Type 0} (l s : List A) → Ordered R (l ++ s) → Ordered R l
-  ordered-part [] s o = none
-  ordered-part (x ∷ l) s (more h o) = more (λ y n. h y (Memᴰ·append-left s n)) (ordered-part l s o)
+  pub many-empty : (f : A → Bool) → howMany f [] ≡ 0
+  unfolding howMany
+  many-empty f = refl
 
-  -- ---- how many pass
+  pub many-next : (f : A → Bool) (x : A) (l : List A) → howMany f (x ∷ l) ≡ cond (f x) (suc (howMany f l)) (howMany f l)
+  unfolding howMany
+  many-next f x l = refl
 
   pub many-same : {f g : A → Bool} (l : List A) → ((x : A) → List·Memᴰ x l → f x ≡ g x) → howMany f l ≡ howMany g l
   unfolding howMany
