@@ -3,7 +3,7 @@
 use mathlib.Core.Path.{_≡_, refl}
 use mathlib.Core.List.{List, [], _∷_}
 use Prim.Native.Nat.{ℕ}
-use lib.ListN.{length, take}
+use lib.ListN.{take}
 use Rattle.lists.specs.Lists.{upFrom, any, keep, before, howMany}
 use Rattle.answers.specs.Rows.{answer}
 use Rattle.answers.specs.Sizes.{wrongCount, sizeRows}

@@ -3,7 +3,6 @@
 use mathlib.Core.Path.{_≡_, refl}
 use mathlib.Core.List.{List, [], _∷_}
 use Prim.Native.Nat.{ℕ}
-use lib.ListN.{take}
 use Rattle.lists.specs.Lists.{before, howMany}
 use Rattle.answers.specs.Rows.{answer}
 use Rattle.answers.specs.Sizes.{wrongCount, sizeRows}

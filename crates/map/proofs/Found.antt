@@ -10,7 +10,7 @@ use native.Mathlib.Omega.{arith}
 use lib.ListN.{length, getD}
 use Rattle.lists.proofs.Laws.{Stretch, stretch-of, stretch-begins, stretch-counts}
 use Rattle.key.specs.Form.{formOf}
-use Rattle.key.specs.Blocks.{Names, Among}
+use Rattle.key.specs.Blocks.{Names}
 use Rattle.map.specs.Spans.{overlap}
 use Rattle.map.specs.Sound.{Follow}
 use Rattle.map.specs.Runs.{run, runOf, Meets, Splits}

@@ -4,24 +4,21 @@ use mathlib.Core.Path.{_≡_, refl, sym}
 use mathlib.Core.Logic.{_↔_}
 use mathlib.Core.Bool.{Bool, true, false}
 use mathlib.Core.List.{List, [], _∷_, _++_, append-assoc, append-nil, List·Memᴰ, List·Memᴰ·head, Memᴰ·append-right}
-use Prim.Native.Nat.{ℕ, _+_, _≤_, _<_}
+use Prim.Native.Nat.{ℕ, _≤_}
 use native.Mathlib.Omega.{arith}
 use lib.Dec.{eqb}
 use lib.ListN.{getD}
 use borrow.Author.Tests.{eqb-true, eq-eqb}
-use Rattle.lists.specs.Lists.{upFrom, any}
-use Rattle.lists.proofs.Tests.{agree}
-use Rattle.lists.proofs.Laws.{up-in, up-append, any-has, has-any, any-append}
+use Rattle.lists.specs.Lists.{any}
+use Rattle.lists.proofs.Laws.{any-has, has-any, any-append}
 use Rattle.window.specs.declared.Window.{Window}
 use Rattle.window.specs.Window.{Px, In, Inside}
-use Rattle.window.specs.Decompose.{keyOf}
 use Rattle.window.proofs.Laws.{rows-in, in-rows}
 use Rattle.map.specs.Sound.{Follow}
 use Rattle.map.specs.Records.{pixelRecord}
-use Rattle.border.specs.Openings.{met, Opening, openings}
-use Rattle.border.specs.Step.{Corner}
+use Rattle.border.specs.Openings.{Opening, openings}
 use Rattle.border.specs.Promises.{hands, allHands}
-use Rattle.border.proofs.Laws.{met-pixels, in-hands, hands-all}
+use Rattle.border.proofs.Laws.{in-hands, hands-all}
 use Rattle.query.specs.Classes.{pixels, hasClass, exists}
 
 -- ---- what it means

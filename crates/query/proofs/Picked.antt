@@ -12,7 +12,7 @@ use lib.Dec.{eqb}
 use lib.ListN.{length, getD, length-map}
 use borrow.Author.Tests.{eqb-true, eq-eqb, ne-eqb}
 use Rattle.lists.specs.Lists.{upFrom, any, keep}
-use Rattle.lists.proofs.Tests.{never, refuted, both, agree}
+use Rattle.lists.proofs.Tests.{never, refuted, both}
 use Rattle.lists.proofs.Laws.{up-in, up-length, keep-most, keep-none, keep-same, keep-run, any-has, has-any}
 use Rattle.key.specs.Form.{formOf}
 use Rattle.key.specs.Blocks.{Names, Among, Inside as Covers}

@@ -1,7 +1,7 @@
 -- What an answer of report tells, where its slice has room.
 -- Assumes nothing.
 use mathlib.Core.Path.{_≡_, refl, sym, ap, _∙_}
-use mathlib.Core.List.{List, [], _∷_, map}
+use mathlib.Core.List.{List, []}
 use Prim.Native.Nat.{ℕ, _*_, _≤_}
 use native.Mathlib.Omega.{arith}
 use lib.ListN.{length, take, length-map}
@@ -10,7 +10,7 @@ use Rattle.lists.specs.Lists.{upFrom}
 use Rattle.lists.proofs.Laws.{up-length}
 use Rattle.answers.specs.declared.Verdict.{Verdict}
 use Rattle.answers.specs.declared.Verdict.the-variants as verdict-of
-use Rattle.answers.specs.Rows.{row, answer, verdict}
+use Rattle.answers.specs.Rows.{answer, verdict}
 use Rattle.answers.specs.Cells.{overwrite}
 use Rattle.answers.proofs.Laws.{answer-none, row-clear, on-passed, on-refused, take-overwrite}
 use Rattle.window.specs.declared.Window.{Window}

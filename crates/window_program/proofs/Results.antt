@@ -8,7 +8,7 @@ use lib.ListN.{length, take, length-append}
 use lib.Seq.{take-all}
 use Rattle.answers.specs.declared.Verdict.{Verdict}
 use Rattle.answers.specs.declared.Verdict.the-variants.{Passed, Refused}
-use Rattle.answers.specs.Rows.{answer, verdict}
+use Rattle.answers.specs.Rows.{verdict}
 use Rattle.answers.proofs.Laws.{on-passed, on-refused}
 use Rattle.house.specs.declared.Reading.{Reading}
 use Rattle.house.specs.declared.Reading.the-variants as reading
