@@ -8,7 +8,6 @@ use native.Mathlib.Omega.{arith}
 use lib.ListN.{length, length-map}
 use Rattle.lists.specs.Lists.{upFrom, Ordered, none, more}
 use Rattle.lists.proofs.Laws.{ordered-imp, ordered-append, pigeon, up-in, up-length, up-distinct}
-use Rattle.answers.proofs.Laws as Answers
 use Rattle.window.specs.declared.Window.{Window}
 use Rattle.window.specs.Window.{Px, Inside}
 use Rattle.window.specs.Blocks.{maximal, Before}
