@@ -7,7 +7,7 @@ use native.Mathlib.Omega.{arith}
 use lib.ListN.{length, take}
 use Rattle.answers.specs.declared.Verdict.{Verdict}
 use Rattle.answers.specs.declared.Verdict.the-variants as verdict-of
-use Rattle.answers.specs.Rows.{answer, verdict}
+use Rattle.answers.specs.Rows.{verdict}
 use Rattle.answers.proofs.Laws.{take-overwrite}
 use Rattle.window.specs.declared.Window.{Window}
 use Rattle.border.specs.Open.{useRows}
