@@ -4,10 +4,10 @@ use mathlib.Core.Path.{_≡_, refl, sym, ap, _∙_}
 use mathlib.Core.Bool.{Bool, true, false}
 use mathlib.Core.List.{List, [], _∷_, _++_, append-assoc, map, List·Memᴰ, List·Memᴰ·head, List·Memᴰ·tail, List·Memᴰ·not-nil}
 use Prim.Native.Nat.{ℕ, _≤_}
-use Rattle.answers.proofs.Tests.{never}
+use Rattle.lists.specs.Lists.{Ordered, none, more}
+use Rattle.lists.proofs.Tests.{never}
 use Rattle.window.specs.declared.Window.{Window}
 use Rattle.window.specs.Window.{Px, Inside}
-use Rattle.window.specs.Lists.{Ordered, none, more}
 use Rattle.window.specs.Blocks.{maximal, Before}
 use Rattle.window.specs.Decompose.{keyOf}
 use Rattle.window.proofs.Laws.{listed-ordered, ordered-back}
@@ -17,7 +17,7 @@ use Rattle.border.specs.Openings.{met, isHanded, Opening, opening, openF
 use Rattle.border.specs.Border.{handedBy}
 use Rattle.border.specs.Promises.{openingAt}
 use Rattle.border.proofs.Sweep.{Out}
-use Rattle.border.proofs.Fold.{handedWith, opens-none, skip-opens, take-opens, openings-are, handed-snoc, hands-none}
+use Rattle.border.proofs.Fold.{handedWith, opens-none, skip-opens, take-opens, openings-are, handed-snoc, handed-none}
 use Rattle.border.proofs.Handing.{skip-test}
 
 -- the openings os are those of some of the blocks bs
@@ -74,4 +74,4 @@ module _ {m top : ℕ} {keys : List ℕ} (F : Follow m 0 keys) {W : Window} (I :
       go false d O = rw (take-opens m keys handed k ks d) (opened (λ o. never (sym (skip-test F I small before b after e .1 o) ∙ d)) (rw d at O))
 
   pub chosen : Chosen m top keys W (maximal W top) (openings m top keys W)
-  chosen = rw (openings-are m top keys W, ← hands-none m keys []) (chosen-from [] (maximal W top) refl)
+  chosen = rw (openings-are m top keys W, ← handed-none m keys []) (chosen-from [] (maximal W top) refl)

@@ -3,28 +3,26 @@
 use mathlib.Core.Path.{_≡_, refl}
 use mathlib.Core.List.{List, [], _∷_}
 use Prim.Native.Nat.{ℕ}
-use lib.ListN.{length, take}
+use lib.ListN.{take}
+use Rattle.lists.specs.Lists.{upFrom, any, keep, before, howMany}
 use Rattle.answers.specs.Rows.{answer}
 use Rattle.answers.specs.Sizes.{wrongCount, sizeRows}
 use Rattle.answers.specs.Cells.{overwrite}
-use Rattle.key.specs.Lists.{upFrom}
 use Rattle.key.specs.Spread.{spreadTo, spread}
 use Rattle.key.specs.Picture.{place}
 use Rattle.key.specs.Key.{pixelKey, blockKey}
 use Rattle.key.specs.Form.{from, formOf}
 use Rattle.window.specs.declared.Window.{Window}
 use Rattle.window.specs.Window.{window, beyond, outside, windowRows}
-use Rattle.window.specs.Lists.{keep}
 use Rattle.window.specs.Blocks.{floor, lies, fits, greatest, exponent, corner, across, rows, isCorner, maximal}
 use Rattle.window.specs.Decompose.{keyOf, keysOf}
 use Rattle.map.specs.Spans as spans
 use Rattle.map.specs.Check.{recordRows, mapRows}
-use Rattle.map.specs.Lists.{before, howMany}
 use Rattle.map.specs.Records.{recordOf, exponentOf}
 use Rattle.map.specs.Runs.{runOf}
 use Rattle.border.specs.declared.Stepped.the-variants as stepped
 use Rattle.border.specs.declared.Opened.the-variants.{Done, Refused}
-use Rattle.border.specs.Openings.{any, indices, within, isHanded, Opening, opening, openFrom, handedAfter, openings, handsOut, cellsOf}
+use Rattle.border.specs.Openings.{indices, within, isHanded, Opening, opening, openFrom, handedAfter, openings, handsOut, cellsOf}
 use Rattle.border.specs.Cells.{filled, raised}
 use Rattle.border.specs.Step.{afterStep, stepOf}
 use Rattle.border.specs.Open.{useRows, spent, afterOpen, accepted, openOf}

@@ -2,15 +2,14 @@
 -- Assumes nothing.
 use mathlib.Core.Path.{_≡_, refl, sym, ap, _∙_}
 use mathlib.Core.Logic.{_↔_}
-use mathlib.Core.Bool.{true, false}
+use mathlib.Core.Bool.{true}
 use mathlib.Core.List.{List, [], _∷_, _++_, map, map-append, append-assoc, append-nil, List·Memᴰ, List·Memᴰ·not-nil, List·Memᴰ·head, Memᴰ·append-right}
-use Prim.Native.Nat.{ℕ, suc, _+_, _-_, _≤_, _<_}
+use Prim.Native.Nat.{ℕ, _+_, _-_, _≤_, _<_}
 use native.Mathlib.Decide.{decLt}
 use native.Mathlib.Omega.{arith}
-use lib.ListN.{length, getD, take, drop, replicate, length-append, length-replicate, take-append-drop}
+use lib.ListN.{length, getD, take, drop, replicate, length-replicate, take-append-drop}
 use borrow.Author.Tests.{lt-ltb, le-ltb}
-use Rattle.answers.specs.Cells.{overwrite}
-use Rattle.answers.proofs.Tests.{refuted}
+use Rattle.lists.proofs.Tests.{refuted}
 use Rattle.answers.proofs.Laws.{overwrite-part, overwrite-same}
 use Rattle.key.specs.Picture.{Pixel}
 use Rattle.key.specs.Key.{blockKey}
@@ -38,10 +37,10 @@ use Rattle.border.specs.Open.{spent}
 use Rattle.border.proofs.Filled.{filled-length, filled-beyond, raised-length, raised-beyond}
 use Rattle.border.proofs.Steps.{step-skipped, step-opened}
 use Rattle.border.proofs.Stays.{stated-as, begins, ends, skip-iff}
-use Rattle.border.proofs.Fold.{opens-none, skip-opens, take-opens, opens-append, openings-are, hands-append}
+use Rattle.border.proofs.Fold.{opens-none, skip-opens, take-opens, opens-append, openings-are, handed-append}
 use Rattle.border.proofs.Overlaps.{met-room}
 use Rattle.border.proofs.Handing.{listed-corner, all-handed, handed-out, skip-test}
-use Rattle.border.proofs.Laws.{opening-block}
+use Rattle.border.proofs.Once.{opening-block}
 
 pub kept-none : {W : Window} {cells : List ℕ} → Kept W cells cells
 kept-none = record { same = refl; beyond = refl }
@@ -56,12 +55,13 @@ spent-kept {W} {cells} {border} k =
     overwrite-same (replicate (W .w) (W .r0 + W .h)) cells border (rw l (k .beyond))
 
 pub filled-spent : (W : Window) (cells : List ℕ) → W .w ≤ length cells → filled 0 (W .w) (W .r0 + W .h) cells ≡ spent W cells
-unfolding filled spent overwrite
+unfolding filled spent
 filled-spent W cells l =
     let z : W .w - 0 ≡ W .w = omega arith in
     let y : 0 + (W .w - 0) ≡ W .w = omega arith in
     let e : take 0 cells ++ replicate (W .w - 0) (W .r0 + W .h) ++ drop (0 + (W .w - 0)) cells ≡ replicate (W .w) (W .r0 + W .h) ++ drop (W .w) cells = rw (y, z) in
-    rw (length-replicate (W .w) (W .r0 + W .h)) e
+    let n : length (replicate (W .w) (W .r0 + W .h)) ≡ W .w = length-replicate (W .w) (W .r0 + W .h) in
+    e ∙ rw n at (overwrite-part (replicate (W .w) (W .r0 + W .h)) cells)
 
 -- ---- one step
 
@@ -230,7 +230,7 @@ ahead {m} {top} {keys} {W} past (b ∷ bs) cells U split st = go (stepped-on cel
         let A = ih border (rw (k .same) U) (split ∙ sym (append-assoc past (b ∷ []) bs)) (S .stays past bs split st) in
         let handed = handedBy m top keys W past in
         let e : handedBy m top keys W (past ++ (b ∷ [])) ≡ handedAfter m keys handed (keyOf m top W b ∷ []) =
-        rw (map-append (keyOf m top W) past (b ∷ [])) (hands-append m keys [] (map (keyOf m top W) past) (keyOf m top W b ∷ [])) in
+        rw (map-append (keyOf m top W) past (b ∷ [])) (handed-append m keys [] (map (keyOf m top W) past) (keyOf m top W b ∷ [])) in
         record {
           openings =
               made-step S bs

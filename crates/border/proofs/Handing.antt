@@ -6,21 +6,21 @@ use mathlib.Core.Bool.{Bool, true, false, cond}
 use mathlib.Core.List.{List, [], _∷_, _++_, map, List·Memᴰ, List·Memᴰ·head, List·Memᴰ·tail, List·Memᴰ·not-nil, List·Memᴰ·eq-of-singleton, List·Memᴰ·cases-cons, List·Memᴰ·append-cases, Memᴰ·cast, Memᴰ·append-left, Memᴰ·append-right}
 use Prim.Native.Nat.{ℕ, _≤_, _<_}
 use lib.ListN.{length, getD}
+use Rattle.lists.specs.Lists.{any, Ordered}
+use Rattle.lists.proofs.Laws.{any-has, has-any}
 use Rattle.key.specs.Form.{formOf}
 use Rattle.window.specs.declared.Window.{Window}
 use Rattle.window.specs.Window.{Px, In, Inside}
-use Rattle.window.specs.Lists.{Ordered}
 use Rattle.window.specs.Blocks.{exponent, corner, maximal, Before}
 use Rattle.window.specs.Decompose.{keyOf}
 use Rattle.window.proofs.Laws.{same-up, corner-in, corner-corner, corner→same, listed→, →listed, listed-ordered, ordered-front, front-all}
 use Rattle.map.specs.Sound.{Follow}
 use Rattle.map.specs.Records.{pixelRecord, pixelExponent}
 use Rattle.map.proofs.Laws.{tiling}
-use Rattle.border.specs.Openings.{any, met, within, isHanded, handedAfter}
+use Rattle.border.specs.Openings.{met, within, isHanded, handedAfter}
 use Rattle.border.specs.Border.{Handed, handedBy}
 use Rattle.border.specs.Step.{Corner}
 use Rattle.border.specs.Promises.{Touches}
-use Rattle.border.proofs.Lists.{any-has, has-any}
 use Rattle.border.proofs.Sweep.{Out, Now, joined, out-larger}
 use Rattle.border.proofs.Overlaps.{met-pixels, met-inside, in-record}
 use Rattle.border.proofs.Fold.{handedWith}

@@ -11,10 +11,11 @@ use native.Mathlib.Omega.{arith}
 use lib.Dec.{leb}
 use borrow.Author.Tests.{leb-true, le-leb}
 use lib.ListN.{length, getD}
+use Rattle.lists.proofs.Tests.{both}
 use Rattle.key.specs.Picture.{Pixel, place, PixelAt}
 use Rattle.key.specs.Form.{formOf}
 use Rattle.key.specs.Blocks.{Names, Among, Inside as Covers, Stand, within as lies-in, around, after, before}
-use Rattle.key.proofs.Laws.{block-lies, blocks-stand, holds-same, place-onto, pow-least, up-in}
+use Rattle.key.proofs.Laws.{block-lies, blocks-stand, holds-same, place-onto, pow-least}
 use Rattle.window.specs.declared.Window.{Window}
 use Rattle.window.specs.Window.{Px, In, Inside}
 use Rattle.window.specs.Blocks.{Same, exponent, corner}
@@ -23,10 +24,10 @@ use Rattle.window.proofs.Laws.{same-div, fits-all, exponent-fits, same→corner
 use Rattle.map.specs.Sound.{Follow}
 use Rattle.map.specs.Records.{Record, SomeRecord, Holder, pixelRecord, pixelExponent}
 use Rattle.map.specs.Runs.{runOf, BlockOf, Overlap, Meets}
-use Rattle.answers.proofs.Tests.{both}
 use Rattle.map.proofs.Laws.{record-at, apart, block-records, record-of, exponent-of, pixel-holder, start-is, end-is}
-use Rattle.border.specs.Openings.{indices, met, within}
+use Rattle.border.specs.Openings.{met, within}
 use Rattle.border.specs.Step.{Corner}
+use Rattle.border.proofs.Fold.{met-in}
 
 -- ---- a block in another
 
@@ -98,8 +99,7 @@ module _ {m top : ℕ} {keys : List ℕ} (F : Follow m 0 keys) {W : Window} (I :
           }
 
   pub met-pixels : (n : ℕ) → List·Memᴰ n (met m keys (keyOf m top W b)) ↔ OfPixel m top keys W b n
-  unfolding indices
-  met-pixels n = (λ l. to (up-in _ _ n .0 l), λ o. up-in _ _ n .1 (from o))
+  met-pixels n = let h = met-in m keys (keyOf m top W b) n in (λ l. to (h .0 l), λ o. h .1 (from o))
     where
       to : Among (runOf m keys (keyOf m top W b) .first) (runOf m keys (keyOf m top W b) .count) n → OfPixel m top keys W b n
       to h = go (record-at F n (omega (arith, meets .room)))
@@ -146,8 +146,7 @@ module _ {m top : ℕ} {keys : List ℕ} (F : Follow m 0 keys) {W : Window} (I :
   met-room = meets .room
 
   pub met-inside : (n : ℕ) → List·Memᴰ n (met m keys (keyOf m top W b)) → n < length keys
-  unfolding indices
-  met-inside n l = omega (arith, up-in _ _ n .0 l, meets .room)
+  met-inside n l = omega (arith, met-in m keys (keyOf m top W b) n .0 l, meets .room)
 
   -- ---- the block, and the record of its corner
 

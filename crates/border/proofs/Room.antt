@@ -15,7 +15,7 @@ use Rattle.border.specs.Openings.{Opening, openings, handsOut, cellsOf}
 use Rattle.border.specs.Open.{useRows, AfterOpen, afterOpen, accepted, openOf}
 use Rattle.border.proofs.Tables.{use-known, open-done}
 use Rattle.border.proofs.Fold.{cells-length}
-use Rattle.border.proofs.Laws.{hands-some, records-most}
+use Rattle.border.proofs.Once.{hands-some, records-most}
 
 -- openings that hand out some record each are no more than the records
 each : (os : List Opening) → ((o : Opening) → List·Memᴰ o os → 1 ≤ o .count) → length os ≤ handsOut os

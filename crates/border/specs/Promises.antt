@@ -4,7 +4,7 @@ use mathlib.Core.Path.{_≡_}
 use mathlib.Core.List.{List, [], _∷_, _++_, List·Memᴰ}
 use Prim.Native.Nat.{ℕ, _*_}
 use lib.ListN.{length, take}
-use Rattle.key.specs.Lists.{upFrom}
+use Rattle.lists.specs.Lists.{upFrom}
 use Rattle.window.specs.declared.Window.{Window}
 use Rattle.window.specs.Window.{Px, In, Inside}
 use Rattle.window.specs.Decompose.{keyOf, keysOf}

@@ -11,8 +11,6 @@ use Rattle.key.specs.Blocks.{Names, Lies, Among, Inside, Stand, within, 
 use Rattle.key.proofs.Powers.{pow-least}
 use Rattle.key.proofs.Blocks.{At, lies, at-form, form-at, stand}
 use Rattle.key.proofs.Pixels.{coarse, place-one, place-onto, place-div, pixel-at, block-at}
-pub use Rattle.key.proofs.Table.{table-entry}
-pub use Rattle.key.proofs.Lists.{up-none, up-next, up-in, up-length}
 pub use Rattle.key.proofs.Pixels.{place-lt, place-one, place-onto, corner-place}
 pub use Rattle.key.proofs.Powers.{pow-least, pow-most, power, four}
 pub use Rattle.key.proofs.Zeros.{alignment-most, alignment-zero, alignment-divides}

@@ -1,5 +1,3 @@
-mod Lists
-mod Table
 mod Bits
 mod Powers
 mod Digits

@@ -1,4 +1,3 @@
-pub mod Lists
 pub mod Spread
 pub mod Picture
 pub mod Key

@@ -3,7 +3,7 @@
 use mathlib.Core.Path.{_≡_, refl}
 use mathlib.Core.List.{List, [], _∷_}
 use Prim.Native.Nat.{ℕ}
-use lib.ListN.{take}
+use Rattle.lists.specs.Lists.{before, howMany}
 use Rattle.answers.specs.Rows.{answer}
 use Rattle.answers.specs.Sizes.{wrongCount, sizeRows}
 use Rattle.key.specs.Spread.{spreadTo, spread}
@@ -12,7 +12,6 @@ use Rattle.key.specs.Form.{from, formOf}
 use Rattle.map.specs.declared.Checked.the-variants.{Sound, Refused}
 use Rattle.map.specs.Spans.{malformed, exponent, start, end, holds, overlap}
 use Rattle.map.specs.Check.{recordRows, mapRows, checkOf}
-use Rattle.map.specs.Lists.{before, howMany}
 use Rattle.map.specs.Records.{recordOf, exponentOf}
 use Rattle.map.specs.Runs.{run, runOf}
 

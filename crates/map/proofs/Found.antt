@@ -8,15 +8,15 @@ use Prim.Native.Nat.{ℕ, _+_, _-_, _^_, _≤_, _<_}
 use native.Mathlib.Decide.{decLt}
 use native.Mathlib.Omega.{arith}
 use lib.ListN.{length, getD}
+use Rattle.lists.proofs.Laws.{Stretch, stretch-of, stretch-begins, stretch-counts}
 use Rattle.key.specs.Form.{formOf}
-use Rattle.key.specs.Blocks.{Names, Among}
+use Rattle.key.specs.Blocks.{Names}
 use Rattle.map.specs.Spans.{overlap}
 use Rattle.map.specs.Sound.{Follow}
 use Rattle.map.specs.Runs.{run, runOf, Meets, Splits}
 use Rattle.map.proofs.Order.{record-at, keys-rise}
 use Rattle.map.proofs.Meeting.{meets-run, meets-one}
 use Rattle.map.proofs.Halves.{some-split}
-use Rattle.map.proofs.Stretches.{Stretch, stretch-of, stretch-begins, stretch-counts}
 use Rattle.map.proofs.Tests.{overlap-is}
 
 module _ {m : ℕ} {keys : List ℕ} (F : Follow m 0 keys) {key i s : ℕ} (b : Names m key i s) where
@@ -28,7 +28,7 @@ module _ {m : ℕ} {keys : List ℕ} (F : Follow m 0 keys) {key i s : ℕ} (b : 
       test : ℕ → Bool
       test k = overlap (formOf m key) (formOf m k)
 
-      exactly : (n : ℕ) → n < length keys → (test (getD keys n 0) ≡ true) ↔ Among first (first + count - first) n
+      exactly : (n : ℕ) → n < length keys → (test (getD keys n 0) ≡ true) ↔ ((first ≤ n) × (n < first + count))
       exactly n l =
           let r = record-at F n l in
           let o = overlap-is b (r .is .names) in

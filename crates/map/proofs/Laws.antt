@@ -1,21 +1,21 @@
 -- The laws of sound maps: all that the crates above know of them.
 -- Assumes nothing.
-use mathlib.Core.Path.{_≡_}
+use mathlib.Core.Path.{_≡_, refl}
 use mathlib.Core.Logic.{_↔_}
 use mathlib.Core.Bool.{Bool, true}
 use mathlib.Core.List.{List}
-use Prim.Native.Nat.{ℕ, suc, _-_, _/_, _^_, _<_}
+use Prim.Native.Nat.{ℕ, suc, _/_, _^_, _≤_, _<_}
 use native.Mathlib.Omega.{arith}
 use lib.ListN.{length, getD}
+use Rattle.lists.proofs.Laws.{stretch-of, stretch-begins}
 use Rattle.key.specs.Form.{formOf}
 use Rattle.key.specs.Picture.{Pixel, place}
 use Rattle.key.specs.Blocks.{Names, Among}
 use Rattle.key.proofs.Laws.{one-block, block-lies, holds-same, place-lt}
-use Rattle.map.specs.Spans.{holds}
+use Rattle.map.specs.Spans.{exponent, holds}
 use Rattle.map.specs.Sound.{Follow}
 use Rattle.map.specs.Records.{SomeRecord, Holder, recordOf, exponentOf, Tiling, pixelRecord, pixelExponent}
 use Rattle.map.proofs.Order.{record-at, holder, one-holder}
-use Rattle.map.proofs.Stretches.{stretch-of, stretch-begins}
 use Rattle.map.proofs.Tests.{exponent-is, holds-is}
 pub use Rattle.map.proofs.Tables.{sound-map}
 pub use Rattle.map.proofs.Order.{record-at, apart, keys-apart, keys-rise, holder, one-holder}
@@ -23,6 +23,10 @@ pub use Rattle.map.proofs.Found.{block-records}
 pub use Rattle.map.proofs.Tests.{exponent-is, start-is, end-is, holds-is}
 
 -- ---- the record of a place, and of a pixel
+
+pub exponent-record : (m : ℕ) (keys : List ℕ) (q : ℕ) → exponentOf m keys q ≡ exponent (formOf m (getD keys (recordOf m keys q) 0))
+unfolding exponentOf
+exponent-record m keys q = refl
 
 module _ {m : ℕ} {keys : List ℕ} (F : Follow m 0 keys) where
   -- `recordOf` gives the one record that holds it
@@ -33,21 +37,20 @@ module _ {m : ℕ} {keys : List ℕ} (F : Follow m 0 keys) where
       test : ℕ → Bool
       test k = holds q (formOf m k)
 
-      exactly : (n : ℕ) → n < length keys → (test (getD keys n 0) ≡ true) ↔ Among (H .index) (suc (H .index) - H .index) n
+      exactly : (n : ℕ) → n < length keys → (test (getD keys n 0) ≡ true) ↔ ((H .index ≤ n) × (n < suc (H .index)))
       exactly n l = (to, from)
         where
           r : SomeRecord m keys n
           r = record-at F n l
 
-          to : test (getD keys n 0) ≡ true → Among (H .index) (suc (H .index) - H .index) n
+          to : test (getD keys n 0) ≡ true → (H .index ≤ n) × (n < suc (H .index))
           to e = let d = one-holder F (r .is) (H .is) (holds-is q (r .is .names) .0 e) (H .has) in omega arith
 
-          from : Among (H .index) (suc (H .index) - H .index) n → test (getD keys n 0) ≡ true
+          from : (H .index ≤ n) × (n < suc (H .index)) → test (getD keys n 0) ≡ true
           from h = let d : n ≡ H .index = omega arith in rw d (holds-is q (H .is .names) .1 (H .has))
 
   pub exponent-of : {q : ℕ} (H : Holder m keys q) → exponentOf m keys q ≡ H .exponent
-  unfolding exponentOf
-  exponent-of H = rw (record-of H) (exponent-is (H .is .names))
+  exponent-of {q} H = rw (exponent-record m keys q, record-of H) (exponent-is (H .is .names))
 
   pub pixel-holder : {r c : ℕ} → Pixel m r c → Holder m keys (place r c)
   pixel-holder {r} {c} p = holder F (place r c) (omega arith) (place-lt p)

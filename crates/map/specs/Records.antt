@@ -5,10 +5,10 @@ use mathlib.Core.Logic.{_↔_}
 use Prim.Native.Nat.{ℕ, _/_, _^_, _≤_, _<_}
 use mathlib.Core.List.{List}
 use lib.ListN.{length, getD}
+use Rattle.lists.specs.Lists.{before}
 use Rattle.key.specs.Picture.{Pixel, place}
 use Rattle.key.specs.Form.{formOf}
 use Rattle.key.specs.Blocks.{Names, Among}
-use Rattle.map.specs.Lists.{before}
 use Rattle.map.specs.Spans.{exponent, holds}
 
 -- record n is the block of exponent i whose span starts at place s

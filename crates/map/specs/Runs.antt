@@ -6,10 +6,10 @@ use mathlib.Core.Bool.{Bool}
 use Prim.Native.Nat.{ℕ, _+_, _^_, _≤_, _<_}
 use mathlib.Core.List.{List}
 use lib.ListN.{length, getD}
+use Rattle.lists.specs.Lists.{before, howMany}
 use Rattle.key.specs.Form.{formOf}
 use Rattle.key.specs.Blocks.{Names, Among, Inside}
 use Rattle.map.specs.declared.Run.{Run}
-use Rattle.map.specs.Lists.{before, howMany}
 use Rattle.map.specs.Spans.{overlap}
 use Rattle.map.specs.Records.{Record}
 

@@ -5,7 +5,7 @@ use mathlib.Core.Path.{_≡_, refl, sym, ap, ap₂, _∙_}
 use mathlib.Core.Logic.{_↔_, _≢_}
 use mathlib.Core.Bool.{Bool, true, false, cond, _&&_}
 use mathlib.Core.List.{List, List·Memᴰ}
-use Prim.Native.Nat.{ℕ, zero, suc, min, max, _+_, _*_, _^_, _≤_, _<_}
+use Prim.Native.Nat.{ℕ, zero, suc, _+_, _*_, _^_, _≤_, _<_}
 use native.Mathlib.Nat.{mul-le-mul}
 use native.Mathlib.Decide.{decLe, decLt}
 use native.Mathlib.Omega.{arith}
@@ -13,70 +13,40 @@ use lib.Dec.{eqb}
 use lib.ListN.{getD}
 use lib.Pow.{pow-add}
 use borrow.Author.Tests.{eqb-true, eq-eqb}
-use Rattle.answers.proofs.Tests.{never, both}
-use Rattle.key.specs.Lists.{upFrom}
+use Rattle.lists.specs.Lists.{upFrom, howMany}
+use Rattle.lists.proofs.Tests.{never, both, agree}
+use Rattle.lists.proofs.Laws.{up-none, up-next, many-empty, many-next, many-same}
 use Rattle.key.specs.Picture.{place}
 use Rattle.key.specs.Form.{formOf}
 use Rattle.key.specs.Blocks.{Among}
-use Rattle.key.proofs.Laws.{up-in, pow-most, four}
+use Rattle.key.proofs.Laws.{pow-most, four}
 use Rattle.window.specs.declared.Window.{Window}
 use Rattle.window.specs.Window.{Px, In, Inside}
 use Rattle.window.specs.Blocks
-use Rattle.window.specs.Blocks.{floor, Same, Fits, across, rows}
+use Rattle.window.specs.Blocks.{floor, Same, Fits}
 use Rattle.window.specs.Decompose.{keyOf}
-use Rattle.window.proofs.Laws.{floor-le, floor-lt, floor-eq, same-div, fits-same, fits-down, exponent-fits, corner→same, pixel-in, key-named}
+use Rattle.window.proofs.Laws.{floor-le, floor-lt, floor-eq, same-div, fits-same, fits-down, exponent-fits, corner→same, pixel-in, key-named, rows-count}
 use Rattle.map.specs.declared.Run.{Run}
-use Rattle.map.specs.Lists.{howMany}
 use Rattle.map.specs.Spans.{exponent}
 use Rattle.map.specs.Sound.{Follow}
-use Rattle.map.specs.Records.{SomeRecord, exponentOf, pixelRecord, pixelExponent}
+use Rattle.map.specs.Records.{SomeRecord, pixelRecord, pixelExponent}
 use Rattle.map.specs.Runs.{runOf, Nest, contained, filled, Meets}
-use Rattle.map.proofs.Laws.{tiling, record-at, block-records, exponent-is}
-use Rattle.border.specs.Openings.{indices, met}
+use Rattle.map.proofs.Laws.{tiling, record-at, block-records, exponent-record, exponent-is}
+use Rattle.border.specs.Openings.{met}
 use Rattle.border.specs.Step.{Corner}
-use Rattle.border.proofs.Laws.{size-le, met-pixels, met-first}
+use Rattle.border.proofs.Laws.{met-in, size-le, met-pixels, met-first}
 use Rattle.query.specs.Classes.{pixels}
 use Rattle.query.specs.Gather.{area, shared, clipped}
-use Rattle.query.proofs.Sums.{agree, many-same, many-append}
 use Rattle.query.proofs.Totals.{in-pixels}
-
--- ---- rows and columns
-
-module _ (f g : ℕ → Bool) where
-  across-count : (r c n : ℕ) → howMany (λ p. f (p .0) && g (p .1)) (across r c n) ≡ cond (f r) (howMany g (upFrom c n)) 0
-  unfolding across upFrom howMany
-  across-count r c zero = go (f r)
-    where
-      go : (b : Bool) → zero ≡ cond b zero zero
-      go true = refl
-      go false = refl
-  across-count r c (suc n) = go (f r) (g c) (howMany g (upFrom (suc c) n)) (across-count r (suc c) n)
-    where
-      go : (a b : Bool) {s : ℕ} (k : ℕ) → s ≡ cond a k 0 → cond (a && b) (suc s) s ≡ cond a (cond b (suc k) k) 0
-      go true true k e = omega arith
-      go true false k e = e
-      go false b k e = e
-
-  -- pixels whose row passes one test and whose column passes another
-  rows-count : (r c n w : ℕ) → howMany (λ p. f (p .0) && g (p .1)) (rows r c n w) ≡ howMany f (upFrom r n) * howMany g (upFrom c w)
-  unfolding rows upFrom howMany
-  rows-count r c zero w = omega arith
-  rows-count r c (suc n) w =
-      many-append (λ p. f (p .0) && g (p .1)) (across r c w) (rows (suc r) c n w)
-      ∙ go (f r) (howMany f (upFrom (suc r) n)) (howMany g (upFrom c w)) (across-count r c w) (rows-count (suc r) c n w)
-    where
-      go : (b : Bool) {a s : ℕ} (n k : ℕ) → a ≡ cond b k 0 → s ≡ n * k → a + s ≡ cond b (suc n) n * k
-      go true n k d e = omega arith
-      go false n k d e = omega arith
 
 -- ---- an interval
 
 module _ (f : ℕ → Bool) {b k : ℕ} (is : (x : ℕ) → (f x ≡ true) ↔ Among b k x) where
   -- of the n numbers from a on, as many pass as are among the k from b on
   up-count : (a n : ℕ) → howMany f (upFrom a n) ≡ shared a n b k
-  unfolding upFrom howMany shared
-  up-count a zero = omega arith
-  up-count a (suc n) = go (f a) refl (decLe b a) (decLt a (b + k)) (up-count (suc a) n)
+  unfolding shared
+  up-count a zero = rw (up-none a, many-empty f) (omega arith)
+  up-count a (suc n) = rw (up-next a n, many-next f a (upFrom (suc a) n)) (go (f a) refl (decLe b a) (decLt a (b + k)) (up-count (suc a) n))
     where
       go : (t : Bool) → f a ≡ t → Dec (b ≤ a) → Dec (a < b + k) → {s : ℕ} → s ≡ shared (suc a) n b k → cond t (suc s) s ≡ shared a (suc n) b k
       go true e h l d = omega (arith, is a .0 e)
@@ -129,8 +99,7 @@ module _ {m : ℕ} {keys : List ℕ} (F : Follow m 0 keys) {W : Window} (I : Ins
 
   -- the same by the record's number
   pub area-at : {p : Px} {n : ℕ} → In W p → pixelRecord m keys (p .0) (p .1) ≡ n → area m keys W n ≡ clipped W (exponent (formOf m (getD keys n 0))) p
-  unfolding exponentOf
-  area-at v e = rw (← e) (area-around v)
+  area-at {p} v e = rw (← e, ← exponent-record m keys (place (p .0) (p .1))) (area-around v)
 
 -- ---- the records of a maximal block
 
@@ -149,8 +118,7 @@ module _ {m top : ℕ} {keys : List ℕ} (F : Follow m 0 keys) {W : Window} (I :
   meets = block-records F (key-named I small (C .inside) (C .own))
 
   among : Among (found .first) (found .count) n
-  unfolding indices
-  among = up-in _ _ n .0 l
+  among = met-in m keys (keyOf m top W b) n .0 l
 
   -- one of several lies in the block
   met-smaller : found .count ≢ 1 → exponent (formOf m (getD keys n 0)) ≤ Blocks.exponent W top b
@@ -175,10 +143,6 @@ module _ {m top : ℕ} {keys : List ℕ} (F : Follow m 0 keys) {W : Window} (I :
   area-corner e = area-at F I (C .inside) (sym (met-corner e))
 
 -- ---- what a program needs of it
-
--- the ends of an overlap with the block around a number that both have stand in order, and the overlap is no longer than the block
-pub shared-order : (a n e x : ℕ) → a ≤ x → x < a + n → max a (floor e x) < min (a + n) (floor e x + 2 ^ e)
-shared-order a n e x h l = omega (arith, floor-le e x, floor-lt e x)
 
 pub shared-most : (a n b e : ℕ) → e ≤ 12 → shared a n b (2 ^ e) ≤ 4096
 unfolding shared

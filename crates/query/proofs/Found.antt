@@ -1,33 +1,27 @@
 -- Whether some pixel of a window has a class: exactly when some record that the openings hand out has it. They hand out the records of the window's pixels, and no other.
 -- Assumes nothing.
-use mathlib.Core.Path.{_≡_, refl, sym}
+use mathlib.Core.Path.{_≡_, refl}
 use mathlib.Core.Logic.{_↔_}
 use mathlib.Core.Bool.{Bool, true, false}
-use mathlib.Core.List.{List, [], _∷_, _++_, append-assoc, append-nil, List·Memᴰ, List·Memᴰ·head, Memᴰ·append-right}
-use Prim.Native.Nat.{ℕ, _+_, _≤_, _<_}
-use native.Mathlib.Omega.{arith}
+use mathlib.Core.List.{List, [], _∷_, _++_, List·Memᴰ·head, Memᴰ·append-right}
+use Prim.Native.Nat.{ℕ, _≤_}
 use lib.Dec.{eqb}
 use lib.ListN.{getD}
 use borrow.Author.Tests.{eqb-true, eq-eqb}
-use Rattle.key.specs.Lists.{upFrom}
-use Rattle.key.proofs.Laws.{up-in}
+use Rattle.lists.specs.Lists.{any}
+use Rattle.lists.proofs.Tests.{agree}
+use Rattle.lists.proofs.Laws.{any-none, any-has, has-any, any-append}
 use Rattle.window.specs.declared.Window.{Window}
 use Rattle.window.specs.Window.{Px, In, Inside}
-use Rattle.window.specs.Decompose.{keyOf}
-use Rattle.window.proofs.Laws.{rows-in, in-rows}
 use Rattle.map.specs.Sound.{Follow}
 use Rattle.map.specs.Records.{pixelRecord}
-use Rattle.border.specs.Openings.{any, met, Opening, openings}
-use Rattle.border.specs.Step.{Corner}
+use Rattle.border.specs.Openings.{Opening, openings}
 use Rattle.border.specs.Promises.{hands, allHands}
-use Rattle.border.proofs.Laws.{any-has, has-any, met-pixels, in-hands, hands-all}
+use Rattle.border.proofs.Laws.{hands-none, hands-one, hands-append, in-hands, hands-all}
 use Rattle.query.specs.Classes.{pixels, hasClass, exists}
-use Rattle.query.proofs.Lists.{same-tests, up-append, any-append}
+use Rattle.query.proofs.Totals.{in-pixels}
 
 -- ---- what it means
-
-pub pixels-in : (W : Window) {p : Px} → List·Memᴰ p (pixels W) ↔ In W p
-pixels-in W = (λ l. omega (arith, rows-in (W .r0) (W .c0) (W .h) (W .w) l), λ v. in-rows (W .r0) (W .c0) (W .h) (W .w) (v .top) (v .bottom) (v .left) (v .right))
 
 module _ (m : ℕ) (keys classes : List ℕ) (class : ℕ) where
   pub class-is : (p : Px) → (hasClass m keys classes class p ≡ true) ↔ (getD classes (pixelRecord m keys (p .0) (p .1)) 0 ≡ class)
@@ -37,15 +31,15 @@ module _ (m : ℕ) (keys classes : List ℕ) (class : ℕ) where
   pub exists-means : (W : Window) → (exists m keys classes W class ≡ true) ↔ ((p : Px) × In W p × (getD classes (pixelRecord m keys (p .0) (p .1)) 0 ≡ class))
   unfolding exists
   exists-means W = (
-    λ e. let t = any-has (hasClass m keys classes class) (pixels W) e in (t .0, pixels-in W .0 (t .1), class-is (t .0) .0 (t .2)),
-    λ t. has-any (hasClass m keys classes class) (pixels-in W .1 (t .1)) (class-is (t .0) .1 (t .2)),
+    λ e. let t = any-has (hasClass m keys classes class) (pixels W) e in (t .0, in-pixels W .0 (t .1), class-is (t .0) .0 (t .2)),
+    λ t. has-any (hasClass m keys classes class) (in-pixels W .1 (t .1)) (class-is (t .0) .1 (t .2)),
   )
 
 -- ---- by what the openings hand out
 
 pub exists-hands : {m top : ℕ} {keys : List ℕ} → Follow m 0 keys → {W : Window} → Inside m W → top ≤ m → (classes : List ℕ) (class : ℕ)
     → exists m keys classes W class ≡ any (λ n. eqb (getD classes n 0) class) (allHands (openings m top keys W))
-exists-hands {m} {top} {keys} F {W} I small classes class = same-tests _ _ to from
+exists-hands {m} {top} {keys} F {W} I small classes class = agree _ _ (to, from)
   where
     test : ℕ → Bool
     test n = eqb (getD classes n 0) class
@@ -67,20 +61,10 @@ exists-hands {m} {top} {keys} F {W} I small classes class = same-tests _ _ to fr
 
 -- ---- part by part
 
-pub hands-append : (os os′ : List Opening) → allHands (os ++ os′) ≡ allHands os ++ allHands os′
-unfolding allHands
-hands-append [] os′ = refl
-hands-append (o ∷ os) os′ = rw (hands-append os os′) (sym (append-assoc (hands o) (allHands os) (allHands os′)))
-
-pub hands-one : (o : Opening) → allHands (o ∷ []) ≡ hands o
-unfolding allHands
-hands-one o = append-nil (hands o)
-
 module _ (f : ℕ → Bool) where
   -- no opening, and one more
   pub any-no-opening : any f (allHands []) ≡ false
-  unfolding any allHands
-  any-no-opening = refl
+  any-no-opening = rw (hands-none, any-none f)
 
   pub any-opening : (os : List Opening) (o : Opening) → any f (allHands os) ≡ false → any f (hands o) ≡ false → any f (allHands (os ++ (o ∷ []))) ≡ false
   any-opening os o e d = rw (hands-append os (o ∷ []), hands-one o, any-append f (allHands os) (hands o), e, d)

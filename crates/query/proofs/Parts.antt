@@ -7,25 +7,21 @@ use Prim.Native.Nat.{ℕ, _^_, _≤_}
 use native.Mathlib.Omega.{arith}
 use lib.ListN.{getD}
 use Rattle.key.specs.Form.{formOf}
-use Rattle.key.proofs.Laws.{up-in, block-lies}
+use Rattle.key.proofs.Laws.{block-lies}
 use Rattle.window.specs.declared.Window.{Window}
 use Rattle.window.specs.Window.{Px}
 use Rattle.window.specs.Decompose.{keyOf}
 use Rattle.map.specs.Spans.{exponent}
 use Rattle.map.specs.Records.{SomeRecord}
-use Rattle.map.specs.Runs.{runOf}
 use Rattle.map.proofs.Laws.{record-at, exponent-is}
-use Rattle.border.specs.Openings.{indices}
-use Rattle.border.proofs.Laws.{met-room}
+use Rattle.border.proofs.Laws.{met-in, met-room}
 use Rattle.query.specs.Gather.{area, clipped, Part}
 use Rattle.query.proofs.Areas.{area-inside, area-corner}
 
 module _ {m : ℕ} {keys : List ℕ} {W : Window} {b : Px} {count n : ℕ} (P : Part m keys W b count n) where
   pub part-record : SomeRecord m keys n
-  unfolding indices
   part-record =
-      let run = runOf m keys (keyOf m (P .top) W b) in
-      let among = up-in (run .first) (run .count) n .0 (P .listed) in
+      let among = met-in m keys (keyOf m (P .top) W b) n .0 (P .listed) in
       record-at (P .given .sound) n (omega (arith, among, met-room (P .given .sound) (P .given .inside) (P .given .cap) (P .corner)))
 
   pub part-small : exponent (formOf m (getD keys n 0)) ≤ m

@@ -9,28 +9,27 @@ use Prim.Native.Nat.{ℕ, max, _+_, _-_, _^_, _≤_, _<_}
 use native.Mathlib.Decide.{ℕ-discrete}
 use native.Mathlib.Omega.{arith}
 use lib.Dec.{eqb}
-use lib.ListN.{length, getD, length-map}
+use lib.ListN.{length, getD}
 use borrow.Author.Tests.{eqb-true, eq-eqb, ne-eqb}
-use Rattle.answers.proofs.Tests.{refuted, both, never}
-use Rattle.key.specs.Lists.{upFrom}
+use Rattle.lists.specs.Lists.{upFrom, any, keep}
+use Rattle.lists.proofs.Tests.{never, refuted, both, agree}
+use Rattle.lists.proofs.Laws.{up-in, keep-none, keep-same, keep-run, any-has, has-any}
 use Rattle.key.specs.Form.{formOf}
 use Rattle.key.specs.Blocks.{Names, Among, Inside as Covers}
-use Rattle.key.proofs.Laws.{one-block, block-lies, pow-least, up-in, up-length}
+use Rattle.key.proofs.Laws.{one-block, block-lies, pow-least}
 use Rattle.window.specs.declared.Window.{Window}
 use Rattle.window.specs.Window.{Px, Inside}
-use Rattle.window.specs.Lists.{keep}
 use Rattle.window.specs.Decompose.{keyOf}
-use Rattle.window.proofs.Laws.{keep-most, key-named}
+use Rattle.window.proofs.Laws.{key-named}
 use Rattle.map.specs.Sound.{Follow}
 use Rattle.map.specs.Records.{Record, SomeRecord}
 use Rattle.map.specs.Runs.{runOf, Nest, contained, filled, Meets}
 use Rattle.map.proofs.Laws.{record-at, holder, one-holder, block-records}
-use Rattle.border.specs.Openings.{any, within}
+use Rattle.border.specs.Openings.{within}
 use Rattle.border.specs.Step.{Corner}
-use Rattle.border.proofs.Laws.{any-has, has-any, within-is}
+use Rattle.border.proofs.Laws.{within-is}
 use Rattle.query.specs.Classes.{classed}
 use Rattle.query.specs.Select.{around, inside, selected, pickedRun, picked}
-use Rattle.query.proofs.Lists.{same-tests, keep-none, keep-same, keep-run}
 
 -- ---- the run of a block
 
@@ -136,16 +135,6 @@ module _ (m : ℕ) (keys classes : List ℕ) (class key : ℕ) where
           none : (n : ℕ) → n < length keys → ¬ (test n ≡ true)
           none n l h = never (sym (has-any test (up-in 0 (length keys) n .1 (omega arith)) h) ∙ e)
 
-  -- no more keys than records
-  pub selected-most : length (selected m keys classes class key) ≤ length keys
-  selected-most = go choice
-    where
-      go : Choice → length (selected m keys classes class key) ≤ length keys
-      go (whole l e d) = rw d (omega arith)
-      go (parts h d) =
-          let kept : List ℕ = keep (inside m keys classes class key) (upFrom 0 (length keys)) in
-          rw d (omega (arith, length-map kept (λ n. getD keys n 0), keep-most (inside m keys classes class key) (upFrom 0 (length keys)), up-length 0 (length keys)))
-
 -- ---- what is picked, by cases
 
 module _ (keys classes : List ℕ) (class key first : ℕ) {count : ℕ} where
@@ -199,7 +188,7 @@ module _ {m : ℕ} {keys : List ℕ} (F : Follow m 0 keys) (classes : List ℕ) 
           let k = up-in first count n .0 l in
           let R = record-at F n (omega (arith, M .room)) in
           let t = inside-is classes class B (R .is) in
-          same-tests _ _ (λ a. eq-eqb _ _ (t .0 a .0)) (λ a. t .1 (eqb-true _ _ a, several F M e (R .is) k))
+          agree _ _ (λ a. eq-eqb _ _ (t .0 a .0), λ a. t .1 (eqb-true _ _ a, several F M e (R .is) (omega arith)))
 
       go : Dec (count ≡ 1) → Dec (getD classes first 0 ≡ class) → selected m keys classes class key ≡ picked keys classes class key first count
       go (yes e) (yes d) =
@@ -211,7 +200,7 @@ module _ {m : ℕ} {keys : List ℕ} (F : Follow m 0 keys) (classes : List ℕ) 
       go (no e) d =
           selected-parts m keys classes class key (λ n l a. e (whole l a .1))
           ∙ rw (
-            keep-run (inside m keys classes class key) first count (length keys) (M .room) (λ n l a. parts n l a .1),
+            keep-run (inside m keys classes class key) first count (length keys) (M .room) (λ n l a. let h = parts n l a .1 in (h .least, h .most)),
             keep-same (inside m keys classes class key) (λ n. eqb (getD classes n 0) class) (upFrom first count) (among e),
           ) (sym (picked-many keys classes class key first e ∙ picked-run keys classes class first count))
 

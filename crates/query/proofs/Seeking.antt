@@ -5,11 +5,12 @@ use mathlib.Core.Bool.{Bool, true, false}
 use mathlib.Core.List.{List, [], _∷_, _++_, append-assoc}
 use Prim.Native.Nat.{ℕ, _+_, _-_, _≤_, _<_}
 use native.Mathlib.Omega.{arith}
-use Rattle.key.specs.Lists.{upFrom}
+use Rattle.lists.specs.Lists.{upFrom, any}
+use Rattle.lists.proofs.Laws.{any-none, any-next}
 use Rattle.window.specs.declared.Window.{Window}
 use Rattle.window.specs.Window.{Px}
 use Rattle.border.specs.declared.Found.the-variants as found
-use Rattle.border.specs.Openings.{any, Opening, openings}
+use Rattle.border.specs.Openings.{Opening, openings}
 use Rattle.border.specs.Promises.{allHands}
 use Rattle.border.specs.Step.{Usable}
 use Rattle.border.specs.Found.{made, madeFrom, Finds}
@@ -30,16 +31,13 @@ module _ (f : ℕ → Bool) {first end : ℕ} where
 
   module _ {n : ℕ} (L : Looking f first end n) where
     pub looking-found : n < end → f n ≡ true → any f (upFrom first (end - first)) ≡ true
-    unfolding any
-    looking-found l e = L .same ∙ rw (run-next l, e)
+    looking-found l e = L .same ∙ rw (run-next l, any-next f n (upFrom (n + 1) (end - (n + 1))), e)
 
     pub looking-next : n < end → f n ≡ false → Looking f first end (n + 1)
-    unfolding any
-    looking-next l e = record { low = omega (arith, L .low); high = omega arith; same = L .same ∙ rw (run-next l, e) }
+    looking-next l e = record { low = omega (arith, L .low); high = omega arith; same = L .same ∙ rw (run-next l, any-next f n (upFrom (n + 1) (end - (n + 1))), e) }
 
     pub looking-last : end ≤ n → any f (upFrom first (end - first)) ≡ false
-    unfolding any
-    looking-last l = L .same ∙ rw (run-last l)
+    looking-last l = L .same ∙ rw (run-last l, any-none f)
 
 -- ---- from opening to opening
 

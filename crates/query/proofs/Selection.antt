@@ -9,25 +9,24 @@ use Prim.Native.Nat.{ℕ, _+_, _*_, _^_, _≤_, _<_}
 use native.Mathlib.Decide.{decLt}
 use native.Mathlib.Omega.{arith}
 use lib.ListN.{length, getD, length-map, length-append}
-use Rattle.key.specs.Lists.{upFrom}
+use Rattle.lists.specs.Lists.{upFrom, keep, Ordered, none, more}
+use Rattle.lists.proofs.Laws.{ordered-append, distinct-map, pigeon, up-in, up-distinct, keep-in, keep-true, in-keep, ordered-keep, getD-in}
 use Rattle.key.specs.Form.{formOf}
 use Rattle.key.specs.Picture.{place, PixelAt}
 use Rattle.key.specs.Blocks.{Names, Among, Inside as Covers, Stand, within as lies-in, around as stands-around, after, before}
-use Rattle.key.proofs.Laws.{one-block, block-lies, blocks-stand, place-onto, pow-least, up-in}
+use Rattle.key.proofs.Laws.{one-block, block-lies, blocks-stand, place-onto, pow-least}
 use Rattle.window.specs.declared.Window.{Window}
 use Rattle.window.specs.Window.{Px, In, Inside}
-use Rattle.window.specs.Lists.{keep, Ordered, none, more}
 use Rattle.window.specs.Blocks.{exponent, maximal, Before}
 use Rattle.window.specs.Decompose.{keyOf}
-use Rattle.window.proofs.Laws.{blocks-few, keep-in, keep-true, in-keep, ordered-keep, ordered-append, pigeon, before-irrefl, →listed, listed-ordered, block-of, block-one, keys-of, key-named, pixel-in, maximal-most}
+use Rattle.window.proofs.Laws.{blocks-few, before-irrefl, →listed, listed-ordered, block-of, block-one, keys-of, key-named, pixel-in, maximal-most}
 use Rattle.map.specs.Sound.{Follow}
 use Rattle.map.specs.Spans.{holds}
 use Rattle.map.specs.Records.{Record, Holder, pixelRecord}
 use Rattle.map.proofs.Laws.{record-at, one-holder, keys-rise, record-of, pixel-holder, holds-is}
 use Rattle.border.specs.Step.{Corner}
-use Rattle.border.proofs.Laws.{up-distinct, spans, listed-corner}
+use Rattle.border.proofs.Laws.{spans, listed-corner}
 use Rattle.query.specs.Select.{inside, selected, allSelected, selection}
-use Rattle.query.proofs.Lists.{distinct-map, getD-in}
 use Rattle.query.proofs.Picked.{around-is, inside-is, Choice, whole, parts, choice}
 
 -- ---- block by block

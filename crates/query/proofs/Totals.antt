@@ -2,7 +2,7 @@
 -- Assumes nothing.
 use mathlib.Core.Path.{_≡_, refl, sym, _∙_}
 use mathlib.Core.Logic.{_↔_, _≢_}
-use mathlib.Core.Bool.{Bool, true, false, cond}
+use mathlib.Core.Bool.{Bool, true, false}
 use mathlib.Core.List.{List, [], _∷_, _++_, append-assoc, map, List·Memᴰ}
 use Prim.Native.Nat.{ℕ, _+_, _*_, _≤_, _<_}
 use native.Mathlib.Omega.{arith}
@@ -10,21 +10,19 @@ use lib.Dec.{eqb}
 use lib.ListN.{length, getD, replicate, length-map, length-set, length-replicate, getD-replicate}
 use lib.Seq.{getD-set-same, getD-set-other, ext-getD}
 use borrow.Author.Tests.{eqb-true, eqb-false, eq-eqb}
-use Rattle.key.specs.Lists.{upFrom}
-use Rattle.key.proofs.Laws.{table-entry, up-in, up-length}
+use Rattle.lists.specs.Lists.{upFrom, sum, any, keep, Ordered, howMany}
+use Rattle.lists.proofs.Tests.{agree}
+use Rattle.lists.proofs.Laws.{ordered-part, up-in, up-length, up-distinct, table-entry, keep-empty, keep-taken, keep-passed, keep-true, in-keep, ordered-keep, any-has, has-any, many-same, many-all, many-most, sum-none, sum-next, each-once}
 use Rattle.window.specs.declared.Window.{Window}
 use Rattle.window.specs.Window.{Px, In, Inside}
-use Rattle.window.specs.Lists.{Ordered, keep}
-use Rattle.window.proofs.Laws.{keep-true, in-keep, ordered-keep, rows-in, in-rows, rows-length}
-use Rattle.map.specs.Lists.{howMany}
+use Rattle.window.proofs.Laws.{rows-in, in-rows, rows-length}
 use Rattle.map.specs.Sound.{Follow}
 use Rattle.map.specs.Records.{pixelRecord}
-use Rattle.border.specs.Openings.{any, openings}
+use Rattle.border.specs.Openings.{openings}
 use Rattle.border.specs.Promises.{allHands}
-use Rattle.border.proofs.Laws.{any-has, has-any, up-distinct, in-hands, hands-all, records-once}
-use Rattle.query.specs.Classes.{pixels, hasClass, total, totals, sum}
+use Rattle.border.proofs.Laws.{in-hands, hands-all, records-once}
+use Rattle.query.specs.Classes.{pixels, hasClass, total, totals}
 use Rattle.query.specs.Gather.{area, added, gathered}
-use Rattle.query.proofs.Sums.{agree, ordered-part, many-same, many-all, many-most, each-once}
 
 -- ---- the window's pixels
 
@@ -94,15 +92,17 @@ module _ (m : ℕ) (keys classes : List ℕ) (W : Window) where
   ofClass k = keep (λ n. eqb (getD classes n 0) k)
 
   gathered-at : (ns cells : List ℕ) {k : ℕ} → k < length cells → getD (gathered m keys classes W ns cells) k 0 ≡ getD cells k 0 + sum (map (area m keys W) (ofClass k ns))
-  unfolding gathered keep sum
-  gathered-at [] cells l = omega arith
+  unfolding gathered
+  gathered-at [] cells {k} l = rw (keep-empty (λ n. eqb (getD classes n 0) k), sum-none) (omega arith)
   gathered-at (n ∷ ns) cells {k} l = go (eqb (getD classes n 0) k) refl (gathered-at ns (added m keys classes W n cells) (omega (arith, added-length n cells)))
     where
       go : (b : Bool) → eqb (getD classes n 0) k ≡ b
           → getD (gathered m keys classes W ns (added m keys classes W n cells)) k 0 ≡ getD (added m keys classes W n cells) k 0 + sum (map (area m keys W) (ofClass k ns))
-          → getD (gathered m keys classes W ns (added m keys classes W n cells)) k 0 ≡ getD cells k 0 + sum (map (area m keys W) (cond b (n ∷ ofClass k ns) (ofClass k ns)))
-      go true e ih = omega (arith, added-same n cells k l (eqb-true (getD classes n 0) k e))
-      go false e ih = omega (arith, added-other n cells k (eqb-false (getD classes n 0) k e))
+          → getD (gathered m keys classes W ns (added m keys classes W n cells)) k 0 ≡ getD cells k 0 + sum (map (area m keys W) (ofClass k (n ∷ ns)))
+      go true e ih =
+          rw (keep-taken (λ x. eqb (getD classes x 0) k) {x = n} ns e, sum-next (area m keys W n) (map (area m keys W) (ofClass k ns)))
+          (omega (arith, added-same n cells k l (eqb-true (getD classes n 0) k e)))
+      go false e ih = rw (keep-passed (λ x. eqb (getD classes x 0) k) {x = n} ns e) (omega (arith, added-other n cells k (eqb-false (getD classes n 0) k e)))
 
   -- from zeros on, a cell counts the pixels of the records of its class
   gathered-counts : {ns : List ℕ} → Ordered _≢_ ns → {k : ℕ} → k < 256

@@ -6,14 +6,12 @@ use mathlib.Core.List.{List, [], _∷_, _++_, List·Memᴰ}
 use Prim.Native.Nat.{ℕ, min, max, _+_, _-_, _*_, _^_, _≤_}
 use lib.Dec.{eqb}
 use lib.ListN.{getD, set, replicate}
-use Rattle.key.specs.Lists.{upFrom}
+use Rattle.lists.specs.Lists.{upFrom, Ordered, howMany}
 use Rattle.key.specs.Blocks.{Among}
 use Rattle.window.specs.declared.Window.{Window}
 use Rattle.window.specs.Window.{Px, Inside}
-use Rattle.window.specs.Lists.{Ordered}
 use Rattle.window.specs.Blocks.{floor}
 use Rattle.window.specs.Decompose.{keyOf}
-use Rattle.map.specs.Lists.{howMany}
 use Rattle.map.specs.Records.{pixelRecord}
 use Rattle.map.specs.Runs.{runOf}
 use Rattle.border.specs.Openings.{met}

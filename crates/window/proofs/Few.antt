@@ -11,12 +11,11 @@ use native.Mathlib.Nat.{eq-or-lt-of-le, pow-succ'}
 use native.Mathlib.Decide.{decLe}
 use lib.Pow.{pow-pos}
 use lib.ListN.{length}
-use Rattle.key.specs.Lists.{upFrom}
-use Rattle.key.proofs.Laws.{up-in, up-length}
+use Rattle.lists.specs.Lists.{upFrom}
+use Rattle.lists.proofs.Laws.{ordered-imp, pigeon, up-in, up-length}
 use Rattle.window.specs.declared.Window.{Window}
 use Rattle.window.specs.Window.{Px, Inside}
 use Rattle.window.specs.Blocks.{floor, Fits, exponent, corner, maximal}
-use Rattle.window.proofs.Lists.{ordered-imp, pigeon}
 use Rattle.window.proofs.Dyadic.{floor-eq, floor-add, aligned-down, nested, Nested}
 use Rattle.window.proofs.Blocks.{exponent-le, exponent-fits, exponent-max}
 use Rattle.window.proofs.Listed.{before-irrefl, listed→, listed-ordered}

@@ -8,7 +8,7 @@ use lib.ListN.{length, take, length-append}
 use lib.Seq.{take-all}
 use Rattle.answers.specs.declared.Verdict.{Verdict}
 use Rattle.answers.specs.declared.Verdict.the-variants.{Passed, Refused}
-use Rattle.answers.specs.Rows.{answer, verdict}
+use Rattle.answers.specs.Rows.{verdict}
 use Rattle.answers.proofs.Laws.{on-passed, on-refused}
 use Rattle.house.specs.declared.Reading.{Reading}
 use Rattle.house.specs.declared.Reading.the-variants as reading
@@ -20,13 +20,12 @@ use Rattle.border.specs.declared.Opened.{Opened}
 use Rattle.border.specs.declared.Opened.the-variants as opened
 use Rattle.border.specs.Open.{useRows, afterOpen, openOf}
 use Rattle.border.specs.Promises.{Answered}
-use Rattle.border.proofs.Laws.{answered}
-use Rattle.border.proofs.Room.{openings-fit, roomy}
+use Rattle.border.proofs.Laws.{openings-fit, roomy, answered}
 use Rattle.query.specs.Classes.{totals}
 use Rattle.query.specs.declared.Queried.{Queried}
 use Rattle.query.specs.declared.Queried.the-variants as queried
 use Rattle.query.specs.Query.{afterQuery, reportOf}
-use Rattle.query.proofs.Told.{Counted, counted, uncounted, totals-length}
+use Rattle.query.proofs.Laws.{Counted, counted, uncounted, totals-length}
 use Rattle.text.proofs.Laws.{line-most}
 use Rattle.window_program.specs.Text.{refusalLine, foundLines, foundBy, resultOf, answerOf}
 use Rattle.window_program.proofs.Lines.{openings-most, classes-most}

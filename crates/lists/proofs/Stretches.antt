@@ -7,9 +7,8 @@ use mathlib.Core.List.{List, [], _∷_}
 use Prim.Native.Nat.{ℕ, zero, suc, _-_, _≤_, _<_}
 use native.Mathlib.Omega.{arith}
 use lib.ListN.{length, getD}
-use Rattle.answers.proofs.Tests.{refuted}
-use Rattle.key.specs.Blocks.{Among}
-use Rattle.map.specs.Lists.{before, howMany}
+use Rattle.lists.specs.Lists.{before, howMany}
+use Rattle.lists.proofs.Tests.{refuted}
 
 module _ (p : ℕ → Bool) where
   -- the test fails before a, passes from there to z, and fails from z on
@@ -20,7 +19,7 @@ module _ (p : ℕ → Bool) where
     pub along : (n : ℕ) → a ≤ n → n < z → p (getD xs n 0) ≡ true
     pub past : (n : ℕ) → z ≤ n → n < length xs → p (getD xs n 0) ≡ false
 
-  pub stretch-of : {xs : List ℕ} {a z : ℕ} → a ≤ z → z ≤ length xs → ((n : ℕ) → n < length xs → (p (getD xs n 0) ≡ true) ↔ Among a (z - a) n) → Stretch xs a z
+  pub stretch-of : {xs : List ℕ} {a z : ℕ} → a ≤ z → z ≤ length xs → ((n : ℕ) → n < length xs → (p (getD xs n 0) ≡ true) ↔ ((a ≤ n) × (n < z))) → Stretch xs a z
   stretch-of o r is = record {
     order = o;
     room = r;

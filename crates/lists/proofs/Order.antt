@@ -1,65 +1,22 @@
--- Lists: what passes a test, order, and the pigeonhole principle.
+-- Order: parts of an ordered list, two lists in one, and the pigeonhole principle. By induction over the list.
 -- Assumes nothing.
 use mathlib.Core.Path.{_≡_, refl, sym, ap, _∙_, subst}
 use mathlib.Core.Logic.{_⊎_, inl, inr, _≢_}
-use mathlib.Core.Bool.{Bool, true, false, cond}
-use mathlib.Core.List.{List, [], _∷_, _++_, List·Memᴰ, List·Memᴰ·head, List·Memᴰ·tail, List·Memᴰ·not-nil, List·Memᴰ·append-cases}
-use Prim.Native.Nat.{suc, _+_, _≤_}
+use mathlib.Core.List.{List, [], _∷_, _++_, map, List·Memᴰ, List·Memᴰ·head, List·Memᴰ·tail, List·Memᴰ·append-cases, Memᴰ·append-left, Memᴰ·of-map}
+use Prim.Native.Nat.{suc, _≤_}
 use native.Mathlib.Omega.{arith}
 use lib.ListN.{length}
-use Rattle.answers.proofs.Tests.{never}
-use Rattle.window.specs.Lists.{keep, Ordered, none, more}
+use Rattle.lists.specs.Lists.{Ordered, none, more}
 
 module _ {A : Type 0} where
-  -- ---- what passes a test
-
-  pub keep-in : (f : A → Bool) (l : List A) {a : A} → List·Memᴰ a (keep f l) → List·Memᴰ a l
-  unfolding keep
-  keep-in f [] m = m
-  keep-in f (x ∷ l) {a} m = go (f x) (λ n. keep-in f l n) m
-    where
-      go : (b : Bool) → (List·Memᴰ a (keep f l) → List·Memᴰ a l) → List·Memᴰ a (cond b (x ∷ keep f l) (keep f l)) → List·Memᴰ a (x ∷ l)
-      go false ih n = List·Memᴰ·tail (ih n)
-      go true ih (List·Memᴰ·head e) = List·Memᴰ·head e
-      go true ih (List·Memᴰ·tail n) = List·Memᴰ·tail (ih n)
-
-  pub keep-true : (f : A → Bool) (l : List A) {a : A} → List·Memᴰ a (keep f l) → f a ≡ true
-  unfolding keep
-  keep-true f [] m = absurd (List·Memᴰ·not-nil m)
-  keep-true f (x ∷ l) {a} m = go (f x) refl (λ n. keep-true f l n) m
-    where
-      go : (b : Bool) → f x ≡ b → (List·Memᴰ a (keep f l) → f a ≡ true) → List·Memᴰ a (cond b (x ∷ keep f l) (keep f l)) → f a ≡ true
-      go false e ih n = ih n
-      go true e ih (List·Memᴰ·head d) = rw d e
-      go true e ih (List·Memᴰ·tail n) = ih n
-
-  pub in-keep : (f : A → Bool) {l : List A} {a : A} → List·Memᴰ a l → f a ≡ true → List·Memᴰ a (keep f l)
-  unfolding keep
-  in-keep f {a = a} (List·Memᴰ·head {x = x} {xs = l} d) t = go (f x) refl
-    where
-      go : (b : Bool) → f x ≡ b → List·Memᴰ a (cond b (x ∷ keep f l) (keep f l))
-      go true e = List·Memᴰ·head d
-      go false e = never (sym (rw d at t) ∙ e)
-  in-keep f {a = a} (List·Memᴰ·tail {x = x} {xs = l} n) t = go (f x) (in-keep f n t)
-    where
-      go : (b : Bool) → List·Memᴰ a (keep f l) → List·Memᴰ a (cond b (x ∷ keep f l) (keep f l))
-      go true ih = List·Memᴰ·tail ih
-      go false ih = ih
-
-  -- ---- order
-
   pub ordered-imp : {R S : A → A → Type 0} → ((x y : A) → R x y → S x y) → {l : List A} → Ordered R l → Ordered S l
   ordered-imp k none = none
   ordered-imp k (more {x = x} h o) = more (λ y n. k x y (h y n)) (ordered-imp k o)
 
-  pub ordered-keep : {R : A → A → Type 0} (f : A → Bool) {l : List A} → Ordered R l → Ordered R (keep f l)
-  unfolding keep
-  ordered-keep f none = none
-  ordered-keep {R} f (more {x = x} {l = l} h o) = go (f x) (ordered-keep f o)
-    where
-      go : (b : Bool) → Ordered R (keep f l) → Ordered R (cond b (x ∷ keep f l) (keep f l))
-      go true ih = more (λ y n. h y (keep-in f l n)) ih
-      go false ih = ih
+  -- a part at the front of an ordered list is ordered
+  pub ordered-part : {R : A → A → Type 0} (l s : List A) → Ordered R (l ++ s) → Ordered R l
+  ordered-part [] s o = none
+  ordered-part (x ∷ l) s (more h o) = more (λ y n. h y (Memᴰ·append-left s n)) (ordered-part l s o)
 
   pub ordered-append : {R : A → A → Type 0} {l s : List A} → Ordered R l → Ordered R s
       → ((x y : A) → List·Memᴰ x l → List·Memᴰ y s → R x y) → Ordered R (l ++ s)
@@ -70,6 +27,14 @@ module _ {A : Type 0} where
       go : (y : A) → List·Memᴰ y l ⊎ List·Memᴰ y s → R x y
       go y (inl n) = h y n
       go y (inr n) = k x y (List·Memᴰ·head refl) n
+
+-- different elements, and a function that keeps them apart
+pub distinct-map : {A B : Type 0} (f : A → B) {l : List A} → Ordered _≢_ l → ((x y : A) → List·Memᴰ x l → List·Memᴰ y l → f x ≡ f y → x ≡ y) → Ordered _≢_ (map f l)
+distinct-map f none u = none
+distinct-map {B = B} f (more {x = x} {l = l} h o) u = more late (distinct-map f o (λ a b m n. u a b (List·Memᴰ·tail m) (List·Memᴰ·tail n)))
+  where
+    late : (y : B) → List·Memᴰ y (map f l) → f x ≢ y
+    late y m e = let t = Memᴰ·of-map f l m in h (t .0) (t .1) (u x (t .0) (List·Memᴰ·head refl) (List·Memᴰ·tail (t .1)) (e ∙ sym (t .2)))
 
 -- ---- pigeonhole
 
