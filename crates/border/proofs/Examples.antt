@@ -25,7 +25,7 @@ use Rattle.border.specs.declared.Opened.the-variants.{Done, Refused}
 use Rattle.border.specs.Openings.{indices, within, isHanded, Opening, opening, openFrom, handedAfter, openings, handsOut, cellsOf}
 use Rattle.border.specs.Cells.{filled, raised}
 use Rattle.border.specs.Step.{afterStep, stepOf}
-use Rattle.border.specs.Open.{useRows, spent, afterOpen, accepted, openOf}
+use Rattle.border.specs.Open.{useRows, spent, after, usedFor, openOf}
 
 abbrev keys : List ℕ
 keys = 5 ∷ 11 ∷ 12 ∷ 13 ∷ 14 ∷ 15 ∷ 20 ∷ []
@@ -48,16 +48,16 @@ pub record Examples : Type 0 where
   pub step-10 : stepOf 2 2 keys W (0, 2) (2 ∷ 0 ∷ 0 ∷ []) ≡ afterStep (stepped.Opened 1 4) (2 ∷ 2 ∷ 2 ∷ [])
   pub step-9 : stepOf 2 2 keys W (1, 1) (2 ∷ 2 ∷ 2 ∷ []) ≡ afterStep stepped.Skipped (2 ∷ 2 ∷ 2 ∷ [])
   -- borders of two and of three cells, answer slices of 11 and of 12 cells
-  pub narrow : openOf 2 keys 7 W (take 2 old) old ≡ afterOpen (Refused 7 3) (take 2 old) old
-  pub short : openOf 2 keys 7 W (take 3 old) (take 11 old) ≡ afterOpen (Refused 8 12) (3 ∷ 3 ∷ 3 ∷ []) (take 11 old)
-  pub done : openOf 2 keys 7 W (take 4 old) old ≡ afterOpen (Done 4 7) (3 ∷ 3 ∷ 3 ∷ 93 ∷ []) (7 ∷ 0 ∷ 1 ∷ 10 ∷ 1 ∷ 4 ∷ 17 ∷ 5 ∷ 1 ∷ 21 ∷ 6 ∷ 1 ∷ 102 ∷ [])
+  pub narrow : openOf 2 keys 7 W (take 2 old) old ≡ after (Refused 7 3) (take 2 old) old
+  pub short : openOf 2 keys 7 W (take 3 old) (take 11 old) ≡ after (Refused 8 12) (3 ∷ 3 ∷ 3 ∷ []) (take 11 old)
+  pub done : openOf 2 keys 7 W (take 4 old) old ≡ after (Done 4 7) (3 ∷ 3 ∷ 3 ∷ 93 ∷ []) (7 ∷ 0 ∷ 1 ∷ 10 ∷ 1 ∷ 4 ∷ 17 ∷ 5 ∷ 1 ∷ 21 ∷ 6 ∷ 1 ∷ 102 ∷ [])
   -- refusals in their order: the map's, then the window's, then the border's
-  pub map-first : openOf 2 (take 6 keys) 6 (window 0 0 0 0) [] [] ≡ afterOpen (Refused 5 6) [] []
-  pub window-next : openOf 2 keys 7 (window 2 0 3 1) [] [] ≡ afterOpen (Refused 6 0) [] []
-  pub large : openOf 13 [] 7 (window 0 0 0 0) [] [] ≡ afterOpen (Refused 1 0) [] []
+  pub map-first : openOf 2 (take 6 keys) 6 (window 0 0 0 0) [] [] ≡ after (Refused 5 6) [] []
+  pub window-next : openOf 2 keys 7 (window 2 0 3 1) [] [] ≡ after (Refused 6 0) [] []
+  pub large : openOf 13 [] 7 (window 0 0 0 0) [] [] ≡ after (Refused 1 0) [] []
 
 pub examples : Examples
-unfolding answer wrongCount sizeRows overwrite upFrom spreadTo spread place pixelKey blockKey from formOf beyond outside windowRows keep floor lies fits greatest exponent corner across rows isCorner maximal keyOf keysOf spans.malformed spans.exponent spans.start spans.end spans.holds spans.overlap recordRows mapRows before howMany recordOf exponentOf runOf any indices within isHanded opening openFrom handedAfter openings handsOut cellsOf filled raised stepOf useRows spent accepted openOf
+unfolding answer wrongCount sizeRows overwrite upFrom spreadTo spread place pixelKey blockKey from formOf beyond outside windowRows keep floor lies fits greatest exponent corner across rows isCorner maximal keyOf keysOf spans.malformed spans.exponent spans.start spans.end spans.holds spans.overlap recordRows mapRows before howMany recordOf exponentOf runOf any indices within isHanded opening openFrom handedAfter openings handsOut cellsOf filled raised stepOf useRows spent usedFor openOf
 examples = record {
   single = refl;
   step-7 = refl;

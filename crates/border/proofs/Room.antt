@@ -10,9 +10,10 @@ use Rattle.answers.specs.Rows.{verdict}
 use Rattle.window.specs.declared.Window.{Window}
 use Rattle.window.specs.Window.{Inside}
 use Rattle.map.specs.Sound.{Follow}
+use Rattle.border.specs.declared.Opened.{Opened}
 use Rattle.border.specs.declared.Opened.the-variants.{Done, Refused}
 use Rattle.border.specs.Openings.{Opening, openings, handsOut, cellsOf}
-use Rattle.border.specs.Open.{useRows, AfterOpen, afterOpen, accepted, openOf}
+use Rattle.border.specs.Open.{useRows, After, after, accepted, openOf}
 use Rattle.border.proofs.Tables.{use-known, open-done}
 use Rattle.border.proofs.Fold.{cells-length}
 use Rattle.border.proofs.Once.{hands-some, records-most}
@@ -33,11 +34,11 @@ openings-fit m keys classes W border e = let U = use-known m keys classes W bord
 -- so 8 is not given
 pub roomy : (m : ℕ) (keys : List ℕ) (classes : ℕ) (W : Window) (border out : List ℕ) {n p : ℕ} {border′ out′ : List ℕ}
     → verdict (useRows m keys classes W (length border)) ≡ verdict-of.Passed → 3 * length keys ≤ length out
-    → openOf m keys classes W border out ≡ afterOpen (Refused n p) border′ out′ → ⊥
+    → openOf m keys classes W border out ≡ after (Refused n p) border′ out′ → ⊥
 unfolding accepted
 roomy m keys classes W border out {n} {p} e l r =
     let os = openings m m keys W in
     let done = open-done m keys classes W border out e (omega (arith, openings-fit m keys classes W (length border) e .0)) in
-    let d : Refused n p ≡ Done (length os) (handsOut os) = ap (λ (x : AfterOpen). x .answer) (sym r ∙ done) in
+    let d : Refused n p ≡ Done (length os) (handsOut os) = ap (λ (x : After Opened). x .answer) (sym r ∙ done) in
     let z : _≡_ {A = ℕ} 0 1 = cc in
     omega arith

@@ -17,7 +17,7 @@ ghost use Rattle.border.specs.Openings.{openings};
 ghost use Rattle.border.specs.Cells.{filled, raised, entered};
 ghost use Rattle.border.specs.Step.{Usable, Ready, Step};
 ghost use Rattle.border.specs.Found.{Finds};
-ghost use Rattle.border.specs.Open.{Passed, useRows, afterOpen, accepted, openOf};
+ghost use Rattle.border.specs.Open.{Passed, useRows, after, accepted, openOf};
 
 // What a step answers: the block was skipped, or opened with so many records from the first on.
 pub enum Stepped {
@@ -225,7 +225,7 @@ fn hand_out(
     out: &mut [u32],
 ) -> Opened
     requires { ⌜ (now table ≡ spreads) × Usable m m (now keys) window (length (now border)) × (3 * length (openings m m (now keys) window) ≤ length (now out)) ⌝ }
-    ensures { λ r. ⌜ afterOpen r (now (border .exit)) (now (out .exit)) ≡ accepted m (now (keys .entry)) window (now (border .entry)) (now (out .entry)) ⌝ }
+    ensures { λ r. ⌜ after r (now (border .exit)) (now (out .exit)) ≡ accepted m (now (keys .entry)) window (now (border .entry)) (now (out .entry)) ⌝ }
 {
     let totals = pass(table, m, m, keys, window, border, out);
     Opened::Done {
@@ -268,7 +268,7 @@ pub fn open(
     border: &mut [u16],
     out: &mut [u32],
 ) -> Opened
-    ensures { λ r. ⌜ afterOpen r (now (border .exit)) (now (out .exit)) ≡ openOf m (now (keys .entry)) (length (now (classes .entry))) window (now (border .entry)) (now (out .entry)) ⌝ }
+    ensures { λ r. ⌜ after r (now (border .exit)) (now (out .exit)) ≡ openOf m (now (keys .entry)) (length (now (classes .entry))) window (now (border .entry)) (now (out .entry)) ⌝ }
 {
     let verdict = usable(m, keys, classes, window, border.len());
     if let Verdict::Refused { number, place } = verdict {

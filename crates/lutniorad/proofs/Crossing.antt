@@ -7,17 +7,15 @@ use lib.ListN.{length}
 use Rattle.window.specs.declared.Window.{Window}
 use Rattle.window.specs.declared.Decomposed.{Decomposed}
 use Rattle.window.specs.Decompose.{AfterDecompose, afterDecompose, decomposeOf}
-use Rattle.border.specs.declared.Opened.{Opened}
-use Rattle.border.specs.Open.{AfterOpen, afterOpen, openOf}
+use Rattle.border.specs.Open.{After, after}
 use Rattle.query.specs.declared.Existence.{Existence}
-use Rattle.query.specs.declared.Queried.{Queried}
-use Rattle.query.specs.Query.{AfterExist, afterExist, existOf, AfterQuery, afterQuery, reportOf, selectOf}
+use Rattle.query.specs.Query.{AfterExist, afterExist, existOf}
 use Rattle.house.specs.declared.Reading.{Reading}
 use Rattle.house.specs.declared.Writing.{Writing}
 use Rattle.house.specs.File.{AfterRead, afterRead, readOf, AfterWrite, afterWrite, writeOf}
 use Rattle.lutniorad.specs.declared.Answer.{Answer}
-use Rattle.lutniorad.specs.Numbers.{ofDecomposed, ofOpened, ofExistence, ofQueried, ofReading, ofWriting}
-use Rattle.lutniorad.specs.Calls.{Decompose, Open, Exist, Report, Select, Read, Write}
+use Rattle.lutniorad.specs.Numbers.{ofDecomposed, ofExistence, ofReading, ofWriting}
+use Rattle.lutniorad.specs.Calls.{Decompose, Used, Exist, Read, Write}
 
 pub decompose-call : {m : ℕ} {W : Window} {out out′ : List ℕ} {a : Answer} {r : Decomposed}
     → a ≡ ofDecomposed r → afterDecompose r out′ ≡ decomposeOf m W out → Decompose m W out a out′
@@ -26,12 +24,11 @@ decompose-call e h = record {
   out-after = ap (λ (x : AfterDecompose). x .out) h;
 }
 
-pub open-call : {m : ℕ} {keys classes : List ℕ} {W : Window} {border out border′ out′ : List ℕ} {a : Answer} {r : Opened}
-    → a ≡ ofOpened r → afterOpen r border′ out′ ≡ openOf m keys (length classes) W border out → Open m keys classes W border out a border′ out′
-open-call e h = record {
-  answer = e ∙ ap (λ (x : AfterOpen). ofOpened (x .answer)) h;
-  border-after = ap (λ (x : AfterOpen). x .border) h;
-  out-after = ap (λ (x : AfterOpen). x .out) h;
+pub used-call : {A : Type 0} (say : A → Answer) {o : After A} {border′ out′ : List ℕ} {a : Answer} {r : A} → a ≡ say r → after r border′ out′ ≡ o → Used say o a border′ out′
+used-call {A} say e h = record {
+  answer = e ∙ ap (λ (x : After A). say (x .answer)) h;
+  border-after = ap (λ (x : After A). x .border) h;
+  out-after = ap (λ (x : After A). x .out) h;
 }
 
 pub exist-call : {m : ℕ} {keys classes : List ℕ} {W : Window} {class : ℕ} {border border′ : List ℕ} {a : Answer} {r : Existence}
@@ -39,22 +36,6 @@ pub exist-call : {m : ℕ} {keys classes : List ℕ} {W : Window} {class : ℕ} 
 exist-call e h = record {
   answer = e ∙ ap (λ (x : AfterExist). ofExistence (x .answer)) h;
   border-after = ap (λ (x : AfterExist). x .border) h;
-}
-
-pub report-call : {m : ℕ} {keys classes : List ℕ} {W : Window} {border totals border′ totals′ : List ℕ} {a : Answer} {r : Queried}
-    → a ≡ ofQueried r → afterQuery r border′ totals′ ≡ reportOf m keys classes W border totals → Report m keys classes W border totals a border′ totals′
-report-call e h = record {
-  answer = e ∙ ap (λ (x : AfterQuery). ofQueried (x .answer)) h;
-  border-after = ap (λ (x : AfterQuery). x .border) h;
-  totals-after = ap (λ (x : AfterQuery). x .out) h;
-}
-
-pub select-call : {m : ℕ} {keys classes : List ℕ} {W : Window} {class : ℕ} {border out border′ out′ : List ℕ} {a : Answer} {r : Queried}
-    → a ≡ ofQueried r → afterQuery r border′ out′ ≡ selectOf m keys classes W class border out → Select m keys classes W class border out a border′ out′
-select-call e h = record {
-  answer = e ∙ ap (λ (x : AfterQuery). ofQueried (x .answer)) h;
-  border-after = ap (λ (x : AfterQuery). x .border) h;
-  out-after = ap (λ (x : AfterQuery). x .out) h;
 }
 
 pub read-call : {file keys classes keys′ classes′ : List ℕ} {a : Answer} {r : Reading}

@@ -24,11 +24,11 @@ use Rattle.map.specs.Records.{recordOf}
 use Rattle.map.specs.Runs.{runOf}
 use Rattle.border.specs.Openings.{indices, within, isHanded, opening, openFrom, openings, handsOut}
 use Rattle.border.specs.Found.{made}
-use Rattle.border.specs.Open.{useRows, spent}
+use Rattle.border.specs.Open.{useRows, spent, after, usedFor}
 use Rattle.query.specs.declared.Queried.the-variants.{Done}
 use Rattle.query.specs.Classes.{hasClass, total, totals}
 use Rattle.query.specs.Select.{around, inside, selected, allSelected, selection}
-use Rattle.query.specs.Query.{afterQuery, queryOf, reportOf, selectOf}
+use Rattle.query.specs.Query.{reportOf, selectOf}
 use Rattle.numbers.specs.Numbers.{bytes, bytesOf}
 use Rattle.house.specs.File.{header, fileOf}
 
@@ -51,10 +51,10 @@ pub record Table : Type 0 where
   pub p1-header : take 20 (fileOf 2 keys classes) ≡ bytesOf (55 ∷ 2 ∷ 7 ∷ 20 ∷ 48 ∷ [])
   pub p1-openings : openings 2 2 keys W ≡ made 7 0 1 ∷ made 10 1 4 ∷ made 17 5 1 ∷ made 21 6 1 ∷ []
   pub p1-records : handsOut (openings 2 2 keys W) ≡ 7
-  pub p1-counts : reportOf 2 keys classes W (old 4) (old 257) ≡ afterQuery (Done 9) (3 ∷ 3 ∷ 3 ∷ 99 ∷ []) (0 ∷ 4 ∷ 4 ∷ 1 ∷ replicate 252 0 ++ (99 ∷ []))
+  pub p1-counts : reportOf 2 keys classes W (old 4) (old 257) ≡ after (Done 9) (3 ∷ 3 ∷ 3 ∷ 99 ∷ []) (0 ∷ 4 ∷ 4 ∷ 1 ∷ replicate 252 0 ++ (99 ∷ []))
   pub p2 : keysOf 2 2 W ≡ 7 ∷ 10 ∷ 9 ∷ 17 ∷ 21 ∷ 22 ∷ []
-  pub p3 : selectOf 2 keys classes W 1 (old 3) (old 5) ≡ afterQuery (Done 4) (3 ∷ 3 ∷ 3 ∷ []) (7 ∷ 14 ∷ 9 ∷ 17 ∷ 99 ∷ [])
-  pub p4 : selectOf 2 keys classes W 2 (old 3) (old 4) ≡ afterQuery (Done 4) (3 ∷ 3 ∷ 3 ∷ []) (11 ∷ 12 ∷ 21 ∷ 22 ∷ [])
+  pub p3 : selectOf 2 keys classes W 1 (old 3) (old 5) ≡ after (Done 4) (3 ∷ 3 ∷ 3 ∷ []) (7 ∷ 14 ∷ 9 ∷ 17 ∷ 99 ∷ [])
+  pub p4 : selectOf 2 keys classes W 2 (old 3) (old 4) ≡ after (Done 4) (3 ∷ 3 ∷ 3 ∷ []) (11 ∷ 12 ∷ 21 ∷ 22 ∷ [])
   pub p5 : openings 2 2 keys (window 0 0 4 4) ≡ made 0 0 7 ∷ []
   pub p6 : openings 0 0 (0 ∷ []) (window 0 0 1 1) ≡ made 0 0 1 ∷ []
   pub p7 : pixelKey 2 1 2 ≡ 13
@@ -67,7 +67,7 @@ pub record Table : Type 0 where
   pub p12-accepted : verdict (useRows 2 keys 7 (window 2 0 2 1) 1) ≡ verdict-of.Passed
 
 pub table : Table
-unfolding answer wrongCount sizeRows overwrite upFrom spreadTo spread place pixelKey blockKey from formOf beyond outside windowRows keep floor lies fits greatest exponent corner across rows isCorner maximal keyOf keysOf spans.malformed spans.exponent spans.start spans.end spans.holds spans.overlap recordRows mapRows checkOf before howMany recordOf runOf any indices within isHanded opening openFrom openings handsOut useRows spent hasClass total totals around inside selected allSelected selection queryOf reportOf selectOf bytes bytesOf header fileOf
+unfolding answer wrongCount sizeRows overwrite upFrom spreadTo spread place pixelKey blockKey from formOf beyond outside windowRows keep floor lies fits greatest exponent corner across rows isCorner maximal keyOf keysOf spans.malformed spans.exponent spans.start spans.end spans.holds spans.overlap recordRows mapRows checkOf before howMany recordOf runOf any indices within isHanded opening openFrom openings handsOut useRows spent hasClass total totals around inside selected allSelected selection usedFor reportOf selectOf bytes bytesOf header fileOf
 table = record {
   p1-length = refl;
   p1-header = refl;

@@ -20,12 +20,12 @@ use Rattle.map.specs.Spans as spans
 use Rattle.map.specs.Check.{recordRows, mapRows}
 use Rattle.map.specs.Records.{recordOf}
 use Rattle.border.specs.Openings.{within}
-use Rattle.border.specs.Open.{useRows, spent}
+use Rattle.border.specs.Open.{useRows, spent, after, usedFor}
 use Rattle.query.specs.declared.Existence.the-variants as existence
 use Rattle.query.specs.declared.Queried.the-variants.{Done, Refused}
 use Rattle.query.specs.Classes.{hasClass, exists, total, totals}
 use Rattle.query.specs.Select.{around, inside, selected, allSelected, selection}
-use Rattle.query.specs.Query.{afterExist, existing, existOf, afterQuery, queryOf, reportOf, selectOf}
+use Rattle.query.specs.Query.{afterExist, existing, existOf, reportOf, selectOf}
 
 abbrev keys : List ℕ
 keys = 5 ∷ 11 ∷ 12 ∷ 13 ∷ 14 ∷ 15 ∷ 20 ∷ []
@@ -52,18 +52,18 @@ pub record Examples : Type 0 where
   -- a record that sticks out of the window counts with its part inside: one pixel of four
   pub part : take 9 (totals 2 keys classes (window 0 1 1 1)) ≡ 0 ∷ 1 ∷ 0 ∷ 0 ∷ 0 ∷ 0 ∷ 0 ∷ 0 ∷ 0 ∷ []
   -- 8 spends the border and leaves the slice; a slice of no cells is enough for no key
-  pub report-short : reportOf 2 keys classes W (old 3) (old 255) ≡ afterQuery (Refused 8 256) (3 ∷ 3 ∷ 3 ∷ []) (old 255)
-  pub select-short : selectOf 2 keys classes W 1 (old 3) (old 3) ≡ afterQuery (Refused 8 4) (3 ∷ 3 ∷ 3 ∷ []) (old 3)
-  pub select-none : selectOf 2 keys classes W 4 (old 3) [] ≡ afterQuery (Done 0) (3 ∷ 3 ∷ 3 ∷ []) []
+  pub report-short : reportOf 2 keys classes W (old 3) (old 255) ≡ after (Refused 8 256) (3 ∷ 3 ∷ 3 ∷ []) (old 255)
+  pub select-short : selectOf 2 keys classes W 1 (old 3) (old 3) ≡ after (Refused 8 4) (3 ∷ 3 ∷ 3 ∷ []) (old 3)
+  pub select-none : selectOf 2 keys classes W 4 (old 3) [] ≡ after (Done 0) (3 ∷ 3 ∷ 3 ∷ []) []
   -- 7 comes before 8 and writes nothing, 6 before 7
-  pub narrow : reportOf 2 keys classes W (old 2) [] ≡ afterQuery (Refused 7 3) (old 2) []
-  pub outside-first : selectOf 2 keys classes (window 2 0 3 1) 1 [] [] ≡ afterQuery (Refused 6 0) [] []
+  pub narrow : reportOf 2 keys classes W (old 2) [] ≡ after (Refused 7 3) (old 2) []
+  pub outside-first : selectOf 2 keys classes (window 2 0 3 1) 1 [] [] ≡ after (Refused 6 0) [] []
   -- a block that is a record of the class is listed once; one of another class is not
   pub own : selected 2 keys classes 3 13 ≡ 13 ∷ []
   pub other : selected 2 keys classes 1 13 ≡ []
 
 pub examples : Examples
-unfolding answer wrongCount sizeRows overwrite upFrom spreadTo spread place pixelKey blockKey from formOf beyond outside windowRows keep floor lies fits greatest exponent corner across rows isCorner maximal keyOf keysOf spans.malformed spans.exponent spans.start spans.end spans.holds spans.overlap recordRows mapRows before howMany recordOf any within useRows spent hasClass exists total totals around inside selected allSelected selection existing existOf queryOf reportOf selectOf
+unfolding answer wrongCount sizeRows overwrite upFrom spreadTo spread place pixelKey blockKey from formOf beyond outside windowRows keep floor lies fits greatest exponent corner across rows isCorner maximal keyOf keysOf spans.malformed spans.exponent spans.start spans.end spans.holds spans.overlap recordRows mapRows before howMany recordOf any within useRows spent hasClass exists total totals around inside selected allSelected selection existing existOf usedFor reportOf selectOf
 examples = record {
   yes = refl;
   no = refl;

@@ -6,18 +6,18 @@ use mathlib.Core.List.{List, []}
 use Prim.Native.Nat.{ℕ, _*_, _≤_, _<_}
 use native.Mathlib.Omega.{arith}
 use lib.ListN.{length}
-use borrow.Author.Tests.{lt-ltb, le-ltb}
 use Rattle.answers.specs.declared.Verdict.the-variants as verdict-of
 use Rattle.answers.specs.Rows.{verdict}
 use Rattle.answers.specs.Cells.{overwrite}
-use Rattle.answers.proofs.Laws.{answer-none, row-held, row-clear, on-passed, on-refused}
+use Rattle.answers.proofs.Laws.{on-passed, on-refused}
 use Rattle.window.specs.declared.Window.{Window}
-use Rattle.border.specs.Open.{useRows, spent}
+use Rattle.border.specs.Open.{useRows, spent, after}
+use Rattle.border.proofs.Laws.{used-refused, used-short, used-done}
 use Rattle.query.specs.declared.Existence.the-variants as existence
 use Rattle.query.specs.declared.Queried.the-variants.{Done, Refused}
 use Rattle.query.specs.Classes.{exists, totals}
 use Rattle.query.specs.Select.{selection, Listed}
-use Rattle.query.specs.Query.{afterExist, existing, existOf, afterQuery, queryOf, reportOf, selectOf}
+use Rattle.query.specs.Query.{afterExist, existing, existOf, reportOf, selectOf}
 use Rattle.query.proofs.Totals.{totals-length}
 use Rattle.query.proofs.Listing.{listed-count, listed-all}
 
@@ -42,52 +42,33 @@ module _ (m : ℕ) (keys classes : List ℕ) (W : Window) (class : ℕ) (border 
 
 -- ---- report and select
 
-module _ (m : ℕ) (keys : List ℕ) (classes : ℕ) (W : Window) (value : ℕ) (cells border out : List ℕ) where
-  pub query-refused : {n p : ℕ} → verdict (useRows m keys classes W (length border)) ≡ verdict-of.Refused n p → queryOf m keys classes W value cells border out ≡ afterQuery (Refused n p) border out
-  unfolding queryOf
-  query-refused e = on-refused _ (useRows m keys classes W (length border)) _ e
-
-  module _ (e : verdict (useRows m keys classes W (length border)) ≡ verdict-of.Passed) where
-    pub query-short : length out < length cells → queryOf m keys classes W value cells border out ≡ afterQuery (Refused 8 (length cells)) (spent W border) out
-    unfolding queryOf
-    query-short l =
-        on-passed _ (useRows m keys classes W (length border)) _ e
-        ∙ row-held (λ n p. afterQuery (Refused n p) (spent W border) out) 8 _ [] _ (lt-ltb (length out) _ l)
-
-    pub query-done : length cells ≤ length out → queryOf m keys classes W value cells border out ≡ afterQuery (Done value) (spent W border) (overwrite cells out)
-    unfolding queryOf
-    query-done l =
-        on-passed _ (useRows m keys classes W (length border)) _ e
-        ∙ row-clear (λ n p. afterQuery (Refused n p) (spent W border) out) 8 _ [] _ (le-ltb (length out) _ l)
-        ∙ answer-none (λ n p. afterQuery (Refused n p) (spent W border) out) _
-
 module _ (m : ℕ) (keys classes : List ℕ) (W : Window) (border out : List ℕ) where
-  pub report-refused : {n p : ℕ} → verdict (useRows m keys (length classes) W (length border)) ≡ verdict-of.Refused n p → reportOf m keys classes W border out ≡ afterQuery (Refused n p) border out
+  pub report-refused : {n p : ℕ} → verdict (useRows m keys (length classes) W (length border)) ≡ verdict-of.Refused n p → reportOf m keys classes W border out ≡ after (Refused n p) border out
   unfolding reportOf
-  report-refused e = query-refused m keys (length classes) W _ _ border out e
+  report-refused e = used-refused Refused _ _ m keys (length classes) W border out e
 
-  module _ (e : verdict (useRows m keys (length classes) W (length border)) ≡ verdict-of.Passed) {after : List ℕ} (d : after ≡ spent W border) where
-    pub report-short : length out < 256 → afterQuery (Refused 8 256) after out ≡ reportOf m keys classes W border out
+  module _ (e : verdict (useRows m keys (length classes) W (length border)) ≡ verdict-of.Passed) {left : List ℕ} (d : left ≡ spent W border) where
+    pub report-short : length out < 256 → after (Refused 8 256) left out ≡ reportOf m keys classes W border out
     unfolding reportOf
     report-short l =
         let n = totals-length m keys classes W in
-        rw d (sym (rw n at (query-short m keys (length classes) W (W .h * W .w) (totals m keys classes W) border out e (rw n l))))
+        rw d (sym (rw n at (used-short Refused (Done (W .h * W .w)) (totals m keys classes W) m keys (length classes) W border out e (rw n l))))
 
-    pub report-done : {cells out′ : List ℕ} → 256 ≤ length out → cells ≡ totals m keys classes W → out′ ≡ overwrite cells out → afterQuery (Done (W .h * W .w)) after out′ ≡ reportOf m keys classes W border out
+    pub report-done : {cells out′ : List ℕ} → 256 ≤ length out → cells ≡ totals m keys classes W → out′ ≡ overwrite cells out → after (Done (W .h * W .w)) left out′ ≡ reportOf m keys classes W border out
     unfolding reportOf
-    report-done l t o = rw (d, o, t) (sym (query-done m keys (length classes) W (W .h * W .w) (totals m keys classes W) border out e (rw (totals-length m keys classes W) l)))
+    report-done l t o = rw (d, o, t) (sym (used-done Refused (Done (W .h * W .w)) (totals m keys classes W) m keys (length classes) W border out e (rw (totals-length m keys classes W) l)))
 
 module _ (m : ℕ) (keys classes : List ℕ) (W : Window) (class : ℕ) (border out : List ℕ) where
-  pub select-refused : {n p : ℕ} → verdict (useRows m keys (length classes) W (length border)) ≡ verdict-of.Refused n p → selectOf m keys classes W class border out ≡ afterQuery (Refused n p) border out
+  pub select-refused : {n p : ℕ} → verdict (useRows m keys (length classes) W (length border)) ≡ verdict-of.Refused n p → selectOf m keys classes W class border out ≡ after (Refused n p) border out
   unfolding selectOf
-  select-refused e = query-refused m keys (length classes) W _ _ border out e
+  select-refused e = used-refused Refused _ _ m keys (length classes) W border out e
 
-  module _ (e : verdict (useRows m keys (length classes) W (length border)) ≡ verdict-of.Passed) {after : List ℕ} (d : after ≡ spent W border) where
-    pub select-short : {needed : ℕ} → needed ≡ length (selection m m keys classes W class) → length out < needed → afterQuery (Refused 8 needed) after out ≡ selectOf m keys classes W class border out
+  module _ (e : verdict (useRows m keys (length classes) W (length border)) ≡ verdict-of.Passed) {left : List ℕ} (d : left ≡ spent W border) where
+    pub select-short : {needed : ℕ} → needed ≡ length (selection m m keys classes W class) → length out < needed → after (Refused 8 needed) left out ≡ selectOf m keys classes W class border out
     unfolding selectOf
-    select-short n l = rw (d, n) (sym (query-short m keys (length classes) W _ _ border out e (omega (arith, n))))
+    select-short n l = rw (d, n) (sym (used-short Refused _ _ m keys (length classes) W border out e (omega (arith, n))))
 
     pub select-done : {value : ℕ} {lent out′ : List ℕ} → lent ≡ out → Listed 0 (selection m m keys classes W class) lent value out′ → length (selection m m keys classes W class) ≤ length out
-        → afterQuery (Done value) after out′ ≡ selectOf m keys classes W class border out
+        → after (Done value) left out′ ≡ selectOf m keys classes W class border out
     unfolding selectOf
-    select-done same L l = rw (d, listed-count L, listed-all (rw same at L) l) (sym (query-done m keys (length classes) W _ _ border out e l))
+    select-done same L l = rw (d, listed-count L, listed-all (rw same at L) l) (sym (used-done Refused _ _ m keys (length classes) W border out e l))

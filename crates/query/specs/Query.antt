@@ -1,14 +1,12 @@
 -- The three queries: the answer and every lent cell, on every input.
 -- Assumes nothing.
 use mathlib.Core.Bool.{cond}
-use mathlib.Core.List.{List, [], _∷_}
+use mathlib.Core.List.{List}
 use Prim.Native.Nat.{ℕ, _*_}
-use lib.Dec.{ltb}
 use lib.ListN.{length}
-use Rattle.answers.specs.Rows.{row, answer}
-use Rattle.answers.specs.Cells.{overwrite}
+use Rattle.answers.specs.Rows.{answer}
 use Rattle.window.specs.declared.Window.{Window}
-use Rattle.border.specs.Open.{useRows, spent}
+use Rattle.border.specs.Open.{useRows, spent, After, usedFor}
 use Rattle.query.specs.declared.Existence.{Existence}
 use Rattle.query.specs.declared.Existence.the-variants as existence
 use Rattle.query.specs.declared.Queried.{Queried}
@@ -36,23 +34,8 @@ existOf m keys classes W class border =
 
 -- ---- report and select
 
-pub record AfterQuery : Type 0 where
-  pub answer : Queried
-  pub border : List ℕ
-  pub out : List ℕ
+unfoldable pub reportOf : ℕ → List ℕ → List ℕ → Window → List ℕ → List ℕ → After Queried
+reportOf m keys classes W = usedFor Refused (Done (W .h * W .w)) (totals m keys classes W) m keys (length classes) W
 
-abbrev pub afterQuery : Queried → List ℕ → List ℕ → AfterQuery
-afterQuery answer border out = record { answer = answer; border = border; out = out }
-
--- a query that answers `value` and writes `cells`. Refusals 1 to 7 leave both slices as they were. 8 is given when the border is spent already; it leaves the answer slice as it was
-unfoldable pub queryOf : ℕ → List ℕ → ℕ → Window → ℕ → List ℕ → List ℕ → List ℕ → AfterQuery
-queryOf m keys classes W value cells border out =
-    answer (λ number place. afterQuery (Refused number place) border out) (useRows m keys classes W (length border))
-    (answer (λ number place. afterQuery (Refused number place) (spent W border) out) (row (ltb (length out) (length cells)) 8 (length cells) ∷ [])
-    (afterQuery (Done value) (spent W border) (overwrite cells out)))
-
-unfoldable pub reportOf : ℕ → List ℕ → List ℕ → Window → List ℕ → List ℕ → AfterQuery
-reportOf m keys classes W = queryOf m keys (length classes) W (W .h * W .w) (totals m keys classes W)
-
-unfoldable pub selectOf : ℕ → List ℕ → List ℕ → Window → ℕ → List ℕ → List ℕ → AfterQuery
-selectOf m keys classes W class = queryOf m keys (length classes) W (length (selection m m keys classes W class)) (selection m m keys classes W class)
+unfoldable pub selectOf : ℕ → List ℕ → List ℕ → Window → ℕ → List ℕ → List ℕ → After Queried
+selectOf m keys classes W class = let ks = selection m m keys classes W class in usedFor Refused (Done (length ks)) ks m keys (length classes) W

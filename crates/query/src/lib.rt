@@ -12,11 +12,11 @@ ghost use Rattle.answers.specs.Cells.{overwrite};
 ghost use Rattle.key.specs.Spread.{spreads};
 ghost use Rattle.window.specs.Window.{In, Inside};
 ghost use Rattle.border.specs.Step.{Usable};
-ghost use Rattle.border.specs.Open.{spent};
+ghost use Rattle.border.specs.Open.{spent, after};
 ghost use Rattle.query.specs.Classes.{classed, totals};
 ghost use Rattle.query.specs.Gather.{shared, clipped, area, gathered, Part, Hands, Gathering};
 ghost use Rattle.query.specs.Select.{pickedRun, picked, selection, keyed, Listed};
-ghost use Rattle.query.specs.Query.{afterExist, existing, existOf, afterQuery, reportOf, selectOf};
+ghost use Rattle.query.specs.Query.{afterExist, existing, existOf, reportOf, selectOf};
 
 // What exist answers.
 pub enum Existence {
@@ -231,7 +231,7 @@ pub fn report(
     border: &mut [u16],
     out: &mut [u32],
 ) -> Queried
-    ensures { λ r. ⌜ afterQuery r (now (border .exit)) (now (out .exit)) ≡ reportOf m (now (keys .entry)) (now (classes .entry)) window (now (border .entry)) (now (out .entry)) ⌝ }
+    ensures { λ r. ⌜ after r (now (border .exit)) (now (out .exit)) ≡ reportOf m (now (keys .entry)) (now (classes .entry)) window (now (border .entry)) (now (out .entry)) ⌝ }
 {
     let verdict = border::usable(m, keys, classes, window, border.len());
     if let Verdict::Refused { number, place } = verdict {
@@ -359,7 +359,7 @@ pub fn select(
     border: &mut [u16],
     out: &mut [u32],
 ) -> Queried
-    ensures { λ r. ⌜ afterQuery r (now (border .exit)) (now (out .exit)) ≡ selectOf m (now (keys .entry)) (now (classes .entry)) window class (now (border .entry)) (now (out .entry)) ⌝ }
+    ensures { λ r. ⌜ after r (now (border .exit)) (now (out .exit)) ≡ selectOf m (now (keys .entry)) (now (classes .entry)) window class (now (border .entry)) (now (out .entry)) ⌝ }
 {
     let verdict = border::usable(m, keys, classes, window, border.len());
     if let Verdict::Refused { number, place } = verdict {

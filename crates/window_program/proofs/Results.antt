@@ -18,13 +18,13 @@ use Rattle.window.specs.declared.Window.{Window}
 use Rattle.border.specs.Openings.{openings, handsOut, cellsOf}
 use Rattle.border.specs.declared.Opened.{Opened}
 use Rattle.border.specs.declared.Opened.the-variants as opened
-use Rattle.border.specs.Open.{useRows, afterOpen, openOf}
+use Rattle.border.specs.Open.{useRows, after, openOf}
 use Rattle.border.specs.Promises.{Answered}
 use Rattle.border.proofs.Laws.{openings-fit, roomy, answered}
 use Rattle.query.specs.Classes.{totals}
 use Rattle.query.specs.declared.Queried.{Queried}
 use Rattle.query.specs.declared.Queried.the-variants as queried
-use Rattle.query.specs.Query.{afterQuery, reportOf}
+use Rattle.query.specs.Query.{reportOf}
 use Rattle.query.proofs.Laws.{Counted, counted, uncounted, totals-length}
 use Rattle.text.proofs.Laws.{line-most}
 use Rattle.window_program.specs.Text.{refusalLine, foundLines, foundBy, resultOf, answerOf}
@@ -57,10 +57,10 @@ module _ (m : ℕ) (keys classes : List ℕ) (W : Window) where
 
 -- ---- what the calls answer
 
-module _ (m : ℕ) (keys classes : List ℕ) (W : Window) (border out : List ℕ) {r : Queried} {border′ out′ : List ℕ} (e : afterQuery r border′ out′ ≡ reportOf m keys classes W border out)
+module _ (m : ℕ) (keys classes : List ℕ) (W : Window) (border out : List ℕ) {r : Queried} {border′ out′ : List ℕ} (e : after r border′ out′ ≡ reportOf m keys classes W border out)
     (wide : length border ≡ 4096) (room : length out ≡ 256) where
-  told : {a : Queried} → r ≡ a → reportOf m keys classes W border out ≡ afterQuery a border′ out′
-  told d = sym e ∙ ap (λ (x : Queried). afterQuery x border′ out′) d
+  told : {a : Queried} → r ≡ a → reportOf m keys classes W border out ≡ after a border′ out′
+  told d = sym e ∙ ap (λ (x : Queried). after x border′ out′) d
 
   -- report refuses, with the number and place that are said
   pub report-refused : {n p : ℕ} → r ≡ queried.Refused n p → refusalLine n p ≡ resultOf m keys classes W
@@ -71,7 +71,7 @@ module _ (m : ℕ) (keys classes : List ℕ) (W : Window) (border out : List ℕ
 
   module _ {value : ℕ} (d : r ≡ queried.Done value) where
     C : Counted m keys classes W (length border) value out′
-    C = counted m keys classes W border out (omega arith) (told d)
+    C = counted m keys classes W border out (told d)
 
     pub report-passed : {n : ℕ} → n ≡ length border → verdict (useRows m keys (length classes) W n) ≡ Passed
     report-passed l = rw l (C .passed)
@@ -83,15 +83,15 @@ module _ (m : ℕ) (keys classes : List ℕ) (W : Window) (border out : List ℕ
         let list : out′ ≡ totals m keys classes W = sym (take-all 256 out′ (omega arith)) ∙ C .list in
         rw (list, C .pixels) (sym (on-passed refusalLine (useRows m keys (length classes) W 4096) _ (rw wide at (C .passed))))
 
-module _ (m : ℕ) (keys : List ℕ) (classes : ℕ) (W : Window) (border out : List ℕ) {r : Opened} {border′ out′ : List ℕ} (e : afterOpen r border′ out′ ≡ openOf m keys classes W border out)
+module _ (m : ℕ) (keys : List ℕ) (classes : ℕ) (W : Window) (border out : List ℕ) {r : Opened} {border′ out′ : List ℕ} (e : after r border′ out′ ≡ openOf m keys classes W border out)
     (passed : verdict (useRows m keys classes W (length border)) ≡ Passed) (few : length keys ≤ 1000) (room : length out ≡ 3000) where
   -- opening does not refuse
   pub open-never : {A : Type 0} {n p : ℕ} → r ≡ opened.Refused n p → A
-  open-never d = absurd (roomy m keys classes W border out passed (omega arith) (sym e ∙ ap (λ (x : Opened). afterOpen x border′ out′) d))
+  open-never d = absurd (roomy m keys classes W border out passed (omega arith) (sym e ∙ ap (λ (x : Opened). after x border′ out′) d))
 
   module _ {count records : ℕ} (d : r ≡ opened.Done count records) where
     T : Answered m keys W count records out′
-    T = answered m keys classes W border out (sym e ∙ ap (λ (x : Opened). afterOpen x border′ out′) d)
+    T = answered m keys classes W border out (sym e ∙ ap (λ (x : Opened). after x border′ out′) d)
 
     pub open-fits : 3 * count ≤ 3000
     open-fits = omega (arith, T .many, openings-fit m keys classes W (length border) passed .0)

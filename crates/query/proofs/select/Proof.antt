@@ -10,11 +10,10 @@ use Rattle.answers.specs.declared.Verdict.the-variants.{Passed}
 use Rattle.answers.specs.Rows.{verdict}
 use Rattle.window.proofs.Laws.{inside-12}
 use Rattle.border.specs.Step.{Usable}
-use Rattle.border.specs.Open.{useRows, spent}
+use Rattle.border.specs.Open.{useRows, spent, after}
 use Rattle.border.proofs.Laws.{use-known, use-same}
 use Rattle.border.proofs.Finding.{filled-spent}
 use Rattle.query.specs.Select.{selection}
-use Rattle.query.specs.Query.{afterQuery}
 use Rattle.query.proofs.Selection.{selection-few}
 use Rattle.query.proofs.Listing.{listed-count, listed-empty}
 use Rattle.query.proofs.Tables.{select-refused, select-short, select-done}
@@ -117,7 +116,7 @@ same-length-4 c = search needs
 
 returns-3 : tie.Need-returns-3
 returns-3 c =
-    ap (afterQuery _ _) (nothing (c .before .before .before)) ∙ select-short _ _ _ _ _ _ _ (passed (c .before .before .before .before .before .before .before .before .before .before .before .before .before .before .before .before)) (spent-at (c .before .before .before .before .before .before .before .before .before .before .before .before)) (listed-count (c .before .before .before .pick-all2 .ensures)) (omega (arith, c .if2 .taken, ap length (nothing (c .before .before .before))))
+    ap (after _ _) (nothing (c .before .before .before)) ∙ select-short _ _ _ _ _ _ _ (passed (c .before .before .before .before .before .before .before .before .before .before .before .before .before .before .before .before)) (spent-at (c .before .before .before .before .before .before .before .before .before .before .before .before)) (listed-count (c .before .before .before .pick-all2 .ensures)) (omega (arith, c .if2 .taken, ap length (nothing (c .before .before .before))))
 
 pick-all-requires-3 : tie.Need-pick-all-requires-3
 pick-all-requires-3 c κs = (c .before .before .before .before .before .before .before .before .before .before .before .spread-table .ensures, lone (c .before .before .before .before .before .before .before .before .before .before .before .before .before .before .before .before .before .before), use-same _ _ _ _ _ (passed (c .before .before .before .before .before .before .before .before .before .before .before .before .before .before .before .before .before .before)))
