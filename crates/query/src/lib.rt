@@ -16,7 +16,7 @@ ghost use Rattle.border.specs.Open.{spent, after};
 ghost use Rattle.query.specs.Classes.{classed, totals};
 ghost use Rattle.query.specs.Gather.{shared, clipped, area, gathered, Part, Hands, Gathering};
 ghost use Rattle.query.specs.Select.{pickedRun, picked, selection, keyed, Listed};
-ghost use Rattle.query.specs.Query.{afterExist, existing, existOf, reportOf, selectOf};
+ghost use Rattle.query.specs.Query.{afterExist, existing, existOf, roomFor, reportOf, selectOf};
 
 // What exist answers.
 pub enum Existence {
@@ -348,8 +348,37 @@ fn pick_all(
     }
 }
 
-// The keys of a class, in the order of maximal blocks. A slice with room for as many as there can be takes one pass; otherwise a first pass counts them and writes none, since 8
+// The keys of the class, in the order of maximal blocks. A slice with room for as many as there can be takes one pass; otherwise a first pass counts them and writes none, since 8
 // writes nothing into the slice.
+fn list_keys(
+    table: &[u32; 256],
+    m: u32,
+    keys: &[u32],
+    classes: &[u8],
+    window: Window,
+    class: u8,
+    out: &mut [u32],
+) -> Queried
+    requires { ⌜ (now table ≡ spreads) × Usable m m (now keys) window (window .w) × (length (now keys) ≡ length (now classes)) ⌝ }
+    ensures { λ r. ⌜ (r, now (out .exit)) ≡ roomFor (selection m m (now (keys .entry)) (now (classes .entry)) window class) (now (out .entry)) ⌝ }
+{
+    let most = 4 * ((window.w as usize) + (window.h as usize)) + keys.len();
+    if most <= out.len() {
+        let value = pick_all(table, m, keys, classes, window, class, out);
+        return Queried::Done { value };
+    }
+    let needed = pick_all(table, m, keys, classes, window, class, &mut out[..0]);
+    if out.len() < needed as usize {
+        return Queried::Refused {
+            number: 8,
+            place: needed,
+        };
+    }
+    let value = pick_all(table, m, keys, classes, window, class, out);
+    Queried::Done { value }
+}
+
+// The keys of a class in the window. Nothing of it needs the border, which is spent at once.
 pub fn select(
     m: u32,
     keys: &[u32],
@@ -367,18 +396,5 @@ pub fn select(
     }
     border::fill(border, 0, window.w as usize, window.r0 + window.h);
     let table = key::spread_table();
-    let most = 4 * ((window.w as usize) + (window.h as usize)) + keys.len();
-    if most <= out.len() {
-        let value = pick_all(&table, m, keys, classes, window, class, out);
-        return Queried::Done { value };
-    }
-    let needed = pick_all(&table, m, keys, classes, window, class, &mut out[..0]);
-    if out.len() < needed as usize {
-        return Queried::Refused {
-            number: 8,
-            place: needed,
-        };
-    }
-    let value = pick_all(&table, m, keys, classes, window, class, out);
-    Queried::Done { value }
+    list_keys(&table, m, keys, classes, window, class, out)
 }
