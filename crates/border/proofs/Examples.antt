@@ -22,9 +22,10 @@ use Rattle.map.specs.Records.{recordOf, exponentOf}
 use Rattle.map.specs.Runs.{runOf}
 use Rattle.border.specs.declared.Stepped.the-variants as stepped
 use Rattle.border.specs.declared.Opened.the-variants.{Done, Refused}
-use Rattle.border.specs.Openings.{indices, within, isHanded, Opening, opening, openFrom, handedAfter, openings, handsOut, cellsOf}
+use Rattle.border.specs.Openings.{indices, within, isHanded, opening, openFrom, handedAfter, openings, handsOut, cellsOf}
 use Rattle.border.specs.Cells.{filled, raised}
 use Rattle.border.specs.Step.{afterStep, stepOf}
+use Rattle.border.specs.Found.{made}
 use Rattle.border.specs.Open.{useRows, spent, after, usedFor, openOf}
 
 abbrev keys : List ℕ
@@ -32,9 +33,6 @@ keys = 5 ∷ 11 ∷ 12 ∷ 13 ∷ 14 ∷ 15 ∷ 20 ∷ []
 
 abbrev W : Window
 W = window 0 1 3 3
-
-abbrev made : ℕ → ℕ → ℕ → Opening
-made key first count = record { key = key; first = first; count = count }
 
 -- old contents of a border and of an answer slice
 abbrev old : List ℕ

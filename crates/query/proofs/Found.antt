@@ -18,7 +18,7 @@ use Rattle.map.specs.Records.{pixelRecord}
 use Rattle.border.specs.Openings.{Opening, openings}
 use Rattle.border.specs.Promises.{hands, allHands}
 use Rattle.border.proofs.Laws.{hands-none, hands-one, hands-append, in-hands, hands-all}
-use Rattle.query.specs.Classes.{pixels, hasClass, exists}
+use Rattle.query.specs.Classes.{classed, pixels, hasClass, exists}
 use Rattle.query.proofs.Totals.{in-pixels}
 
 -- ---- what it means
@@ -38,11 +38,11 @@ module _ (m : ℕ) (keys classes : List ℕ) (class : ℕ) where
 -- ---- by what the openings hand out
 
 pub exists-hands : {m top : ℕ} {keys : List ℕ} → Follow m 0 keys → {W : Window} → Inside m W → top ≤ m → (classes : List ℕ) (class : ℕ)
-    → exists m keys classes W class ≡ any (λ n. eqb (getD classes n 0) class) (allHands (openings m top keys W))
+    → exists m keys classes W class ≡ any (classed classes class) (allHands (openings m top keys W))
 exists-hands {m} {top} {keys} F {W} I small classes class = agree _ _ (to, from)
   where
     test : ℕ → Bool
-    test n = eqb (getD classes n 0) class
+    test = classed classes class
 
     os : List Opening
     os = openings m top keys W

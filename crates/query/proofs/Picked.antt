@@ -83,14 +83,14 @@ module _ {m : ℕ} {keys : List ℕ} (classes : List ℕ) (class : ℕ) {key i s
   unfolding around
   around-is =
       let w = within-is B (R .names) in
-      let b = both (eqb (getD classes n 0) class) (within (formOf m key) (formOf m (getD keys n 0))) in
+      let b = both (classed classes class n) (within (formOf m key) (formOf m (getD keys n 0))) in
       (λ e. (eqb-true _ _ (b .0 e .0), w .0 (b .0 e .1)), λ h. b .1 (eq-eqb _ _ (h .0), w .1 (h .1)))
 
   pub inside-is : (inside m keys classes class key n ≡ true) ↔ ((getD classes n 0 ≡ class) × Covers s (4 ^ i) t (4 ^ j))
   unfolding inside
   inside-is =
       let w = within-is (R .names) B in
-      let b = both (eqb (getD classes n 0) class) (within (formOf m (getD keys n 0)) (formOf m key)) in
+      let b = both (classed classes class n) (within (formOf m (getD keys n 0)) (formOf m key)) in
       (λ e. (eqb-true _ _ (b .0 e .0), w .0 (b .0 e .1)), λ h. b .1 (eq-eqb _ _ (h .0), w .1 (h .1)))
 
 -- ---- what is selected, by cases
@@ -183,7 +183,7 @@ module _ {m : ℕ} {keys : List ℕ} (F : Follow m 0 keys) (classes : List ℕ) 
           let k = up-in 0 (length keys) n .0 l in
           refuted (inside m keys classes class key n) (λ a. let h = parts n (omega arith) a in let f : n ≡ first = omega (arith, h .1) in d (rw f at (h .0)))
 
-      among : ¬ (count ≡ 1) → (n : ℕ) → List·Memᴰ n (upFrom first count) → inside m keys classes class key n ≡ eqb (getD classes n 0) class
+      among : ¬ (count ≡ 1) → (n : ℕ) → List·Memᴰ n (upFrom first count) → inside m keys classes class key n ≡ classed classes class n
       among e n l =
           let k = up-in first count n .0 l in
           let R = record-at F n (omega (arith, M .room)) in
@@ -201,7 +201,7 @@ module _ {m : ℕ} {keys : List ℕ} (F : Follow m 0 keys) (classes : List ℕ) 
           selected-parts m keys classes class key (λ n l a. e (whole l a .1))
           ∙ rw (
             keep-run (inside m keys classes class key) first count (length keys) (M .room) (λ n l a. let h = parts n l a .1 in (h .least, h .most)),
-            keep-same (inside m keys classes class key) (λ n. eqb (getD classes n 0) class) (upFrom first count) (among e),
+            keep-same (inside m keys classes class key) (classed classes class) (upFrom first count) (among e),
           ) (sym (picked-many keys classes class key first e ∙ picked-run keys classes class first count))
 
 -- of a maximal block, by the records that overlap it

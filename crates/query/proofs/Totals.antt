@@ -21,7 +21,7 @@ use Rattle.map.specs.Records.{pixelRecord}
 use Rattle.border.specs.Openings.{openings}
 use Rattle.border.specs.Promises.{allHands}
 use Rattle.border.proofs.Laws.{in-hands, hands-all, records-once}
-use Rattle.query.specs.Classes.{pixels, hasClass, total, totals}
+use Rattle.query.specs.Classes.{classed, pixels, hasClass, total, totals}
 use Rattle.query.specs.Gather.{area, added, gathered}
 
 -- ---- the window's pixels
@@ -89,27 +89,27 @@ module _ (m : ℕ) (keys classes : List ℕ) (W : Window) where
 
   -- the records of class k
   abbrev ofClass : ℕ → List ℕ → List ℕ
-  ofClass k = keep (λ n. eqb (getD classes n 0) k)
+  ofClass k = keep (classed classes k)
 
   gathered-at : (ns cells : List ℕ) {k : ℕ} → k < length cells → getD (gathered m keys classes W ns cells) k 0 ≡ getD cells k 0 + sum (map (area m keys W) (ofClass k ns))
   unfolding gathered
-  gathered-at [] cells {k} l = rw (keep-empty (λ n. eqb (getD classes n 0) k), sum-none) (omega arith)
-  gathered-at (n ∷ ns) cells {k} l = go (eqb (getD classes n 0) k) refl (gathered-at ns (added m keys classes W n cells) (omega (arith, added-length n cells)))
+  gathered-at [] cells {k} l = rw (keep-empty (classed classes k), sum-none) (omega arith)
+  gathered-at (n ∷ ns) cells {k} l = go (classed classes k n) refl (gathered-at ns (added m keys classes W n cells) (omega (arith, added-length n cells)))
     where
-      go : (b : Bool) → eqb (getD classes n 0) k ≡ b
+      go : (b : Bool) → classed classes k n ≡ b
           → getD (gathered m keys classes W ns (added m keys classes W n cells)) k 0 ≡ getD (added m keys classes W n cells) k 0 + sum (map (area m keys W) (ofClass k ns))
           → getD (gathered m keys classes W ns (added m keys classes W n cells)) k 0 ≡ getD cells k 0 + sum (map (area m keys W) (ofClass k (n ∷ ns)))
       go true e ih =
-          rw (keep-taken (λ x. eqb (getD classes x 0) k) {x = n} ns e, sum-next (area m keys W n) (map (area m keys W) (ofClass k ns)))
+          rw (keep-taken (classed classes k) {x = n} ns e, sum-next (area m keys W n) (map (area m keys W) (ofClass k ns)))
           (omega (arith, added-same n cells k l (eqb-true (getD classes n 0) k e)))
-      go false e ih = rw (keep-passed (λ x. eqb (getD classes x 0) k) {x = n} ns e) (omega (arith, added-other n cells k (eqb-false (getD classes n 0) k e)))
+      go false e ih = rw (keep-passed (classed classes k) {x = n} ns e) (omega (arith, added-other n cells k (eqb-false (getD classes n 0) k e)))
 
   -- from zeros on, a cell counts the pixels of the records of its class
   gathered-counts : {ns : List ℕ} → Ordered _≢_ ns → {k : ℕ} → k < 256
       → getD (gathered m keys classes W ns (replicate 256 0)) k 0 ≡ howMany (λ p. any (eqb (pixelRecord m keys (p .0) (p .1))) (ofClass k ns)) (pixels W)
   unfolding area
   gathered-counts {ns} o {k} l =
-      omega (arith, gathered-at ns (replicate 256 0) {k = k} (omega (arith, length-replicate {A = ℕ} 256 0)), getD-replicate {A = ℕ} 256 k 0 0 l, each-once (λ p. pixelRecord m keys (p .0) (p .1)) (pixels W) (ordered-keep (λ n. eqb (getD classes n 0) k) o))
+      omega (arith, gathered-at ns (replicate 256 0) {k = k} (omega (arith, length-replicate {A = ℕ} 256 0)), getD-replicate {A = ℕ} 256 k 0 0 l, each-once (λ p. pixelRecord m keys (p .0) (p .1)) (pixels W) (ordered-keep (classed classes k) o))
 
   -- ---- no sum passes the number of pixels
 
@@ -133,14 +133,14 @@ module _ (m : ℕ) (keys classes : List ℕ) (W : Window) where
   gathered-all {ns} o has = ext-getD 0 _ _ (from-zeros ns ∙ sym totals-length) (λ k l. each k (omega (arith, from-zeros ns, l)))
     where
       -- a pixel's record is among those of class k exactly when its class is k
-      same : (k : ℕ) (p : Px) → In W p → any (eqb (pixelRecord m keys (p .0) (p .1))) (ofClass k ns) ≡ eqb (getD classes (pixelRecord m keys (p .0) (p .1)) 0) k
-      same k p v = agree _ _ (to, λ e. has-any (eqb n) (in-keep (λ x. eqb (getD classes x 0) k) (has p v) e) (eq-eqb n n refl))
+      same : (k : ℕ) (p : Px) → In W p → any (eqb (pixelRecord m keys (p .0) (p .1))) (ofClass k ns) ≡ classed classes k (pixelRecord m keys (p .0) (p .1))
+      same k p v = agree _ _ (to, λ e. has-any (eqb n) (in-keep (classed classes k) (has p v) e) (eq-eqb n n refl))
         where
           n : ℕ
           n = pixelRecord m keys (p .0) (p .1)
 
-          to : any (eqb n) (ofClass k ns) ≡ true → eqb (getD classes n 0) k ≡ true
-          to e = let t = any-has (eqb n) (ofClass k ns) e in rw (eqb-true n (t .0) (t .2)) (keep-true (λ x. eqb (getD classes x 0) k) ns (t .1))
+          to : any (eqb n) (ofClass k ns) ≡ true → classed classes k n ≡ true
+          to e = let t = any-has (eqb n) (ofClass k ns) e in rw (eqb-true n (t .0) (t .2)) (keep-true (classed classes k) ns (t .1))
 
       each : (k : ℕ) → k < 256 → getD (gathered m keys classes W ns (replicate 256 0)) k 0 ≡ getD (totals m keys classes W) k 0
       each k l = gathered-counts o l ∙ many-same (pixels W) (λ p n. same k p (in-pixels W .0 n)) ∙ sym (totals-at k l)
