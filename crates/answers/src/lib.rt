@@ -3,6 +3,7 @@
 ghost use mathlib.Core.Path.{_≡_};
 ghost use Rattle.answers.specs.Rows.{verdict};
 ghost use Rattle.answers.specs.Sizes.{sizeRows};
+ghost use Rattle.answers.specs.Cells.{put};
 
 // What a table of refusals says: none of them holds, or the first that does, by its number and its place.
 pub enum Verdict {
@@ -39,4 +40,14 @@ pub fn sizes(m: u32, keys: usize, classes: usize) -> Verdict
         };
     }
     Verdict::Passed
+}
+
+// Writes a number behind n others, where there is room for it.
+pub fn put(out: &mut [u32], n: u32, x: u32)
+    ensures { λ r. ⌜ now (out .exit) ≡ put n x (now (out .entry)) ⌝ }
+{
+    let at = n as usize;
+    if at < out.len() {
+        out[at] = x;
+    }
 }

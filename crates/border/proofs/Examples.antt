@@ -23,7 +23,7 @@ use Rattle.map.specs.Runs.{runOf}
 use Rattle.border.specs.declared.Stepped.the-variants as stepped
 use Rattle.border.specs.declared.Opened.the-variants.{Done, Refused}
 use Rattle.border.specs.Openings.{indices, within, isHanded, opening, openFrom, handedAfter, openings, handsOut, cellsOf}
-use Rattle.border.specs.Cells.{filled, raised}
+use Rattle.border.specs.Cells.{filled, raised, closed}
 use Rattle.border.specs.Step.{afterStep, stepOf}
 use Rattle.border.specs.Found.{made}
 use Rattle.border.specs.Open.{useRows, spent, after, usedFor, openOf}
@@ -42,8 +42,8 @@ pub record Examples : Type 0 where
   -- one record over all: the first block opens it, and all others are skipped
   pub single : openings 2 2 (0 ∷ []) W ≡ made 7 0 1 ∷ []
   -- P1's first steps: block 7 raises the cell of its column to the bottom of record 0; block 9, after block 10, is skipped
-  pub step-7 : stepOf 2 2 keys W (0, 1) (0 ∷ 0 ∷ 0 ∷ []) ≡ afterStep (stepped.Opened 0 1) (2 ∷ 0 ∷ 0 ∷ [])
-  pub step-10 : stepOf 2 2 keys W (0, 2) (2 ∷ 0 ∷ 0 ∷ []) ≡ afterStep (stepped.Opened 1 4) (2 ∷ 2 ∷ 2 ∷ [])
+  pub step-7 : stepOf 2 2 keys W (0, 1) (0 ∷ 0 ∷ 0 ∷ []) ≡ afterStep (stepped.Opened 7 0 1 0) (2 ∷ 0 ∷ 0 ∷ [])
+  pub step-10 : stepOf 2 2 keys W (0, 2) (2 ∷ 0 ∷ 0 ∷ []) ≡ afterStep (stepped.Opened 10 1 4 0) (2 ∷ 2 ∷ 2 ∷ [])
   pub step-9 : stepOf 2 2 keys W (1, 1) (2 ∷ 2 ∷ 2 ∷ []) ≡ afterStep stepped.Skipped (2 ∷ 2 ∷ 2 ∷ [])
   -- borders of two and of three cells, answer slices of 11 and of 12 cells
   pub narrow : openOf 2 keys 7 W (take 2 old) old ≡ after (Refused 7 3) (take 2 old) old
@@ -55,7 +55,7 @@ pub record Examples : Type 0 where
   pub large : openOf 13 [] 7 (window 0 0 0 0) [] [] ≡ after (Refused 1 0) [] []
 
 pub examples : Examples
-unfolding answer wrongCount sizeRows overwrite upFrom spreadTo spread place pixelKey blockKey from formOf beyond outside windowRows keep floor lies fits greatest exponent corner across rows isCorner maximal keyOf keysOf spans.malformed spans.exponent spans.start spans.end spans.holds spans.overlap recordRows mapRows before howMany recordOf exponentOf runOf any indices within isHanded opening openFrom handedAfter openings handsOut cellsOf filled raised stepOf useRows spent usedFor openOf
+unfolding answer wrongCount sizeRows overwrite upFrom spreadTo spread place pixelKey blockKey from formOf beyond outside windowRows keep floor lies fits greatest exponent corner across rows isCorner maximal keyOf keysOf spans.malformed spans.exponent spans.start spans.end spans.holds spans.overlap recordRows mapRows before howMany recordOf exponentOf runOf any indices within isHanded opening openFrom handedAfter openings handsOut cellsOf filled raised closed stepOf useRows spent usedFor openOf
 examples = record {
   single = refl;
   step-7 = refl;

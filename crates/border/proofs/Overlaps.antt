@@ -158,6 +158,20 @@ module _ {m top : ℕ} {keys : List ℕ} (F : Follow m 0 keys) {W : Window} (I :
       let H = pixel-holder F (pixel-in I (C .inside)) in
       rw (met-first, record-of F H, exponent-of F H) (record { start = H .start; names = H .is .names })
 
+  -- which of the two lies in the other, their keys tell
+  pub first-nests : let k = getD keys (runOf m keys (keyOf m top W b) .first) 0 in
+      (keyOf m top W b ≤ k → pixelExponent m keys (b .0) (b .1) ≤ exponent W top b) × (k < keyOf m top W b → exponent W top b ≤ pixelExponent m keys (b .0) (b .1))
+  first-nests = rw (met-first, record-of F H, exponent-of F H) (go (blocks-stand named (H .is .names)))
+    where
+      H : Holder m keys s
+      H = pixel-holder F (pixel-in I (C .inside))
+
+      go : {a k : ℕ} → Stand a i s k (H .exponent) (H .start) → (a ≤ k → H .exponent ≤ i) × (k < a → i ≤ H .exponent)
+      go (lies-in p q) = (λ h. size-le (omega arith), λ h. absurd (omega arith))
+      go (around g p l q) = (λ h. absurd (omega arith), λ h. size-le (omega arith))
+      go (after p q) = absurd (omega (arith, H .has, pow-least 3 i))
+      go (before p q) = absurd (omega (arith, H .has))
+
   -- the block lies in record n exactly when that is its corner's and not smaller
   pub in-record : (n : ℕ) → n < length keys → (within (formOf m (keyOf m top W b)) (formOf m (getD keys n 0)) ≡ true)
       ↔ ((pixelRecord m keys (b .0) (b .1) ≡ n) × (exponent W top b ≤ pixelExponent m keys (b .0) (b .1)))

@@ -6,7 +6,7 @@ use mathlib.Core.List.{List, [], _∷_, _++_}
 use Prim.Native.Nat.{ℕ, _+_, _*_, _/_, _≤_, _<_}
 use native.Mathlib.Omega.{arith}
 use lib.Dec.{ltb}
-use lib.ListN.{length, replicate, length-replicate}
+use lib.ListN.{length, take, replicate, length-take, length-replicate}
 use lib.Seq.{take-all}
 use borrow.Author.Tests.{lt-ltb, le-ltb, ltb-false}
 use Rattle.answers.specs.declared.Verdict.the-variants as verdict-of
@@ -145,17 +145,21 @@ accepted-again m keys W border out =
     ap (λ (t : List ℕ). after (Done (length (openings m m keys W)) (handsOut (openings m m keys W))) t (overwrite (cellsOf (openings m m keys W)) out))
     (overwrite-again (replicate (W .w) (W .r0 + W .h)) border)
 
-pub usable-again : {m top : ℕ} {keys : List ℕ} {W : Window} (border : List ℕ) {after : List ℕ} → Usable m top keys W (length border) → after ≡ spent W border → Usable m top keys W (length after)
-unfolding spent
-usable-again {W = W} border {after} U e =
-    let l : length (replicate (W .w) (W .r0 + W .h)) ≡ W .w = length-replicate (W .w) (W .r0 + W .h) in
-    let d : length after ≡ length border = ap length e ∙ overwrite-length (replicate (W .w) (W .r0 + W .h)) border (rw l (U .wide)) in
-    rw d U
-
 -- a pass over a slice with no room
 pub passed-none : {m top : ℕ} {keys : List ℕ} {W : Window} {border₀ border out : List ℕ} {totals : Totals} → Passed m top keys W border₀ [] totals border out → out ≡ []
 unfolding fitting
 passed-none p = p .written ∙ sym (overwrite-part [] [])
+
+-- a pass keeps the lengths of both slices
+pub passed-same : {m top : ℕ} {keys : List ℕ} {W : Window} {border₀ out₀ border out : List ℕ} {totals : Totals} → Passed m top keys W border₀ out₀ totals border out → W .w ≤ length border₀
+    → (length border ≡ length border₀) × (length out ≡ length out₀)
+unfolding spent fitting
+passed-same {m} {top} {keys} {W} {border₀} {out₀} p wide =
+    let l : length (replicate (W .w) (W .r0 + W .h)) ≡ W .w = length-replicate (W .w) (W .r0 + W .h) in
+    let cells = cellsOf (openings m top keys W) in (
+      ap length (p .ends) ∙ overwrite-length (replicate (W .w) (W .r0 + W .h)) border₀ (rw l wide),
+      ap length (p .written) ∙ overwrite-length (take (3 * (length out₀ / 3)) cells) out₀ (omega (arith, length-take (3 * (length out₀ / 3)) cells)),
+    )
 
 -- a pass over a slice with room for all
 pub passed-all : {m : ℕ} {keys : List ℕ} {W : Window} {border₀ out₀ border out : List ℕ} {totals : Totals} → Passed m m keys W border₀ out₀ totals border out

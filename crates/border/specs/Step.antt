@@ -12,12 +12,14 @@ use Rattle.window.specs.Window.{Px, In, Inside}
 use Rattle.window.specs.Blocks.{exponent, corner, maximal}
 use Rattle.window.specs.Decompose.{keyOf}
 use Rattle.map.specs.Sound.{Follow}
-use Rattle.map.specs.Records.{pixelExponent}
+use Rattle.key.specs.Form.{formOf}
+use Rattle.map.specs.Spans.{exponent as exponentIn}
+use Rattle.map.specs.Records.{SomeRecord, pixelExponent}
 use Rattle.map.specs.Runs.{runOf}
 use Rattle.border.specs.declared.Stepped.{Stepped}
 use Rattle.border.specs.declared.Stepped.the-variants.{Skipped, Opened}
 use Rattle.border.specs.Border.{Stated, Handed, handedBy}
-use Rattle.border.specs.Cells.{raised}
+use Rattle.border.specs.Cells.{raised, closed}
 
 -- of the block with corner b and the record of b, by the exponents of records, the exponent of the larger
 abbrev pub reach : Window → ℕ → (ℕ → ℕ → ℕ) → Px → ℕ
@@ -33,8 +35,10 @@ afterStep answer border = record { answer = answer; border = border }
 -- the cell of the corner's column decides; an opened block raises the cells of its columns, or of those of the record that contains it
 unfoldable pub stepOf : ℕ → ℕ → List ℕ → Window → Px → List ℕ → AfterStep
 stepOf m top keys W b cells =
-    let run = runOf m keys (keyOf m top W b) in
-    cond (ltb (b .0) (getD cells (b .1 - W .c0) 0)) (afterStep Skipped cells) (afterStep (Opened (run .first) (run .count)) (raised W (reach W top (pixelExponent m keys) b) b cells))
+    let key = keyOf m top W b in
+    let run = runOf m keys key in
+    let n = reach W top (pixelExponent m keys) b in
+    cond (ltb (b .0) (getD cells (b .1 - W .c0) 0)) (afterStep Skipped cells) (afterStep (Opened key (run .first) (run .count) (closed W n b)) (raised W n b cells))
 
 -- b is the corner of a maximal block
 pub record Corner (W : Window) (top : ℕ) (b : Px) : Type 0 where
@@ -50,12 +54,17 @@ pub record Usable (m top : ℕ) (keys : List ℕ) (W : Window) (cells : ℕ) : T
   pub inside : Inside m W
   pub wide : W .w ≤ cells
 
--- and one of the window's maximal blocks, by corner, exponent and key: what a step may take for granted
-pub record Ready (m top : ℕ) (keys : List ℕ) (W : Window) (b : Px) (i key cells : ℕ) : Type 0 where
+-- and one of the window's maximal blocks, by corner and exponent: what a step may take for granted
+pub record Ready (m top : ℕ) (keys : List ℕ) (W : Window) (b : Px) (i cells : ℕ) : Type 0 where
   pub given : Usable m top keys W cells
   pub corner : Corner W top b
   pub size : i ≡ exponent W top b
-  pub name : key ≡ keyOf m top W b
+
+-- a block of this key and exponent i, and its first record: the record lies in the block, or around it where its key is below the block's
+pub record Nested (m : ℕ) (keys : List ℕ) (key i first : ℕ) : Type 0 where
+  pub is : SomeRecord m keys first
+  pub inner : key ≤ getD keys first 0 → exponentIn (formOf m (getD keys first 0)) ≤ i
+  pub outer : getD keys first 0 < key → i ≤ exponentIn (formOf m (getD keys first 0))
 
 -- what a step promises: for any cells, what it answers and leaves, and when it skips; and cells that are as stated before the step are so after it
 pub record Step (m top : ℕ) (keys : List ℕ) (W : Window) (b : Px) (cells : List ℕ) (answer : Stepped) (border : List ℕ) : Type 0 where

@@ -4,36 +4,46 @@ use map::Run;
 use window::Next;
 use window::Window;
 ghost use mathlib.Core.Path.{_≡_};
-ghost use Prim.Native.Nat.{max, _-_, _*_, _≤_};
+ghost use Prim.Native.Nat.{max, _-_, _≤_};
 ghost use lib.ListN.{length, getD};
 ghost use Rattle.answers.specs.Rows.{verdict};
 ghost use Rattle.key.specs.Form.{formOf};
 ghost use Rattle.key.specs.Spread.{spreads};
 ghost use Rattle.map.specs.Spans.{exponent};
-ghost use Rattle.map.specs.Records.{SomeRecord};
 ghost use Rattle.window.specs.Window.{In, Inside};
-ghost use Rattle.window.specs.Walk.{Cursor};
-ghost use Rattle.border.specs.Openings.{openings};
-ghost use Rattle.border.specs.Cells.{filled, raised, entered};
-ghost use Rattle.border.specs.Step.{Usable, Ready, Step};
-ghost use Rattle.border.specs.Found.{Finds};
-ghost use Rattle.border.specs.Open.{Passed, useRows, after, accepted, openOf};
+ghost use Rattle.border.specs.Cells.{filled, raised, closed, entered};
+ghost use Rattle.border.specs.Step.{Usable, Ready, Nested, Step};
+ghost use Rattle.border.specs.Found.{walk, Reached, Finds};
+ghost use Rattle.border.specs.Open.{Passed, useRows, after, openOf};
 
-// What a step answers: the block was skipped, or opened with so many records from the first on.
+// What a step answers: the block was skipped, or opened, by its key, with so many records from the first on; that closed so many columns.
 pub enum Stepped {
     Skipped,
-    Opened { first: u32, count: u32 },
+    Opened {
+        key: u32,
+        first: u32,
+        count: u32,
+        closed: u16,
+    },
 }
 
-// What the walk comes to next: an opening, of the block with this corner, with the column of its row from which to go on; or nothing.
+// Where the walk stands: the row and the column from which it goes on, and in how many columns something is left to hand out.
+pub struct Walk {
+    pub row: u16,
+    pub col: u16,
+    pub left: u16,
+}
+
+// What the walk comes to next: an opening, of the block with this corner and exponent, with where the walk goes on; or nothing.
 pub enum Found {
     Opening {
         row: u16,
         col: u16,
+        exponent: u32,
         key: u32,
         first: u32,
         count: u32,
-        after: u16,
+        on: Walk,
     },
     End,
 }
@@ -68,31 +78,39 @@ pub fn ahead(x: u16, a: u16) -> u16
     if x < a { 0 } else { x - a }
 }
 
-// What an opened block does to the border: around it stands the block of side 2^n.
-fn raise(window: Window, n: u32, row: u16, col: u16, border: &mut [u16])
+// What an opened block does to the border: around it stands the block of side 2^n. How many columns come to the row below the window by it.
+fn raise(window: Window, n: u32, row: u16, col: u16, border: &mut [u16]) -> u16
     requires { ⌜ (n ≤ 12) × Inside 12 window × In window (row, col) × (window .w ≤ length (now border)) ⌝ }
-    ensures { λ r. ⌜ now (border .exit) ≡ raised window n (row, col) (now (border .entry)) ⌝ }
+    ensures { λ r. ⌜ (r ≡ closed window n (row, col)) × (now (border .exit) ≡ raised window n (row, col) (now (border .entry))) ⌝ }
 {
     let side = window::side(n);
     let west = window::floor(n, col);
     let east = window::least(west + side, window.c0 + window.w);
     let south = window::least(window::floor(n, row) + side, window.r0 + window.h);
-    let from = ahead(west, window.c0) as usize;
-    let to = ahead(east, window.c0) as usize;
-    fill(border, from, to, south);
+    let from = ahead(west, window.c0);
+    let to = ahead(east, window.c0);
+    fill(border, from as usize, to as usize, south);
+    if south < window.r0 + window.h {
+        return 0;
+    }
+    to - from
 }
 
-// Of a block of exponent i and its first record, the exponent of the larger.
-fn reach(m: u32, keys: &[u32], first: u32, i: u32) -> u32
-    requires { ⌜ (m ≤ 12) × SomeRecord m (now keys) first ⌝ }
+// Of a block of this key and exponent i and its first record, the exponent of the larger. Only a record around the block is decoded.
+fn reach(m: u32, keys: &[u32], key: u32, first: u32, i: u32) -> u32
+    requires { ⌜ (m ≤ 12) × Nested m (now keys) key i first ⌝ }
     ensures { λ r. ⌜ r ≡ max i (exponent (formOf m (getD (now (keys .entry)) first 0))) ⌝ }
 {
-    let exponent = map::exponent_of(m, keys, first);
-    if i < exponent { exponent } else { i }
+    if key <= keys[first as usize] {
+        return i;
+    }
+    map::exponent_of(m, keys, first)
 }
 
-// One maximal block. What was handed out before is known by the border alone: the block is skipped when the cell of its corner's column is over its corner's row.
+// One maximal block. What was handed out before is known by the border alone: the block is skipped when the cell of its corner's column is over its corner's row. Only a block that
+// is opened needs its key.
 pub fn step(
+    table: &[u32; 256],
     m: u32,
     top: u32,
     keys: &[u32],
@@ -100,22 +118,24 @@ pub fn step(
     row: u16,
     col: u16,
     i: u32,
-    key: u32,
     border: &mut [u16],
 ) -> Stepped
-    requires { ⌜ Ready m top (now keys) window (row, col) i key (length (now border)) ⌝ }
+    requires { ⌜ (now table ≡ spreads) × Ready m top (now keys) window (row, col) i (length (now border)) ⌝ }
     ensures { λ r. ⌜ Step m top (now (keys .entry)) window (row, col) (now (border .entry)) r (now (border .exit)) ⌝ }
 {
     let at = (col - window.c0) as usize;
     if row < border[at] {
         return Stepped::Skipped;
     }
-    let run = map::records_of(m, keys, key, i);
-    let n = reach(m, keys, run.first, i);
-    raise(window, n, row, col, border);
+    let key = key::block_key(table, m, i, row, col);
+    let run = map::records_of(table, m, keys, key, i);
+    let n = reach(m, keys, key, run.first, i);
+    let closed = raise(window, n, row, col, border);
     Stepped::Opened {
+        key,
         first: run.first,
         count: run.count,
+        closed,
     }
 }
 
@@ -132,22 +152,36 @@ fn put_opening(out: &mut [u32], n: u32, key: u32, first: u32, count: u32)
     out[at + 2] = count;
 }
 
-// The next opening from a row and a column on: skips blocks until one is opened.
+// The walk stands at the window's first pixel, and all columns are left.
+pub fn start(window: Window) -> Walk
+    ensures { λ r. ⌜ r ≡ walk (window .r0) (window .c0) (window .w) ⌝ }
+{
+    Walk {
+        row: window.r0,
+        col: window.c0,
+        left: window.w,
+    }
+}
+
+// The next opening: skips blocks until one is opened. Where no column is left, all is out, and the walk ends.
 pub fn next_opening(
     table: &[u32; 256],
     m: u32,
     top: u32,
     keys: &[u32],
     window: Window,
-    row: u16,
-    col: u16,
+    at: Walk,
     border: &mut [u16],
 ) -> Found
-    requires { ⌜ (now table ≡ spreads) × Usable m top (now keys) window (length (now border)) × Cursor window (row, col) ⌝ }
-    ensures { λ r. ⌜ Finds m top (now (keys .entry)) window (row, col) (now (border .entry)) r (now (border .exit)) ⌝ }
+    requires { ⌜ (now table ≡ spreads) × Usable m top (now keys) window (length (now border)) × Reached m top (now keys) window at (now border) ⌝ }
+    ensures { λ r. ⌜ Finds m top (now (keys .entry)) window at (now (border .entry)) r (now (border .exit)) ⌝ }
 {
-    let mut r = row;
-    let mut c = col;
+    let left = at.left;
+    if left == 0 {
+        return Found::End;
+    }
+    let mut r = at.row;
+    let mut c = at.col;
     loop {
         let next = window::next_block(window, top, r, c);
         let Next::Block {
@@ -159,16 +193,25 @@ pub fn next_opening(
         else {
             return Found::End;
         };
-        let key = key::block_key(table, m, exponent, row, col);
-        let stepped = step(m, top, keys, window, row, col, exponent, key, border);
-        if let Stepped::Opened { first, count } = stepped {
+        let stepped = step(table, m, top, keys, window, row, col, exponent, border);
+        if let Stepped::Opened {
+            key,
+            first,
+            count,
+            closed,
+        } = stepped {
             return Found::Opening {
                 row,
                 col,
+                exponent,
                 key,
                 first,
                 count,
-                after,
+                on: Walk {
+                    row,
+                    col: after,
+                    left: left - closed,
+                },
             };
         }
         r = row;
@@ -190,18 +233,16 @@ fn pass(
     ensures { λ r. ⌜ Passed m top (now (keys .entry)) window (now (border .entry)) (now (out .entry)) r (now (border .exit)) (now (out .exit)) ⌝ }
 {
     fill(border, 0, window.w as usize, window.r0);
-    let mut r = window.r0;
-    let mut c = window.c0;
+    let mut at = start(window);
     let mut openings: u32 = 0;
     let mut records: u32 = 0;
     loop {
-        let found = next_opening(table, m, top, keys, window, r, c, border);
+        let found = next_opening(table, m, top, keys, window, at, border);
         let Found::Opening {
-            row,
             key,
             first,
             count,
-            after,
+            on,
             ..
         } = found
         else {
@@ -210,27 +251,7 @@ fn pass(
         put_opening(out, openings, key, first, count);
         openings += 1;
         records += count;
-        r = row;
-        c = after;
-    }
-}
-
-// The pass that writes all openings.
-fn hand_out(
-    table: &[u32; 256],
-    m: u32,
-    keys: &[u32],
-    window: Window,
-    border: &mut [u16],
-    out: &mut [u32],
-) -> Opened
-    requires { ⌜ (now table ≡ spreads) × Usable m m (now keys) window (length (now border)) × (3 * length (openings m m (now keys) window) ≤ length (now out)) ⌝ }
-    ensures { λ r. ⌜ after r (now (border .exit)) (now (out .exit)) ≡ accepted m (now (keys .entry)) window (now (border .entry)) (now (out .entry)) ⌝ }
-{
-    let totals = pass(table, m, m, keys, window, border, out);
-    Opened::Done {
-        openings: totals.openings,
-        records: totals.records,
+        at = on;
     }
 }
 
@@ -276,16 +297,19 @@ pub fn open(
     }
     let table = key::spread_table();
     let most = 12 * ((window.w as usize) + (window.h as usize));
-    if most <= out.len() {
-        return hand_out(&table, m, keys, window, border, out);
+    if out.len() < most {
+        let counted = pass(&table, m, m, keys, window, border, &mut out[..0]);
+        let needed = 3 * counted.openings;
+        if out.len() < needed as usize {
+            return Opened::Refused {
+                number: 8,
+                place: needed,
+            };
+        }
     }
-    let counted = pass(&table, m, m, keys, window, border, &mut out[..0]);
-    let needed = 3 * counted.openings;
-    if out.len() < needed as usize {
-        return Opened::Refused {
-            number: 8,
-            place: needed,
-        };
+    let totals = pass(&table, m, m, keys, window, border, out);
+    Opened::Done {
+        openings: totals.openings,
+        records: totals.records,
     }
-    hand_out(&table, m, keys, window, border, out)
 }

@@ -9,10 +9,12 @@ use Rattle.key.specs.Picture.{Pixel, place, PixelAt}
 use Rattle.key.specs.Key.{pixelKey, blockKey}
 use Rattle.key.specs.Blocks.{Names, Lies, Among, Inside, Stand, within, around, after, before}
 use Rattle.key.proofs.Powers.{pow-least}
-use Rattle.key.proofs.Blocks.{At, lies, at-form, form-at, stand}
+use Rattle.key.proofs.Blocks.{At, lies, at-form, form-at, stand, one-at}
 use Rattle.key.proofs.Pixels.{coarse, place-one, place-onto, place-div, pixel-at, block-at}
 pub use Rattle.key.proofs.Pixels.{place-lt, place-one, place-onto, corner-place}
 pub use Rattle.key.proofs.Powers.{pow-least, pow-most, power, four}
+pub use Rattle.key.proofs.Ends.{Starts, first-pixel, aligned-start, block-starting, end-key, sub-key}
+pub use Rattle.key.proofs.Along.{fits-key, fits-block, fits-other}
 pub use Rattle.key.proofs.Zeros.{alignment-most, alignment-zero, alignment-divides}
 
 at : {m key i s : ℕ} → Names m key i s → At m key i s
@@ -24,13 +26,7 @@ pub one-block : {m key i s j t : ℕ} → Names m key i s → Names m key j t �
 one-block x y = (cc, cc)
 
 pub one-key : {m a b i s : ℕ} → Names m a i s → Names m b i s → a ≡ b
-one-key {i = i} x y = go (stand (at x) (at y))
-  where
-    go : {a b s : ℕ} → Stand a i s b i s → a ≡ b
-    go (within p q) = omega arith
-    go (around l p h q) = absurd (omega arith)
-    go (after p q) = absurd (omega (arith, pow-least 3 i))
-    go (before p q) = absurd (omega (arith, pow-least 3 i))
+one-key x y = one-at (at x) (at y)
 
 -- the block of exponent i that holds a pixel: its span starts at the multiple of 4 ^ i at or below the pixel's place
 pub block-named : (m i r c : ℕ) → i ≤ m → Pixel m r c → Names m (blockKey m i r c) i (place r c / 4 ^ i * 4 ^ i)

@@ -4,5 +4,9 @@ mod Digits
 mod Blocks
 mod Pixels
 mod Zeros
+mod Corners
+mod Ends
+mod Along
+mod Here
 mod Examples
 pub mod Laws

@@ -89,7 +89,7 @@ place-onto (suc m) q h = onto-step m q (place-onto m (q / 4) (omega (arith, pow-
 -- ---- the key of a pixel has the digits of its place, each one more
 
 -- (5 ^ k - 1) / 4 is the key of k digits 1
-ones : (k : ℕ) → 4 * ((5 ^ k - 1) / 4) + 1 ≡ 5 ^ k
+pub ones : (k : ℕ) → 4 * ((5 ^ k - 1) / 4) + 1 ≡ 5 ^ k
 ones zero = refl
 ones (suc k) =
     let q : ℕ = (5 ^ k - 1) / 4 in

@@ -20,6 +20,7 @@ use Rattle.map.proofs.Tests.{exponent-is, holds-is}
 pub use Rattle.map.proofs.Tables.{sound-map}
 pub use Rattle.map.proofs.Order.{record-at, apart, keys-apart, keys-rise, holder, one-holder}
 pub use Rattle.map.proofs.Found.{block-records}
+pub use Rattle.map.proofs.Inner.{Inner, inner-inside, inner-first, inner-key, inner-names, inner-next}
 pub use Rattle.map.proofs.Tests.{exponent-is, start-is, end-is, holds-is}
 
 -- ---- the record of a place, and of a pixel

@@ -36,6 +36,16 @@ module _ {m : ℕ} where
   apart (next c q F) zero (suc b) r u l = let o = one-block (r .names) c in rw (o .0, o .1, ← q) (late F b (behind u))
   apart (next c q F) (suc a) (suc b) r u l = apart F a b (behind r) (behind u) (omega arith)
 
+  -- the first record starts at the first place, and each next one where the last span ended
+  heads : {at : ℕ} {keys : List ℕ} → Follow m at keys → {i s : ℕ} → Record m keys 0 i s → s ≡ at
+  heads (full e) r = absurd (omega (arith, r .within))
+  heads (next b q F) r = one-block (r .names) b .1
+
+  pub follows : {at : ℕ} {keys : List ℕ} → Follow m at keys → (n : ℕ) {i s j t : ℕ} → Record m keys n i s → Record m keys (suc n) j t → t ≡ s + 4 ^ i
+  follows (full e) n r u = absurd (omega (arith, r .within))
+  follows (next b q F) zero r u = let o = one-block (r .names) b in rw (o .0, o .1, ← q) (heads F (behind u))
+  follows (next b q F) (suc n) r u = follows F n (behind r) (behind u)
+
   pub holder : {at : ℕ} {keys : List ℕ} → Follow m at keys → (q : ℕ) → at ≤ q → q < 4 ^ m → Holder m keys q
   holder (full e) q l u = absurd (omega arith)
   holder {at} (next {k = k} {i = i} {end = end} {ks = ks} b e F) q l u = go (decLt q end) (holder F q)

@@ -1,20 +1,18 @@
 -- The loop over the records: what the table says of the records from n on, where the last span ended at `at`, is what it says of all.
 -- Assumes nothing.
 use mathlib.Core.Path.{_≡_, refl, ap, _∙_}
-use mathlib.Core.List.{List}
-use Prim.Native.Nat.{ℕ, _+_, _^_, _≤_, _<_}
+use mathlib.Core.List.{List, _∷_}
+use Prim.Native.Nat.{ℕ, suc, _+_, _^_, _≤_, _<_}
 use native.Mathlib.Omega.{arith}
 use native.Mathlib.Numerals.{add-one}
 use lib.ListN.{length, getD, drop, drop-of-length-le}
 use lib.Seq.{drop-cons}
 use Rattle.answers.specs.declared.Verdict.the-variants.{Passed, Refused}
 use Rattle.answers.specs.Rows.{verdict}
-use Rattle.key.specs.declared.Form.the-variants.{Malformed}
-use Rattle.key.specs.Form.{formOf}
 use Rattle.key.specs.Blocks.{Names}
 use Rattle.key.proofs.Laws.{block-lies}
 use Rattle.map.specs.Check.{recordRows}
-use Rattle.map.proofs.Steps.{step-malformed, step-early, step-late, step-next, step-short, step-full}
+use Rattle.map.proofs.Steps.{step-next, step-short, step-full}
 
 pub record Walking (m : ℕ) (keys : List ℕ) (at n : ℕ) : Type 0 where
   pub within : n ≤ length keys
@@ -29,22 +27,17 @@ module _ {m : ℕ} {keys : List ℕ} {at n : ℕ} (w : Walking m keys at n) wher
   from e = w .same ∙ ap (λ (ks : List ℕ). verdict (recordRows m n at ks)) e
 
   module _ (h : n < length keys) where
-    pub walking-malformed : formOf m (getD keys n 0) ≡ Malformed → verdict (recordRows m 0 0 keys) ≡ Refused 3 n
-    walking-malformed e = from (drop-cons keys n 0 h) ∙ step-malformed m n at _ _ e
+    -- record n, and those behind it
+    pub walking-here : verdict (recordRows m 0 0 keys) ≡ verdict (recordRows m n at (getD keys n 0 ∷ drop (suc n) keys))
+    walking-here = from (drop-cons keys n 0 h)
 
     module _ {i s : ℕ} (b : Names m (getD keys n 0) i s) where
-      pub walking-early : s < at → verdict (recordRows m 0 0 keys) ≡ Refused 4 n
-      walking-early l = from (drop-cons keys n 0 h) ∙ step-early m n at _ _ b l
-
-      pub walking-late : at < s → verdict (recordRows m 0 0 keys) ≡ Refused 5 n
-      walking-late l = from (drop-cons keys n 0 h) ∙ step-late m n at _ _ b l
-
       pub walking-next : {end : ℕ} → s ≡ at → end ≡ s + 4 ^ i → Walking m keys end (n + 1)
       walking-next {end} e q =
           record {
             within = omega arith;
             most = omega (arith, block-lies b .span);
-            same = from (drop-cons keys n 0 h) ∙ step-next m n at _ _ b e ∙ rw (q, add-one);
+            same = walking-here ∙ step-next m n at _ _ b e ∙ rw (q, add-one);
           }
 
   module _ (h : length keys ≤ n) where

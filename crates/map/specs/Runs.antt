@@ -55,3 +55,8 @@ pub record Between (keys : List ℕ) (x low high : ℕ) : Type 0 where
 -- the first r keys are below x, and the others are not
 abbrev pub Splits : List ℕ → ℕ → ℕ → Type 0
 Splits keys x r = Between keys x r r
+
+-- key n is the last below `end`, and it is not over x
+pub record Around (keys : List ℕ) (x end n : ℕ) : Type 0 where
+  pub low : getD keys n 0 ≤ x
+  pub last : Splits keys end (n + 1)

@@ -29,9 +29,9 @@ use Rattle.window.proofs.Laws.{floor-le, floor-lt, floor-eq, same-div, fits-sam
 use Rattle.map.specs.declared.Run.{Run}
 use Rattle.map.specs.Spans.{exponent}
 use Rattle.map.specs.Sound.{Follow}
-use Rattle.map.specs.Records.{SomeRecord, pixelRecord, pixelExponent}
-use Rattle.map.specs.Runs.{runOf, Nest, contained, filled, Meets}
-use Rattle.map.proofs.Laws.{tiling, record-at, block-records, exponent-record, exponent-is}
+use Rattle.map.specs.Records.{pixelRecord, pixelExponent}
+use Rattle.map.specs.Runs.{runOf, Meets}
+use Rattle.map.proofs.Laws.{tiling, record-at, block-records, inner-inside, exponent-record, exponent-is}
 use Rattle.border.specs.Openings.{met}
 use Rattle.border.specs.Step.{Corner}
 use Rattle.border.proofs.Laws.{met-in, size-le, met-pixels, met-first}
@@ -122,11 +122,9 @@ module _ {m top : ℕ} {keys : List ℕ} (F : Follow m 0 keys) {W : Window} (I :
 
   -- one of several lies in the block
   met-smaller : found .count ≢ 1 → exponent (formOf m (getD keys n 0)) ≤ Blocks.exponent W top b
-  met-smaller d = go (record-at F n (omega (arith, among, meets .room))) (meets .nest)
-    where
-      go : SomeRecord m keys n → Nest m keys (Blocks.exponent W top b) (place (b .0) (b .1)) (found .first) (found .count) → exponent (formOf m (getD keys n 0)) ≤ Blocks.exponent W top b
-      go R (contained e r h) = absurd (d e)
-      go R (filled h) = rw (exponent-is (R .is .names)) (size-le (omega (arith, h n (R .exponent) (R .start) among (R .is))))
+  met-smaller d =
+      let r = record-at F n (omega (arith, among, meets .room)) in
+      rw (exponent-is (r .is .names)) (size-le (omega (arith, inner-inside F (key-named I small (C .inside) (C .own)) meets d among (r .is))))
 
   -- and so in the window
   pub area-inside : found .count ≢ 1 → area m keys W n ≡ 4 ^ exponent (formOf m (getD keys n 0))

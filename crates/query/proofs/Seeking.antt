@@ -9,11 +9,12 @@ use Rattle.lists.specs.Lists.{upFrom, any}
 use Rattle.lists.proofs.Laws.{any-none, any-next}
 use Rattle.window.specs.declared.Window.{Window}
 use Rattle.window.specs.Window.{Px}
+use Rattle.border.specs.declared.Walk.{Walk}
 use Rattle.border.specs.declared.Found.the-variants as found
 use Rattle.border.specs.Openings.{Opening, openings}
 use Rattle.border.specs.Promises.{allHands}
 use Rattle.border.specs.Step.{Usable}
-use Rattle.border.specs.Found.{made, madeFrom, Finds}
+use Rattle.border.specs.Found.{made, madeFrom, walk, spot, Finds}
 use Rattle.border.proofs.Finding.{Finding, finding-next, finding-last}
 use Rattle.query.specs.Classes.{classed, exists}
 use Rattle.query.proofs.Found.{exists-hands, any-no-opening, any-opening, opening-any}
@@ -41,22 +42,22 @@ module _ (f : ℕ → Bool) {first end : ℕ} where
 
 -- ---- from opening to opening
 
--- the walk stands at s, and none of the records handed out so far has the class
-pub record Seeking (m : ℕ) (keys classes : List ℕ) (W : Window) (class : ℕ) (border₀ border : List ℕ) (s : Px) : Type 0 where
+-- the walk stands somewhere, and none of the records handed out so far has the class
+pub record Seeking (m : ℕ) (keys classes : List ℕ) (W : Window) (class : ℕ) (border₀ border : List ℕ) (at : Walk) : Type 0 where
   pub done : List Opening
-  pub finding : Finding m m keys W border₀ border s done
+  pub finding : Finding m m keys W border₀ border at done
   pub none : any (classed classes class) (allHands done) ≡ false
 
 module _ {m : ℕ} {keys : List ℕ} (classes : List ℕ) {W : Window} (class : ℕ) where
-  pub seeking-first : {border : List ℕ} → Finding m m keys W border border (W .r0, W .c0) [] → Seeking m keys classes W class border border (W .r0, W .c0)
+  pub seeking-first : {border : List ℕ} → Finding m m keys W border border (walk (W .r0) (W .c0) (W .w)) [] → Seeking m keys classes W class border border (walk (W .r0) (W .c0) (W .w))
   seeking-first F = record { done = []; finding = F; none = any-no-opening (classed classes class) }
 
-  module _ {n : ℕ} (U : Usable m m keys W n) {border₀ border : List ℕ} {s : Px} (S : Seeking m keys classes W class border₀ border s) where
+  module _ {n : ℕ} (U : Usable m m keys W n) {border₀ border : List ℕ} {at : Walk} (S : Seeking m keys classes W class border₀ border at) where
     whole : exists m keys classes W class ≡ any (classed classes class) (allHands (openings m m keys W))
     whole = exists-hands (U .sound) (U .inside) (U .cap) classes class
 
-    module _ {row col key first count after : ℕ} {border′ : List ℕ} (f : Finds m m keys W s border (found.Opening row col key first count after) border′) where
-      pub seeking-next : any (classed classes class) (upFrom first count) ≡ false → Seeking m keys classes W class border₀ border′ (row, after)
+    module _ {row col i key first count : ℕ} {on : Walk} {border′ : List ℕ} (f : Finds m m keys W at border (found.Opening row col i key first count on) border′) where
+      pub seeking-next : any (classed classes class) (upFrom first count) ≡ false → Seeking m keys classes W class border₀ border′ on
       seeking-next e = record {
         done = S .done ++ (made key first count ∷ []);
         finding = finding-next (S .finding) f;
@@ -65,8 +66,8 @@ module _ {m : ℕ} {keys : List ℕ} (classes : List ℕ) {W : Window} (class : 
 
       pub seeking-found : any (classed classes class) (upFrom first count) ≡ true → exists m keys classes W class ≡ true
       seeking-found e =
-          let rest = madeFrom m m keys W border′ (row, after) in
+          let rest = madeFrom m m keys W border′ (spot on) in
           whole ∙ rw (finding-next (S .finding) f .all, append-assoc (S .done) (made key first count ∷ []) rest) (opening-any (classed classes class) (S .done) (made key first count) rest e)
 
-    pub seeking-last : {border′ : List ℕ} → Finds m m keys W s border found.End border′ → exists m keys classes W class ≡ false
+    pub seeking-last : {border′ : List ℕ} → Finds m m keys W at border found.End border′ → exists m keys classes W class ≡ false
     seeking-last f = whole ∙ rw (finding-last (S .finding) f .0) (S .none)

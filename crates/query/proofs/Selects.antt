@@ -5,6 +5,8 @@ use mathlib.Core.List.{List, [], _∷_, _++_}
 use Prim.Native.Nat.{ℕ, _+_, _≤_}
 use native.Mathlib.Omega.{arith}
 use lib.ListN.{length}
+use Rattle.answers.specs.Cells.{Listed}
+use Rattle.answers.proofs.Listing.{listed-none, listed-more}
 use Rattle.key.specs.Picture.{Pixel}
 use Rattle.key.specs.Key.{blockKey}
 use Rattle.window.specs.declared.Window.{Window}
@@ -17,10 +19,9 @@ use Rattle.map.specs.declared.Run.{Run}
 use Rattle.map.specs.Runs.{runOf, BlockOf}
 use Rattle.border.specs.Step.{Corner, Usable}
 use Rattle.border.proofs.Laws.{met-some, met-room, block-key}
-use Rattle.query.specs.Select.{selected, picked, selection, Listed}
+use Rattle.query.specs.Select.{selected, picked, selection}
 use Rattle.query.proofs.Picked.{block-selected}
 use Rattle.query.proofs.Selection.{all-none, selectedBy, selection-is, selected-snoc, selected-room, selection-fits}
-use Rattle.query.proofs.Listing.{listed-none, listed-more}
 
 pub record Selecting (m : ℕ) (keys classes : List ℕ) (W : Window) (class : ℕ) (out₀ out : List ℕ) (s : Px) (n : ℕ) : Type 0 where
   pub past : List Px

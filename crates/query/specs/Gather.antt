@@ -2,19 +2,17 @@
 -- Assumes nothing.
 use mathlib.Core.Path.{_≡_}
 use mathlib.Core.Logic.{_≢_}
-use mathlib.Core.List.{List, [], _∷_, _++_, List·Memᴰ}
+use mathlib.Core.List.{List, [], _∷_, _++_}
 use Prim.Native.Nat.{ℕ, min, max, _+_, _-_, _*_, _^_, _≤_}
 use lib.Dec.{eqb}
 use lib.ListN.{getD, set, replicate}
 use Rattle.lists.specs.Lists.{upFrom, Ordered, howMany}
-use Rattle.key.specs.Blocks.{Among}
 use Rattle.window.specs.declared.Window.{Window}
-use Rattle.window.specs.Window.{Px, Inside}
-use Rattle.window.specs.Blocks.{floor}
+use Rattle.window.specs.Window.{Px}
+use Rattle.window.specs.Blocks.{floor, exponent}
 use Rattle.window.specs.Decompose.{keyOf}
 use Rattle.map.specs.Records.{pixelRecord}
-use Rattle.map.specs.Runs.{runOf}
-use Rattle.border.specs.Openings.{met}
+use Rattle.map.specs.Runs.{run, runOf}
 use Rattle.border.specs.Step.{Usable, Corner}
 use Rattle.query.specs.Classes.{pixels}
 
@@ -40,21 +38,23 @@ module _ (m : ℕ) (keys classes : List ℕ) (W : Window) where
   gathered [] cells = cells
   gathered (n ∷ ns) cells = gathered ns (added n cells)
 
--- record n is one of the `count` records that an opening of the block with corner b hands out
-pub record Part (m : ℕ) (keys : List ℕ) (W : Window) (b : Px) (count n : ℕ) : Type 0 where
+-- the block of this key and exponent, with corner b, is opened with the `count` records from `first` on, and they all have a class
+pub record Hands (m : ℕ) (keys : List ℕ) (classes : ℕ) (W : Window) (b : Px) (key i first count : ℕ) : Type 0 where
   pub top : ℕ
-  pub room : ℕ
-  pub given : Usable m top keys W room
+  pub cells : ℕ
+  pub given : Usable m top keys W cells
   pub corner : Corner W top b
-  pub many : count ≡ runOf m keys (keyOf m top W b) .count
-  pub listed : List·Memᴰ n (met m keys (keyOf m top W b))
-
--- so it does with each of the `count` records from `first` on, and they all have a class
-pub record Hands (m : ℕ) (keys : List ℕ) (classes : ℕ) (W : Window) (b : Px) (first count : ℕ) : Type 0 where
-  pub parts : (n : ℕ) → Among first count n → Part m keys W b count n
+  pub named : key ≡ keyOf m top W b
+  pub size : i ≡ exponent W top b
+  pub found : runOf m keys key ≡ run first count
   pub room : first + count ≤ classes
   pub few : classes ≤ 65536
-  pub inside : Inside 12 W
+
+-- and they are several
+pub record Fills (m : ℕ) (keys : List ℕ) (classes : ℕ) (W : Window) (key i first count : ℕ) : Type 0 where
+  pub corner : Px
+  pub hands : Hands m keys classes W corner key i first count
+  pub several : count ≢ 1
 
 -- the totals are those of records that do not come again among the `count` from `first` on
 pub record Gathering (m : ℕ) (keys classes : List ℕ) (W : Window) (first count : ℕ) (cells : List ℕ) : Type 0 where

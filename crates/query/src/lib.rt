@@ -6,16 +6,17 @@ use window::Next;
 use window::Window;
 ghost use mathlib.Core.Path.{_≡_};
 ghost use Prim.Native.Nat.{_+_, _≤_, _<_};
-ghost use lib.ListN.{length};
+ghost use lib.ListN.{length, replicate};
 ghost use Rattle.lists.specs.Lists.{upFrom, any};
-ghost use Rattle.answers.specs.Cells.{overwrite};
+ghost use Rattle.answers.specs.Cells.{overwrite, Listed};
 ghost use Rattle.key.specs.Spread.{spreads};
+ghost use Rattle.key.specs.Along.{onesTable, Finds};
 ghost use Rattle.window.specs.Window.{In, Inside};
 ghost use Rattle.border.specs.Step.{Usable};
 ghost use Rattle.border.specs.Open.{spent, after};
 ghost use Rattle.query.specs.Classes.{classed, totals};
-ghost use Rattle.query.specs.Gather.{shared, clipped, area, gathered, Part, Hands, Gathering};
-ghost use Rattle.query.specs.Select.{pickedRun, picked, selection, keyed, Listed};
+ghost use Rattle.query.specs.Gather.{shared, clipped, gathered, Hands, Fills, Gathering};
+ghost use Rattle.query.specs.Select.{pickedRun, picked, selection};
 ghost use Rattle.query.specs.Query.{afterExist, existing, existOf, roomFor, reportOf, selectOf};
 
 // What exist answers.
@@ -62,15 +63,13 @@ fn seek(
 {
     let w = window.w as usize;
     border::fill(border, 0, w, window.r0);
-    let mut r = window.r0;
-    let mut c = window.c0;
+    let mut at = border::start(window);
     loop {
-        let found = border::next_opening(table, m, m, keys, window, r, c, border);
+        let found = border::next_opening(table, m, m, keys, window, at, border);
         let Found::Opening {
-            row,
             first,
             count,
-            after,
+            on,
             ..
         } = found
         else {
@@ -80,8 +79,7 @@ fn seek(
             border::fill(border, 0, w, window.r0 + window.h);
             return Existence::Yes;
         }
-        r = row;
-        c = after;
+        at = on;
     }
 }
 
@@ -128,85 +126,124 @@ fn clipped(window: Window, e: u32, row: u16, col: u16) -> u32
     (rows as u32) * (cols as u32)
 }
 
-// How many pixels of the window are in a record that is handed out by the opening of the block with this corner: a single one contains the block and may stick out of the window;
-// several lie in it.
-fn part(m: u32, keys: &[u32], window: Window, row: u16, col: u16, count: u32, n: u32) -> u32
-    requires { ⌜ Part m (now keys) window (row, col) count n ⌝ }
-    ensures { λ r. ⌜ r ≡ area m (now (keys .entry)) window n ⌝ }
+// Adds the pixels of several records, which fill the block of this key and exponent, to the totals of their classes. The block is gone through as the check goes through a picture,
+// and what a record has over the block's key is its key there. m and the window are there for the contract alone.
+fn gather_run(
+    ones: &[u32; 13],
+    digits: &[u8; 16],
+    m: u32,
+    keys: &[u32],
+    classes: &[u8],
+    window: Window,
+    key: u32,
+    exponent: u32,
+    first: u32,
+    count: u32,
+    totals: &mut [u32; 256],
+)
+    requires { ⌜ (now ones ≡ onesTable) × Finds (now digits) × Fills m (now keys) (length (now classes)) window key exponent first count × Gathering m (now keys) (now classes) window first count (now totals) ⌝ }
+    ensures { λ r. ⌜ now (totals .exit) ≡ gathered m (now (keys .entry)) (now (classes .entry)) window (upFrom first count) (now (totals .entry)) ⌝ }
 {
-    let e = map::exponent_of(m, keys, n);
-    if count == 1 {
-        return clipped(window, e, row, col);
+    let end = first + count;
+    let mut spot = key::first_spot(ones, exponent);
+    let mut n = first;
+    while n < end {
+        let at = n as usize;
+        let inner = keys[at] - key;
+        let e = key::exponent_here(digits, exponent, spot, inner);
+        totals[classes[at] as usize] += key::pow4(e);
+        spot = key::advance(ones, exponent, inner, e, spot.place);
+        n += 1;
     }
-    key::pow4(e)
 }
 
-// Adds the parts of the records that an opening hands out to the totals of their classes.
+// Adds the parts of the records that an opening hands out to the totals of their classes. A single one contains the block and may stick out of the window, several lie in it.
 fn gather(
+    ones: &[u32; 13],
+    digits: &[u8; 16],
     m: u32,
     keys: &[u32],
     classes: &[u8],
     window: Window,
     row: u16,
     col: u16,
+    key: u32,
+    exponent: u32,
     first: u32,
     count: u32,
     totals: &mut [u32; 256],
 )
-    requires { ⌜ Hands m (now keys) (length (now classes)) window (row, col) first count × Gathering m (now keys) (now classes) window first count (now totals) ⌝ }
+    requires { ⌜ (now ones ≡ onesTable) × Finds (now digits) × Hands m (now keys) (length (now classes)) window (row, col) key exponent first count × Gathering m (now keys) (now classes) window first count (now totals) ⌝ }
     ensures { λ r. ⌜ now (totals .exit) ≡ gathered m (now (keys .entry)) (now (classes .entry)) window (upFrom first count) (now (totals .entry)) ⌝ }
 {
-    let end = first + count;
-    let mut n = first;
-    while n < end {
-        let area = part(m, keys, window, row, col, count, n);
-        totals[classes[n as usize] as usize] += area;
-        n += 1;
+    if count == 1 {
+        let e = map::exponent_of(m, keys, first);
+        let area = clipped(window, e, row, col);
+        totals[classes[first as usize] as usize] += area;
+        return;
     }
+    gather_run(
+        ones,
+        digits,
+        m,
+        keys,
+        classes,
+        window,
+        key,
+        exponent,
+        first,
+        count,
+        totals,
+    );
 }
 
-// The totals of all classes, gathered from opening to opening.
+// Gathers the totals of all classes from opening to opening.
 fn add_up(
     table: &[u32; 256],
+    ones: &[u32; 13],
+    digits: &[u8; 16],
     m: u32,
     keys: &[u32],
     classes: &[u8],
     window: Window,
     border: &mut [u16],
-) -> [u32; 256]
-    requires { ⌜ (now table ≡ spreads) × Usable m m (now keys) window (length (now border)) × (length (now keys) ≡ length (now classes)) ⌝ }
-    ensures { λ r. ⌜ (r ≡ totals m (now (keys .entry)) (now (classes .entry)) window) × (now (border .exit) ≡ spent window (now (border .entry))) ⌝ }
+    counts: &mut [u32; 256],
+)
+    requires { ⌜ (now table ≡ spreads) × (now ones ≡ onesTable) × Finds (now digits) × Usable m m (now keys) window (length (now border)) × (length (now keys) ≡ length (now classes)) × (now counts ≡ replicate 256 0) ⌝ }
+    ensures { λ r. ⌜ (now (counts .exit) ≡ totals m (now (keys .entry)) (now (classes .entry)) window) × (now (border .exit) ≡ spent window (now (border .entry))) ⌝ }
 {
-    let mut totals: [u32; 256] = [0; 256];
     border::fill(border, 0, window.w as usize, window.r0);
-    let mut r = window.r0;
-    let mut c = window.c0;
+    let mut at = border::start(window);
     loop {
-        let found = border::next_opening(table, m, m, keys, window, r, c, border);
+        let found = border::next_opening(table, m, m, keys, window, at, border);
         let Found::Opening {
             row,
             col,
+            exponent,
+            key,
             first,
             count,
-            after,
-            ..
+            on,
         } = found
         else {
-            return totals;
+            return;
         };
         gather(
+            ones,
+            digits,
             m,
             keys,
             classes,
             window,
             row,
             col,
+            key,
+            exponent,
             first,
             count,
-            &mut totals,
+            counts,
         );
-        r = row;
-        c = after;
+        at = on;
     }
 }
 
@@ -245,20 +282,23 @@ pub fn report(
         };
     }
     let table = key::spread_table();
-    let totals = add_up(&table, m, keys, classes, window, border);
+    let ones = key::ones_table();
+    let digits = key::digits_table();
+    let mut totals: [u32; 256] = [0; 256];
+    add_up(
+        &table,
+        &ones,
+        &digits,
+        m,
+        keys,
+        classes,
+        window,
+        border,
+        &mut totals,
+    );
     put_totals(&totals, out);
     Queried::Done {
         value: (window.h as u32) * (window.w as u32),
-    }
-}
-
-// Writes a key behind n others, where there is room for it.
-fn put_key(out: &mut [u32], n: u32, key: u32)
-    ensures { λ r. ⌜ now (out .exit) ≡ keyed n key (now (out .entry)) ⌝ }
-{
-    let at = n as usize;
-    if at < out.len() {
-        out[at] = key;
     }
 }
 
@@ -269,7 +309,7 @@ fn pick_record(keys: &[u32], classes: &[u8], class: u8, i: u32, out: &mut [u32],
 {
     let at = i as usize;
     if classes[at] == class {
-        put_key(out, n, keys[at]);
+        answers::put(out, n, keys[at]);
         return n + 1;
     }
     n
@@ -305,7 +345,7 @@ fn pick(keys: &[u32], classes: &[u8], class: u8, key: u32, run: Run, out: &mut [
 {
     if run.count == 1 {
         if classes[run.first as usize] == class {
-            put_key(out, n, key);
+            answers::put(out, n, key);
             return n + 1;
         }
         return n;
@@ -313,7 +353,7 @@ fn pick(keys: &[u32], classes: &[u8], class: u8, key: u32, run: Run, out: &mut [
     pick_run(keys, classes, class, run.first, run.count, out, n)
 }
 
-// Goes through the maximal blocks and lists what each has. How many keys there are; those are written for which there is room.
+// Goes through the maximal blocks and lists what each has. How many keys there are; those are written for which there is room. A block in the record found last is not searched for.
 fn pick_all(
     table: &[u32; 256],
     m: u32,
@@ -329,6 +369,7 @@ fn pick_all(
     let mut r = window.r0;
     let mut c = window.c0;
     let mut n: u32 = 0;
+    let mut near: u32 = 0;
     loop {
         let next = window::next_block(window, m, r, c);
         let Next::Block {
@@ -341,7 +382,8 @@ fn pick_all(
             return n;
         };
         let key = key::block_key(table, m, exponent, row, col);
-        let run = map::records_of(m, keys, key, exponent);
+        let run = map::records_near(table, m, keys, key, exponent, near);
+        near = run.first;
         n = pick(keys, classes, class, key, run, out, n);
         r = row;
         c = after;
@@ -363,16 +405,14 @@ fn list_keys(
     ensures { λ r. ⌜ (r, now (out .exit)) ≡ roomFor (selection m m (now (keys .entry)) (now (classes .entry)) window class) (now (out .entry)) ⌝ }
 {
     let most = 4 * ((window.w as usize) + (window.h as usize)) + keys.len();
-    if most <= out.len() {
-        let value = pick_all(table, m, keys, classes, window, class, out);
-        return Queried::Done { value };
-    }
-    let needed = pick_all(table, m, keys, classes, window, class, &mut out[..0]);
-    if out.len() < needed as usize {
-        return Queried::Refused {
-            number: 8,
-            place: needed,
-        };
+    if out.len() < most {
+        let needed = pick_all(table, m, keys, classes, window, class, &mut out[..0]);
+        if out.len() < needed as usize {
+            return Queried::Refused {
+                number: 8,
+                place: needed,
+            };
+        }
     }
     let value = pick_all(table, m, keys, classes, window, class, out);
     Queried::Done { value }

@@ -18,7 +18,7 @@ pub use Rattle.window.proofs.Listed.{before-row, before-irrefl, before-
 pub use Rattle.window.proofs.Few.{blocks-few}
 pub use Rattle.window.proofs.Tests.{window-refused, window-passed, window-inside, inside-12}
 pub use Rattle.window.proofs.Keys.{keys-of, key-at, pixel-in, key-named}
-pub use Rattle.window.proofs.Walk.{walked-first, walked-next, walked-last, walked-split, walked-room, goes-in, goes-corner, goes-exponent, goes-cursor, goes-less}
+pub use Rattle.window.proofs.Past.{walked-first, walked-next, walked-last, walked-split, walked-room, goes-in, goes-corner, goes-exponent, goes-cursor, goes-less}
 pub use Rattle.window.proofs.Loops.{maximal-most, rows-length, pixels-most}
 pub use Rattle.window.proofs.Counts.{rows-count}
 pub use Rattle.window.proofs.Tables.{keys-length}

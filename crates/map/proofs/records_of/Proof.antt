@@ -1,65 +1,62 @@
--- `map::records_of` meets its contract: two searches find the block's keys in the list.
+-- `map::records_of` meets its contract: where the block's keys begin and end in the list of keys.
 -- Assumes nothing.
-use mathlib.Core.Path.{_≡_, sym}
-use Prim.Native.Nat.{_+_, _^_}
+use mathlib.Core.Path.{_≡_, sym, ap, _∙_}
+use Prim.Native.Nat.{_+_, _-_, _≤_}
 use native.Mathlib.Omega.{arith}
 use borrow.Author.Needs.{needs}
-use Rattle.key.proofs.Laws.{block-lies, pow-most}
-use Rattle.map.specs.Runs.{Splits}
+use Rattle.map.specs.Runs.{run, runOf}
 use Rattle.map.proofs.Order.{keys-rise}
-use Rattle.map.proofs.Found.{found-run, found-one, in-order}
+use Rattle.map.proofs.Halves.{between-first}
+use Rattle.map.proofs.Found.{found-run, found-one}
 use Rattle.map.proofs.records_of.Statement.{statement}
 use Rattle.map.proofs.records_of.Tie as tie
 
 keys-below-requires : tie.Need-keys-below-requires
-keys-below-requires c κs = keys-rise (c .before .pre .2)
+keys-below-requires c κs = (keys-rise (c .before .pre .3), between-first _ _)
 
-cast-first : tie.Need-cast-first
-cast-first c = search needs
+records-inside-requires : tie.Need-records-inside-requires
+records-inside-requires c κs = search needs
 
-pow5-requires : tie.Need-pow5-requires
-pow5-requires c κs = omega (arith, block-lies (c .before .before .pre .3 .names) .small, c .before .before .pre .0)
+-- no record lies in the block
+none : (c : tie.Then1)
+    → (1 ≤ c .before .before .keys-below .result)
+    × (runOf (c .before .before .before .before .args .m) (c .before .before .before .before .args .keys .now) (c .before .before .before .before .args .key) ≡ run (c .before .before .keys-below .result - 1) 1)
+none c =
+    let s = c .before .before .before .before in
+    found-one (s .pre .3) (s .pre .4 .names) (c .before .before .keys-below .ensures) (c .before .records-inside .ensures) (omega (arith, c .if1 .taken))
 
-add-keys-below : tie.Need-add-keys-below
-add-keys-below c = omega (arith, block-lies (c .before .before .before .pre .3 .names) .keys, pow-most 4 _ (c .before .before .before .pre .0), c .pow5 .ensures .is)
+sub-t9 : tie.Need-sub-t9
+sub-t9 c = none c .0
 
-keys-below-requires-2 : tie.Need-keys-below-requires-2
-keys-below-requires-2 c κs = keys-rise (c .before .before .before .pre .2)
-
-cast-after : tie.Need-cast-after
-cast-after c = search needs
-
-sub-t11 : tie.Need-sub-t11
-sub-t11 c = search needs
-
--- the second search is for the end of the block's keys
-end : (c : tie.After-keys-below2) → Splits (c .before .before .before .before .args .keys .now) (c .before .before .before .before .args .key + 5 ^ c .before .before .before .before .args .i) (c .keys-below2 .result)
-end c = rw (c .before .pow5 .ensures .is) at (c .keys-below2 .ensures)
+cast-t10 : tie.Need-cast-t10
+cast-t10 c = search needs
 
 returns : tie.Need-returns
-returns c = sym (found-run (c .before .before .before .before .before .pre .2) (c .before .before .before .before .before .pre .3 .names) (c .before .before .before .keys-below .ensures) (end (c .before)) (c .if1 .taken))
+returns c = sym (none c .1)
 
--- where no key is the block's, the two searches find one place
-one : (c : tie.Else1) → c .before .before .before .keys-below .result ≡ c .before .keys-below2 .result
-one c = omega (arith, c .if1 .left, in-order (c .before .before .before .before .before .pre .2) (c .before .before .before .before .before .pre .3 .names) (c .before .before .before .keys-below .ensures) (end (c .before)))
+cast-t11 : tie.Need-cast-t11
+cast-t11 c = search needs
 
-sub-t8 : tie.Need-sub-t8
-sub-t8 c = found-one (c .before .before .before .before .before .pre .2) (c .before .before .before .before .before .pre .3 .names) (c .before .before .before .keys-below .ensures) (end (c .before)) (one c) .0
+cast-t12 : tie.Need-cast-t12
+cast-t12 c = search needs
 
 returns-2 : tie.Need-returns-2
-returns-2 c = sym (found-one (c .before .before .before .before .before .pre .2) (c .before .before .before .before .before .pre .3 .names) (c .before .before .before .keys-below .ensures) (end (c .before)) (one c) .1)
+returns-2 c =
+    let s = c .before .before .before .before in
+    let first = c .before .before .keys-below .result in
+    let count = c .before .records-inside .result in
+    let e : first + count - first ≡ count = omega arith in
+    sym (found-run (s .pre .3) (s .pre .4 .names) (c .before .before .keys-below .ensures) (c .before .records-inside .ensures) (omega (arith, c .if1 .left)) ∙ ap (run first) e)
 
 pub records-of-spec : {M : Type 1} → statement M
 records-of-spec =
     tie.close
     (tie.spec
     keys-below-requires
-    cast-first
-    pow5-requires
-    add-keys-below
-    keys-below-requires-2
-    cast-after
-    sub-t11
+    records-inside-requires
+    sub-t9
+    cast-t10
     returns
-    sub-t8
+    cast-t11
+    cast-t12
     returns-2)

@@ -3,19 +3,19 @@
 use native.Mathlib.Omega.{arith}
 use lib.ListN.{length}
 use borrow.Author.Needs.{needs}
+use Rattle.answers.proofs.Listing.{listed-same}
 use Rattle.window.specs.declared.Next.the-variants.{Block}
 use Rattle.window.specs.Walk.{blocksFrom, Goes}
 use Rattle.window.proofs.Laws.{inside-12, goes-less}
-use Rattle.query.proofs.Listing.{listed-same}
 use Rattle.query.proofs.Selects.{Selecting, selecting-first, selecting-last, selecting-key, selecting-most, selecting-block, selecting-run, selecting-next}
 use Rattle.query.proofs.pick_all.Statement.{statement}
 use Rattle.query.proofs.pick_all.Tie as tie
 
 abbrev Inv-loop : tie.InvT-loop
-Inv-loop table m keys classes window class out₀ r₀ c₀ n₀ out r c n = Selecting m keys classes window class out₀ out (r, c) n
+Inv-loop table m keys classes window class out₀ r₀ c₀ n₀ near₀ out r c n near = Selecting m keys classes window class out₀ out (r, c) n
 
 abbrev μ-loop : tie.MeasureT-loop
-μ-loop table m keys classes window class out₀ r₀ c₀ n₀ out r c n = length (blocksFrom window m (r, c))
+μ-loop table m keys classes window class out₀ r₀ c₀ n₀ near₀ out r c n near = length (blocksFrom window m (r, c))
 
 loop-holds : tie.Need-loop-holds Inv-loop μ-loop
 loop-holds c = selecting-first _ _ (c .before .before .before .pre .1) _
@@ -42,20 +42,20 @@ goes c = rw (c .before .next .given .1) at (c .before .before .before .next-bloc
 block-key-requires : tie.Need-block-key-requires Inv-loop μ-loop
 block-key-requires c κs = let k = selecting-key _ _ (c .before .before .before .before .before .before .before .before .pre .1) (c .before .before .before .before .loop .inv) (goes c) in (c .before .before .before .before .before .before .before .before .pre .0, c .before .before .before .before .before .before .before .before .pre .1 .small, k .0, k .1)
 
-records-of-requires : tie.Need-records-of-requires Inv-loop μ-loop
-records-of-requires c κs = let u = c .before .before .before .before .before .before .before .before .before .pre .1 in (u .small, u .few, u .sound, selecting-block _ _ u (c .before .before .before .before .before .loop .inv) (goes (c .before)) (c .block-key .ensures))
+records-near-requires : tie.Need-records-near-requires Inv-loop μ-loop
+records-near-requires c κs = let u = c .before .before .before .before .before .before .before .before .before .pre .1 in (c .before .before .before .before .before .before .before .before .before .pre .0, u .small, u .few, u .sound, selecting-block _ _ u (c .before .before .before .before .before .loop .inv) (goes (c .before)) (c .block-key .ensures))
 
 pick-requires : tie.Need-pick-requires Inv-loop μ-loop
 pick-requires c κs =
     let u = c .before .before .before .before .before .before .before .before .before .before .before .pre .1 in
-    let o = selecting-run _ _ u (c .before .before .before .before .before .before .before .loop .inv) (goes (c .before .before .before)) (c .before .before .block-key .ensures) (c .before .records-of .ensures) in
+    let o = selecting-run _ _ u (c .before .before .before .before .before .before .before .loop .inv) (goes (c .before .before .before)) (c .before .before .block-key .ensures) (c .before .records-near .ensures) in
     (o .some, o .room, u .few, c .before .before .before .before .before .before .before .before .before .before .before .pre .2, omega (arith, o .room, u .few, selecting-most _ _ u (c .before .before .before .before .before .before .before .loop .inv) (goes (c .before .before .before))))
 
 loop-less : tie.Need-loop-less Inv-loop μ-loop
 loop-less c = goes-less (goes (c .before .before .before .before .before .before))
 
 loop-again : tie.Need-loop-again Inv-loop μ-loop
-loop-again c = selecting-next _ _ (c .before .before .before .before .before .before .before .before .before .before .before .before .before .before .pre .1) (c .before .before .before .before .before .before .before .before .before .before .loop .inv) (goes (c .before .before .before .before .before .before)) (c .before .before .before .before .before .block-key .ensures) (c .before .before .before .before .records-of .ensures) (c .before .before .pick .ensures)
+loop-again c = selecting-next _ _ (c .before .before .before .before .before .before .before .before .before .before .before .before .before .before .pre .1) (c .before .before .before .before .before .before .before .before .before .before .loop .inv) (goes (c .before .before .before .before .before .before)) (c .before .before .before .before .before .block-key .ensures) (c .before .before .before .before .records-near .ensures) (c .before .before .pick .ensures)
 
 pub pick-all-spec : {M : Type 1} → statement M
 pick-all-spec =
@@ -70,7 +70,7 @@ pick-all-spec =
     same-length
     returns
     block-key-requires
-    records-of-requires
+    records-near-requires
     pick-requires
     loop-less
     loop-again)

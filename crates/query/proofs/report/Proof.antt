@@ -1,6 +1,6 @@
 -- `query::report` meets its contract. Each test decides what its law in `Tables` says.
 -- Assumes nothing.
-use mathlib.Core.Path.{_≡_, ap, sym, _∙_}
+use mathlib.Core.Path.{_≡_, refl, ap, sym, _∙_}
 use native.Mathlib.Omega.{arith}
 use lib.ListN.{length}
 use borrow.Author.Needs.{needs}
@@ -57,20 +57,37 @@ returns-2 c = report-short _ _ _ _ _ _ (passed (c .before .before .before .befor
 spread-table-requires : tie.Need-spread-table-requires
 spread-table-requires c κs = search needs
 
+ones-table-requires : tie.Need-ones-table-requires
+ones-table-requires c κs = search needs
+
+digits-table-requires : tie.Need-digits-table-requires
+digits-table-requires c κs = search needs
+
+-- where there is room for the totals
+abbrev roomy : tie.After-add-up-arg → tie.Else1
+roomy c = c .before .before .before .before .before .before .before
+
 add-up-requires : tie.Need-add-up-requires
-add-up-requires c κs = (c .before .before .spread-table .ensures, known (c .before .before .before .before), use-same _ _ _ _ _ (passed (c .before .before .before .before)))
+add-up-requires c κs =
+    let told = roomy (c .before) .before in
+    let tables = c .before .before .before .before .before in
+    (tables .before .before .spread-table .ensures, tables .before .ones-table .ensures, tables .digits-table .ensures, known told, use-same _ _ _ _ _ (passed told), refl)
 
 put-totals-requires : tie.Need-put-totals-requires
-put-totals-requires c κs = (ap length (c .before .before .before .before .add-up .ensures .0) ∙ totals-length _ _ _ _, omega (arith, c .before .before .before .before .before .before .before .before .if1 .left))
+put-totals-requires c κs =
+    (ap length (c .before .before .before .before .add-up .ensures .0) ∙ totals-length _ _ _ _, omega (arith, roomy (c .before .before .before .before .before .before) .if1 .left))
 
-cast-t27 : tie.Need-cast-t27
-cast-t27 c = search needs
+cast-t34 : tie.Need-cast-t34
+cast-t34 c = search needs
 
-cast-t28 : tie.Need-cast-t28
-cast-t28 c = search needs
+cast-t35 : tie.Need-cast-t35
+cast-t35 c = search needs
 
-mul-t29 : tie.Need-mul-t29
-mul-t29 c = let u = known (c .before .before .before .before .before .before .before .before .before .before .before .before .before .before) in omega (arith, pixels-most (c .before .before .before .before .before .before .before .before .before .before .before .before .before .before .before .before .before .before .before .before .before .args .window) (inside-12 (u .small) (u .inside)))
+mul-t36 : tie.Need-mul-t36
+mul-t36 c =
+    let told = roomy (c .before .before .before .before .before .before .before .before .before .before .before) .before in
+    let u = known told in
+    omega (arith, pixels-most (entry told .args .window) (inside-12 (u .small) (u .inside)))
 
 same-length-2 : tie.Need-same-length-2
 same-length-2 c = search needs
@@ -79,7 +96,10 @@ same-length-3 : tie.Need-same-length-3
 same-length-3 c = search needs
 
 returns-3 : tie.Need-returns-3
-returns-3 c = report-done _ _ _ _ _ _ (passed (c .before .before .before .before .before .before .before .before .before .before .before .before .before .before)) (c .before .before .before .before .before .before .before .before .before .add-up .ensures .1) (omega (arith, c .before .before .before .before .before .before .before .before .before .before .before .before .before .if1 .left)) (c .before .before .before .before .before .before .before .before .before .add-up .ensures .0) (c .before .before .before .before .put-totals .ensures)
+returns-3 c =
+    let added = c .before .before .before .before .before .before .before .before .before in
+    let left = roomy (added .before .before) in
+    report-done _ _ _ _ _ _ (passed (left .before)) (added .add-up .ensures .1) (omega (arith, left .if1 .left)) (added .add-up .ensures .0) (c .before .before .before .before .put-totals .ensures)
 
 pub report-spec : {M : Type 1} → statement M
 report-spec =
@@ -95,11 +115,13 @@ report-spec =
     same-length
     returns-2
     spread-table-requires
+    ones-table-requires
+    digits-table-requires
     add-up-requires
     put-totals-requires
-    cast-t27
-    cast-t28
-    mul-t29
+    cast-t34
+    cast-t35
+    mul-t36
     same-length-2
     same-length-3
     returns-3)

@@ -1,0 +1,131 @@
+-- One step as it is made: which cells it keeps, what it makes, and how many columns it closes.
+-- Assumes nothing.
+use mathlib.Core.Path.{_≡_, refl, sym, ap, _∙_}
+use mathlib.Core.List.{List, _∷_, _++_}
+use Prim.Native.Nat.{ℕ, _+_, _-_, _≤_, _<_}
+use native.Mathlib.Decide.{decLt}
+use native.Mathlib.Nat.{add-zero}
+use native.Mathlib.Omega.{arith}
+use lib.ListN.{length, getD, take, drop, replicate, length-replicate}
+use borrow.Author.Tests.{lt-ltb, le-ltb}
+use Rattle.answers.proofs.Laws.{overwrite-part, overwrite-same}
+use Rattle.window.specs.declared.Window.{Window}
+use Rattle.window.specs.Window.{Px}
+use Rattle.window.specs.Blocks.{exponent, maximal}
+use Rattle.window.specs.Decompose.{keyOf}
+use Rattle.map.specs.Records.{pixelRecord, pixelExponent}
+use Rattle.map.specs.Runs.{runOf}
+use Rattle.map.proofs.Laws.{tiling}
+use Rattle.border.specs.declared.Stepped.{Stepped}
+use Rattle.border.specs.declared.Stepped.the-variants as stepped
+use Rattle.border.specs.Border.{Stated, Handed, handedBy}
+use Rattle.border.specs.Cells.{filled, raised, closed}
+use Rattle.border.specs.Step.{reach, AfterStep, afterStep, stepOf, Corner, Usable, Ready, Step}
+use Rattle.border.specs.Found.{madeBy, madeOver, leftOver, columnsLeft, Kept}
+use Rattle.border.specs.Open.{spent}
+use Rattle.border.proofs.Filled.{raised-length, raised-beyond}
+use Rattle.border.proofs.Columns.{left-raised}
+use Rattle.border.proofs.Sweep.{Out}
+use Rattle.border.proofs.Stays.{stated-as, skip-iff, fresh-high}
+use Rattle.border.proofs.Steps.{opened-not-skipped, step-skipped, step-opened}
+use Rattle.border.proofs.Handing.{handed-out}
+
+pub kept-none : {W : Window} {cells : List ℕ} → Kept W cells cells
+kept-none = record { same = refl; beyond = refl }
+
+pub kept-more : {W : Window} {a b c : List ℕ} → Kept W a b → Kept W b c → Kept W a c
+kept-more k l = record { same = l .same ∙ k .same; beyond = l .beyond ∙ k .beyond }
+
+pub spent-kept : {W : Window} {cells border : List ℕ} → Kept W cells border → spent W border ≡ spent W cells
+unfolding spent
+spent-kept {W} {cells} {border} k =
+    let l : length (replicate (W .w) (W .r0 + W .h)) ≡ W .w = length-replicate (W .w) (W .r0 + W .h) in
+    overwrite-same (replicate (W .w) (W .r0 + W .h)) cells border (rw l (k .beyond))
+
+pub filled-spent : (W : Window) (cells : List ℕ) → W .w ≤ length cells → filled 0 (W .w) (W .r0 + W .h) cells ≡ spent W cells
+unfolding filled spent
+filled-spent W cells l =
+    let z : W .w - 0 ≡ W .w = omega arith in
+    let y : 0 + (W .w - 0) ≡ W .w = omega arith in
+    let e : take 0 cells ++ replicate (W .w - 0) (W .r0 + W .h) ++ drop (0 + (W .w - 0)) cells ≡ replicate (W .w) (W .r0 + W .h) ++ drop (W .w) cells = rw (y, z) in
+    let n : length (replicate (W .w) (W .r0 + W .h)) ≡ W .w = length-replicate (W .w) (W .r0 + W .h) in
+    e ∙ rw n at (overwrite-part (replicate (W .w) (W .r0 + W .h)) cells)
+
+-- ---- one step
+
+module _ (m top : ℕ) (keys : List ℕ) (W : Window) (b : Px) (cells : List ℕ) where
+  abbrev size : ℕ
+  size = reach W top (pixelExponent m keys) b
+
+  pub low-is : getD cells (b .1 - W .c0) 0 ≤ b .0
+      → let run = runOf m keys (keyOf m top W b) in
+      stepOf m top keys W b cells ≡ afterStep (stepped.Opened (keyOf m top W b) (run .first) (run .count) (closed W size b)) (raised W size b cells)
+  unfolding stepOf
+  low-is l = rw (le-ltb (b .0) (getD cells (b .1 - W .c0) 0) l)
+
+  pub high-is : b .0 < getD cells (b .1 - W .c0) 0 → stepOf m top keys W b cells ≡ afterStep stepped.Skipped cells
+  unfolding stepOf
+  high-is l = rw (lt-ltb (b .0) (getD cells (b .1 - W .c0) 0) l)
+
+module _ {m top : ℕ} {keys : List ℕ} {W : Window} {b : Px} {cells border : List ℕ} {answer : Stepped} (S : Step m top keys W b cells answer border) where
+  pub step-kept : Corner W top b → W .w ≤ length cells → Kept W cells border
+  step-kept K wide = rw (ap (λ (x : AfterStep). x .border) (S .is)) (go (decLt (b .0) (getD cells (b .1 - W .c0) 0)))
+    where
+      go : Dec (b .0 < getD cells (b .1 - W .c0) 0) → Kept W cells (stepOf m top keys W b cells .border)
+      go (yes l) = rw (high-is m top keys W b cells l) kept-none
+      go (no h) = rw (low-is m top keys W b cells (omega (arith, h))) (record {
+        same = raised-length (reach W top (pixelExponent m keys) b) cells (K .inside) wide;
+        beyond = raised-beyond (reach W top (pixelExponent m keys) b) cells (K .inside) wide;
+      })
+
+  -- an opened block is opened by its key
+  pub step-key : {key first count shut : ℕ} → answer ≡ stepped.Opened key first count shut → key ≡ keyOf m top W b
+  step-key {key} e = go (decLt (b .0) (getD cells (b .1 - W .c0) 0))
+    where
+      go : Dec (b .0 < getD cells (b .1 - W .c0) 0) → key ≡ keyOf m top W b
+      go (yes l) = absurd (opened-not-skipped (sym e ∙ S .skips .1 l))
+      go (no h) =
+          let d : answer ≡ _ = ap (λ (x : AfterStep). x .answer) (S .is ∙ low-is m top keys W b cells (omega (arith, h))) in
+          cc
+
+  pub made-step : (bs : List Px) → madeOver m top keys W cells (b ∷ bs) ≡ madeBy answer ++ madeOver m top keys W border bs
+  unfolding madeOver
+  made-step bs = ap (λ (x : AfterStep). madeBy (x .answer) ++ madeOver m top keys W (x .border) bs) (sym (S .is))
+
+  pub left-step : (bs : List Px) → leftOver m top keys W cells (b ∷ bs) ≡ leftOver m top keys W border bs
+  unfolding leftOver
+  left-step bs = ap (λ (x : AfterStep). leftOver m top keys W (x .border) bs) (sym (S .is))
+
+-- how many columns a step closes
+unfoldable pub shutBy : Stepped → ℕ
+shutBy stepped.Skipped = 0
+shutBy (stepped.Opened key first count shut) = shut
+
+-- on cells that are as stated, so many fewer columns are left after it
+pub step-left : {m top : ℕ} {keys : List ℕ} {W : Window} {b : Px} {cells border : List ℕ} {answer : Stepped} (past rest : List Px) → Usable m top keys W (length cells) → Corner W top b
+    → maximal W top ≡ past ++ b ∷ rest → Stated W (Handed m keys (handedBy m top keys W past)) cells → Step m top keys W b cells answer border
+    → columnsLeft W border + shutBy answer ≡ columnsLeft W cells
+unfolding shutBy
+step-left {m} {top} {keys} {W} {b} {cells} {border} {answer} past rest U K split st S = go (decLt (b .0) (getD cells (b .1 - W .c0) 0))
+  where
+    o : Stated W (Out W top (pixelRecord m keys) b) cells
+    o = stated-as (λ p v. handed-out (U .sound) (U .inside) (U .cap) past b rest split p) st
+
+    go : Dec (b .0 < getD cells (b .1 - W .c0) 0) → columnsLeft W border + shutBy answer ≡ columnsLeft W cells
+    go (yes l) = ap (λ (x : AfterStep). columnsLeft W (x .border) + shutBy (x .answer)) (S .is ∙ high-is m top keys W b cells l) ∙ add-zero (columnsLeft W cells)
+    go (no h) =
+        let fresh : ¬ Out W top (pixelRecord m keys) b b = λ z. h (skip-iff (U .inside) (tiling (U .sound)) K o .1 z) in
+        ap (λ (x : AfterStep). columnsLeft W (x .border) + shutBy (x .answer)) (S .is ∙ low-is m top keys W b cells (omega (arith, h)))
+        ∙ left-raised (reach W top (pixelExponent m keys) b) cells (K .inside) (U .wide) (λ c x y e. omega (arith, fresh-high (U .inside) (tiling (U .sound)) K fresh o x y e, K .inside))
+
+-- a step, as it is made
+pub stepped-on : {m top : ℕ} {keys : List ℕ} {W : Window} {b : Px} (cells : List ℕ) → Usable m top keys W (length cells) → Corner W top b
+    → (answer : Stepped) × (border : List ℕ) × Step m top keys W b cells answer border
+stepped-on {m} {top} {keys} {W} {b} cells U K = go (decLt (b .0) (getD cells (b .1 - W .c0) 0))
+  where
+    ready : Ready m top keys W b (exponent W top b) (length cells)
+    ready = record { given = U; corner = K; size = refl }
+
+    go : Dec (b .0 < getD cells (b .1 - W .c0) 0) → (answer : Stepped) × (border : List ℕ) × Step m top keys W b cells answer border
+    go (yes l) = (stepped.Skipped, cells, step-skipped ready cells l)
+    go (no h) = (_, _, step-opened ready cells (omega (arith, h)) (U .wide) refl refl refl refl refl)

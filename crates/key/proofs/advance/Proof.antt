@@ -1,0 +1,112 @@
+-- `key::advance` meets its contract: where a block's keys end, those of the largest block begin that starts where its span ends.
+-- Assumes nothing.
+use mathlib.Core.Path.{_≡_, refl}
+use Prim.Native.Nat.{ℕ, _+_, _*_, _/_, _^_, _≤_}
+use native.Mathlib.Omega.{arith}
+use lib.Count.{trailingZeros}
+use lib.ListN.{getD}
+use borrow.Author.Needs.{needs}
+use Rattle.key.specs.Alignment.{alignment}
+use Rattle.key.specs.Blocks.{Lies}
+use Rattle.key.specs.Along.{ones}
+use Rattle.key.proofs.Powers.{pow-most}
+use Rattle.key.proofs.Corners.{ones-pow, ones-entry, ones-most}
+use Rattle.key.proofs.Along.{next-room, next-cap, next-stands}
+use Rattle.key.proofs.advance.Statement.{statement}
+use Rattle.key.proofs.advance.Tie as tie
+
+module _ (c : tie.Start) where
+  room : Lies (c .args .m) (c .args .key) (c .args .i) (c .args .start)
+  room = next-room (c .pre .1) (c .pre .2)
+
+  own : getD (c .args .ones .now) (c .args .i) 0 ≡ ones (c .args .i)
+  own = ones-entry (c .args .i) (c .pre .0) (omega (arith, room .small, c .pre .1))
+
+  -- where its keys end
+  end : c .args .key + 4 * ones (c .args .i) + 1 ≤ 5 ^ c .args .m
+  end = omega (arith, room .keys, ones-pow (c .args .i))
+
+  most : 5 ^ c .args .m ≤ 5 ^ 12
+  most = pow-most 4 (c .args .m) (c .pre .1)
+
+pow4-requires : tie.Need-pow4-requires
+pow4-requires c κs = omega (arith, room c .small, c .pre .1)
+
+add-place : tie.Need-add-place
+add-place c = omega (arith, room (c .before) .span, c .pow4 .ensures, pow-most 3 (c .before .args .m) (c .before .pre .1))
+
+mul-end : tie.Need-mul-end
+mul-end c = search needs
+
+element-copy-out-end : tie.Need-element-copy-out-end
+element-copy-out-end c = omega (arith, room (c .before) .small, c .before .pre .1)
+
+mul-end-2 : tie.Need-mul-end-2
+mul-end-2 c = omega (arith, own (c .before .before), end (c .before .before), most (c .before .before))
+
+add-end : tie.Need-add-end
+add-end c = omega (arith, own (c .before .before), end (c .before .before), most (c .before .before))
+
+add-end-2 : tie.Need-add-end-2
+add-end-2 c = omega (arith, own (c .before .before), end (c .before .before), most (c .before .before))
+
+-- where its span ends, and how large a block may start there
+module _ (c : tie.After-pow4) where
+  place : ℕ
+  place = c .before .args .start + c .pow4 .result
+
+  top : ℕ
+  top = trailingZeros 32 place / 2
+
+  reached : place ≡ c .before .args .start + 4 ^ c .before .args .i
+  unfolding place
+  reached = omega (arith, c .pow4 .ensures .is)
+
+  cap : top ≤ c .before .args .m
+  unfolding top alignment
+  cap = next-cap (c .before .pre .1) (c .before .pre .2) reached refl
+
+  there : getD (c .before .args .ones .now) top 0 ≡ ones top
+  there = ones-entry top (c .before .pre .0) (omega (arith, cap, c .before .pre .1))
+
+cast-t10 : tie.Need-cast-t10
+unfolding place top
+cast-t10 c = omega (arith, cap (c .before), c .before .before .pre .1)
+
+mul-t11 : tie.Need-mul-t11
+unfolding place top
+mul-t11 c = omega (arith, cap (c .before), c .before .before .pre .1)
+
+element-copy-out-t15 : tie.Need-element-copy-out-t15
+unfolding place top
+element-copy-out-t15 c = omega (arith, cap (c .before), c .before .before .pre .1)
+
+add-t9 : tie.Need-add-t9
+unfolding place top
+add-t9 c =
+    let s = c .before .before .before in
+    omega (arith, own s, end s, most s, there (c .before .before), ones-most (top (c .before .before)) (s .args .m) (cap (c .before .before)))
+
+returns : tie.Need-returns
+unfolding place top alignment
+returns c =
+    let s = c .before .before .before in
+    let e = c .before .before in
+    (reached e, next-stands (s .pre .1) (s .pre .2) (reached e) refl (omega (arith, own s, there e)))
+
+pub advance-spec : {M : Type 1} → statement M
+advance-spec =
+    tie.close
+    (tie.spec
+    pow4-requires
+    add-place
+    mul-end
+    element-copy-out-end
+    mul-end-2
+    add-end
+    add-end-2
+    cast-t10
+    mul-t11
+    element-copy-out-t15
+    add-t9
+    returns)
