@@ -27,7 +27,7 @@ static inline void fetch(uint32_t m, const uint32_t *keys, run records)
     for (uint32_t i = records.first; i < records.first + records.count; i++)
         if (read_key(m, keys[i], &exponent, &start)) {
             list[n_fetched].key = keys[i];
-            list[n_fetched++].count = fives[exponent];
+            list[n_fetched++].count = pow5(exponent);
         }
 }
 

@@ -5,6 +5,7 @@
 #include "mark.h"
 
 #include <fcntl.h>
+#include <stdbool.h>
 #include <stdio.h>
 #include <stdlib.h>
 #include <string.h>
@@ -16,6 +17,10 @@ const program library = {
 };
 const program plain = {
     "plain C", plain_check, plain_decompose, plain_open, plain_exist, plain_report, plain_select,
+};
+const program fastest = {
+    "fastest C",   fastest_check,  fastest_decompose, fastest_open,
+    fastest_exist, fastest_report, fastest_select,
 };
 const program growing = {"growing list", NULL, NULL, growing_open, NULL, NULL, NULL};
 const program every = {"every block", NULL, NULL, every_open, NULL, NULL, NULL};
@@ -68,10 +73,15 @@ static int64_t next_count(void)
     return count;
 }
 
-/* The counts are read after the second mark, so that nothing but the call stands between the two. */
+/*
+ * The counts are read after the second mark, so that nothing but the call stands between the two. The anchor holds the
+ * stack at a multiple of 64 bytes: what copying takes, from and to the stack, would else hang on the environment.
+ */
 static int64_t marked(const program *p, int operation, const map *a, rectangle at, result *r)
 {
+    char anchor[64] __attribute__((aligned(64)));
     int64_t before;
+    __asm__ volatile("" : : "r"(anchor) : "memory");
     syscall(MARK);
     r->answer = call(p, operation, a, at, r);
     syscall(MARK);
@@ -89,8 +99,30 @@ void measure(const program *p, int operation, const map *a, rectangle at, result
     r->instructions = marked(p, operation, a, at, r) - around;
 }
 
-bool same_answers(const result *x, const result *y)
+static bool same_answers(const result *x, const result *y)
 {
     return memcmp(&x->answer, &y->answer, sizeof x->answer) == 0 &&
            memcmp(x->border, y->border, sizeof x->border) == 0 && memcmp(x->out, y->out, sizeof x->out) == 0;
+}
+
+static result other;
+
+int64_t measure_same(const program *p, int operation, const map *a, rectangle at, const result *as, const char *where)
+{
+    measure(p, operation, a, at, &other);
+    if (!same_answers(&other, as)) {
+        char why[40];
+        snprintf(why, sizeof why, "library and %s differ", p->name);
+        wrong(why, where);
+    }
+    return other.instructions;
+}
+
+int64_t measure_check(const program *p, int operation, const map *a)
+{
+    static const rectangle empty = {0, 0, 0, 0};
+    measure(p, operation, a, empty, &other);
+    if (other.answer.refusal != 6)
+        wrong("an empty window is not refused by 6", p->name);
+    return other.instructions;
 }

@@ -5,8 +5,6 @@
 #include "maps.h"
 #include "programs.h"
 
-#include <stdbool.h>
-
 typedef struct {
     const char *name;
     check_function *check;
@@ -17,7 +15,7 @@ typedef struct {
     select_function *select;
 } program;
 
-extern const program library, plain, growing, every; /* the last two only open */
+extern const program library, plain, fastest, growing, every; /* the last two only open */
 
 enum { CHECK, DECOMPOSE, OPEN, EXIST, REPORT, SELECT, OPERATIONS, NOTHING };
 extern const char *const operation_names[OPERATIONS];
@@ -41,10 +39,14 @@ void begin_measuring(const char *counts);
  */
 void measure(const program *p, int operation, const map *a, rectangle at, result *r);
 
+/* As measure, of a program that must answer as the library did, in every cell. Returns the instructions. */
+int64_t measure_same(const program *p, int operation, const map *a, rectangle at, const result *as, const char *where);
+
+/* What a call takes to check the map: one on an empty window, which is refused by 6 after that. */
+int64_t measure_check(const program *p, int operation, const map *a);
+
 /* As measure, for whoever wants the answer alone. */
 lutniorad_answer call(const program *p, int operation, const map *a, rectangle at, result *r);
-
-bool same_answers(const result *x, const result *y);
 
 /* Ends the run: a bench of a wrong program shows nothing. */
 void wrong(const char *why, const char *where);

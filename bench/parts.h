@@ -43,6 +43,19 @@ static inline uint32_t least(uint32_t a, uint32_t b)
     return a < b ? a : b;
 }
 
+/* Eight cells at a time, as the library's compiler makes it of one at a time. */
+typedef uint16_t eight_cells __attribute__((vector_size(16), aligned(2), may_alias));
+
+static inline void fill(uint16_t *cells, size_t from, size_t to, uint32_t value)
+{
+    eight_cells eight = (eight_cells){0} + (uint16_t)value;
+    size_t i = from;
+    for (; i + 8 <= to; i += 8)
+        *(eight_cells *)(cells + i) = eight;
+    for (; i < to; i++)
+        cells[i] = (uint16_t)value;
+}
+
 /* ---- Keys ---- */
 
 #define SPREAD_1(x) (x), (x) + 1
@@ -56,22 +69,30 @@ static inline uint32_t least(uint32_t a, uint32_t b)
 
 static const uint32_t spreads[256] = {SPREAD_8(0)};
 
-static const uint32_t fives[] = {1,      5,       25,      125,      625,       3125,     15625,
-                                 78125,  390625,  1953125, 9765625,  48828125,  244140625};
+/* (5^i - 1)/4, i digits 1. They leave different remainders by 16; at each of these, the number of digits. */
+static const uint32_t ones[13] = {0,     1,     6,      31,      156,      781,     3906,
+                                  19531, 97656, 488281, 2441406, 12207031, 61035156};
+static const uint8_t digits[16] = {0, 1, 6, 0, 12, 0, 2, 11, 8, 9, 0, 7, 4, 5, 10, 3};
 
 static inline uint32_t spread(uint32_t x)
 {
     return spreads[x % 256] + 390625 * spreads[x / 256];
 }
 
-static inline uint32_t pixel_key(uint32_t m, uint32_t row, uint32_t col)
+static inline uint32_t pow5(uint32_t k)
 {
-    return (fives[m] - 1) / 4 + 2 * spread(row) + spread(col);
+    return spread(1u << k);
 }
 
+static inline uint32_t pixel_key(uint32_t m, uint32_t row, uint32_t col)
+{
+    return spread((1u << m) - 1) + 2 * spread(row) + spread(col);
+}
+
+/* By the corner of the block. */
 static inline uint32_t block_key(uint32_t m, uint32_t i, uint32_t row, uint32_t col)
 {
-    return pixel_key(m - i, row >> i, col >> i) * fives[i];
+    return pixel_key(m, row, col) - spread((1u << i) - 1);
 }
 
 static inline uint32_t pixels(uint32_t exponent)
@@ -82,7 +103,7 @@ static inline uint32_t pixels(uint32_t exponent)
 /* Exponent and start of a key; false where it is malformed. */
 static inline bool read_key(uint32_t m, uint32_t key, uint32_t *exponent, uint32_t *start)
 {
-    uint32_t p = fives[m], k = m, rest = key, sum = 0;
+    uint32_t p = pow5(m), k = m, rest = key, sum = 0;
     if (key >= p)
         return false;
     while (rest != 0) {
@@ -103,31 +124,74 @@ static inline uint32_t alignment(uint32_t m, uint32_t x)
     return least((uint32_t)__builtin_ctz(x | 0x10000), m);
 }
 
-/* ---- Maps ---- */
+/* Where a walk along the keys stands: a place, the key of the pixel there, the greatest exponent of a block there. */
+typedef struct {
+    uint32_t place, pixel, top;
+} spot;
 
-/* Refusals 3 to 5. */
-static inline lutniorad_answer sound_records(uint32_t m, const uint32_t *keys, uint32_t q)
+static inline spot first_spot(uint32_t m)
 {
-    uint32_t at = 0;
-    for (uint32_t n = 0; n < q; n++) {
-        uint32_t exponent, start;
-        if (!read_key(m, keys[n], &exponent, &start))
-            return refused(3, n);
-        if (start != at)
-            return refused(start < at ? 4 : 5, n);
-        at = start + pixels(exponent);
-    }
-    return at < pixels(m) ? refused(5, q) : answered(q, 0);
+    spot first = {0, ones[m], m};
+    return first;
 }
 
-/* Refusals 1 to 5. */
-static inline lutniorad_answer sound(uint32_t m, const uint32_t *keys, size_t n_keys, size_t n_classes)
+/* The exponent of a key's block that starts there; false where the key is another. */
+static inline bool exponent_at(uint32_t m, spot at, uint32_t key, uint32_t *exponent)
+{
+    uint32_t over = at.pixel - key;
+    if (at.place == pixels(m) || at.pixel < key)
+        return false;
+    *exponent = digits[over % 16];
+    return ones[*exponent] == over && *exponent <= at.top;
+}
+
+/* Behind the block of a key, of exponent i, that starts at a place. */
+static inline spot advance(uint32_t key, uint32_t i, uint32_t start)
+{
+    uint32_t place = start + pixels(i), top = (uint32_t)__builtin_ctz(place) / 2;
+    spot next = {place, key + 4 * ones[i] + 1 + ones[top], top};
+    return next;
+}
+
+/* ---- Maps ---- */
+
+/* Why a record is refused that does not start at the place reached. */
+static inline lutniorad_answer misfit(uint32_t m, uint32_t at, uint32_t key, uint32_t n)
+{
+    uint32_t exponent, start;
+    if (!read_key(m, key, &exponent, &start))
+        return refused(3, n);
+    return refused(start < at ? 4 : 5, n);
+}
+
+/* Refusals 3 to 5. */
+static inline lutniorad_answer sound_records(uint32_t m, const uint32_t *keys, size_t q)
+{
+    spot at = first_spot(m);
+    for (size_t n = 0; n < q; n++) {
+        uint32_t exponent;
+        if (!exponent_at(m, at, keys[n], &exponent))
+            return misfit(m, at.place, keys[n], (uint32_t)n);
+        at = advance(keys[n], exponent, at.place);
+    }
+    return at.place < pixels(m) ? refused(5, (uint32_t)q) : answered((uint32_t)q, 0);
+}
+
+/* Refusals 1 and 2. */
+static inline lutniorad_answer sized(uint32_t m, size_t n_keys, size_t n_classes)
 {
     if (m > 12)
         return refused(1, 0);
     if (n_keys != n_classes || n_keys == 0 || n_keys > 65536)
         return refused(2, 0);
-    return sound_records(m, keys, (uint32_t)n_keys);
+    return answered((uint32_t)n_keys, 0);
+}
+
+/* Refusals 1 to 5. */
+static inline lutniorad_answer sound(uint32_t m, const uint32_t *keys, size_t n_keys, size_t n_classes)
+{
+    lutniorad_answer verdict = sized(m, n_keys, n_classes);
+    return verdict.refusal != 0 ? verdict : sound_records(m, keys, n_keys);
 }
 
 /* How many keys are below x. */
@@ -146,9 +210,13 @@ static inline uint32_t keys_below(const uint32_t *keys, size_t n, uint32_t x)
 
 static inline run records_of(const uint32_t *keys, size_t n, uint32_t key, uint32_t i)
 {
-    uint32_t first = keys_below(keys, n, key), after = keys_below(keys, n, key + fives[i]);
-    run inside = {first, after - first}, around = {first - 1, 1};
-    return first < after ? inside : around;
+    uint32_t first = keys_below(keys, n, key), end = key + pow5(i);
+    run inside = {first, 1}, around = {first - 1, 1};
+    if (first == n || end <= keys[first])
+        return around;
+    if (keys[first] != key)
+        inside.count = keys_below(keys + first, n - first, end);
+    return inside;
 }
 
 /* ---- Windows ---- */
@@ -168,50 +236,38 @@ static inline uint32_t floor_to(uint32_t i, uint32_t x)
     return x >> i << i;
 }
 
-static inline bool lies(uint32_t start, uint32_t count, uint32_t i, uint32_t x)
+/* 2^i or more exactly when x's block of side 2^i lies in the `count` numbers from `start` on, of which x is one. */
+static inline uint32_t reach(uint32_t start, uint32_t count, uint32_t x)
 {
-    uint32_t first = floor_to(i, x);
-    return first >= start && first + (1u << i) <= start + count;
+    uint32_t before = (start + 4095) ^ (x + 4096), behind = (start + count + 4096) ^ (x + 4096);
+    return least(before, behind);
 }
 
-static inline bool fits(window at, uint32_t i, uint32_t row, uint32_t col)
+/* Of the maximal block that holds a pixel. */
+static inline uint32_t exponent_of(window at, uint32_t top, uint32_t row, uint32_t col)
 {
-    return lies(at.r0, at.h, i, row) && lies(at.c0, at.w, i, col);
-}
-
-static inline uint32_t largest(window at, uint32_t top, uint32_t row, uint32_t col)
-{
-    uint32_t i = alignment(alignment(top, row), col);
-    uint32_t room = least(at.r0 + at.h - row, at.c0 + at.w - col);
-    while (room < 1u << i)
-        i--;
-    return i;
-}
-
-static inline uint32_t exponent_from(window at, uint32_t top, uint32_t row, uint32_t col, uint32_t i)
-{
-    while (i < top && fits(at, i + 1, row, col))
-        i++;
-    return i;
+    uint32_t room = least(reach(at.r0, at.h, row), reach(at.c0, at.w, col));
+    return least(31 ^ (uint32_t)__builtin_clz(room), top);
 }
 
 /* The next maximal block from a row and a column on; false where there is none. */
 static inline bool next_block(window at, uint32_t top, uint32_t row, uint32_t col, block *next)
 {
+    uint32_t south = at.r0 + at.h, east = at.c0 + at.w;
     for (;;) {
-        if (col < at.c0 + at.w) {
-            uint32_t i = largest(at, top, row, col), e = exponent_from(at, top, row, col, i);
-            if (i == e) {
-                next->row = row;
-                next->col = col;
-                next->exponent = i;
-                next->after = col + (1u << i);
+        if (col < east) {
+            uint32_t e = exponent_of(at, top, row, col), by_row = alignment(top, row);
+            if (by_row < e)
+                col = floor_to(by_row + 1, east);
+            else if (e <= alignment(by_row, col)) {
+                block found = {row, col, e, col + (1u << e)};
+                *next = found;
                 return true;
-            }
-            col = floor_to(e, col) + (1u << e);
+            } else
+                col = floor_to(e, col) + (1u << e);
         } else {
             row++;
-            if (row == at.r0 + at.h)
+            if (row == south)
                 return false;
             col = at.c0;
         }

@@ -1,6 +1,7 @@
 /*
  * What is measured beside the library. Each function takes what the library's takes.
  *   plain     the library's algorithm
+ *   fastest   the same answers for as few instructions as can be
  *   growing   opening with a list of all records fetched, in which each block is looked up
  *   every     Algorithm-1: each maximal block fetches its records; the answer counts the blocks and what they fetch
  */
@@ -39,11 +40,11 @@ typedef lutniorad_answer select_function(uint32_t m,
                                          uint16_t *border, size_t n_border,
                                          uint32_t *out, size_t n_out);
 
-check_function plain_check;
-decompose_function plain_decompose;
-open_function plain_open, growing_open, every_open;
-exist_function plain_exist;
-report_function plain_report;
-select_function plain_select;
+check_function plain_check, fastest_check;
+decompose_function plain_decompose, fastest_decompose;
+open_function plain_open, fastest_open, growing_open, every_open;
+exist_function plain_exist, fastest_exist;
+report_function plain_report, fastest_report;
+select_function plain_select, fastest_select;
 
 #endif

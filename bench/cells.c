@@ -1,0 +1,72 @@
+#include "cells.h"
+
+#include <inttypes.h>
+#include <stdio.h>
+#include <string.h>
+
+const char *map_name(const cell *c)
+{
+    return c->operation != DECOMPOSE ? map_names[c->map] : c->map == PIXELS ? "m = 8" : "m = 12";
+}
+
+const char *window_name(const cell *c)
+{
+    return c->operation == CHECK ? "" : window_names[c->window];
+}
+
+void name_cell(const cell *c, char name[LONGEST_NAME])
+{
+    snprintf(name, LONGEST_NAME, "%s%s%s", map_name(c), c->operation == CHECK ? "" : " ", window_name(c));
+}
+
+/* ---- What it took before ---- */
+
+enum { LONGEST_LINE = 100 };
+static char lines[MOST_CELLS][LONGEST_LINE];
+static int n_lines;
+
+void read_before(const char *file)
+{
+    FILE *from = fopen(file, "r");
+    if (from == NULL)
+        wrong("it cannot be read what the cells took before", file);
+    while (n_lines < MOST_CELLS && fgets(lines[n_lines], LONGEST_LINE, from) != NULL)
+        n_lines++;
+    fclose(from);
+}
+
+static int64_t before(const cell *c)
+{
+    char start[LONGEST_LINE];
+    int64_t count;
+    snprintf(start, sizeof start, "%s | %s | %s | ", operation_names[c->operation], map_name(c), window_name(c));
+    for (int i = 0; i < n_lines; i++)
+        if (strncmp(lines[i], start, strlen(start)) == 0 && sscanf(lines[i] + strlen(start), "%" SCNd64, &count) == 1)
+            return count;
+    wrong("it is not told what a cell took before", start);
+    return 0;
+}
+
+/* ---- What it takes ---- */
+
+cell measure_cell(int operation, const map *a, int map_number, int window_number)
+{
+    static result r;
+    cell c = {operation, map_number, window_number, a->q, 0, 0, 0, 0, 0, 0};
+    rectangle at = make_window(a->m, window_number);
+    char where[LONGEST_LINE], name[LONGEST_NAME];
+    name_cell(&c, name);
+    snprintf(where, sizeof where, "%s, %s", operation_names[operation], name);
+    measure(&library, operation, a, at, &r);
+    if (r.answer.refusal != 0)
+        wrong("the library refuses", where);
+    c.library = r.instructions;
+    c.plain = measure_same(&plain, operation, a, at, &r, where);
+    c.fastest = measure_same(&fastest, operation, a, at, &r, where);
+    c.before = before(&c);
+    if (operation > DECOMPOSE) {
+        c.past_library = c.library - measure_check(&library, operation, a);
+        c.past_plain = c.plain - measure_check(&plain, operation, a);
+    }
+    return c;
+}

@@ -1,0 +1,31 @@
+/* A cell of the table: one operation on one map and window. */
+#ifndef CELLS_H
+#define CELLS_H
+
+#include "measure.h"
+
+enum { MOST_CELLS = OPERATIONS * MAPS * WINDOWS };
+
+/* Instructions. Those past the check are 0 where a call takes no map or does nothing but check it. */
+typedef struct {
+    int operation, map, window;
+    size_t records;
+    int64_t library, plain, fastest, before;
+    int64_t past_library, past_plain;
+} cell;
+
+/* Reads what each cell took before: a file with a line "operation | map | window | instructions" for each. */
+void read_before(const char *file);
+
+/* The map is that of the number. */
+cell measure_cell(int operation, const map *a, int map_number, int window_number);
+
+/* Decomposing takes no map: of it, there is m. Checking takes no window. */
+const char *map_name(const cell *c);
+const char *window_name(const cell *c);
+
+enum { LONGEST_NAME = 60 };
+/* Map and window. */
+void name_cell(const cell *c, char name[LONGEST_NAME]);
+
+#endif

@@ -1,0 +1,22 @@
+/* What the table says in short. */
+#ifndef SUMMARY_H
+#define SUMMARY_H
+
+#include "cells.h"
+
+/* At most so many times the plain C, in the median of each operation; and of what a cell took before, unless it was
+ * under so many instructions. */
+#define MOST_OF_PLAIN 1.3
+#define MOST_OF_BEFORE 1.02
+enum { FEW = 1000 };
+
+/* The ratios of each operation. */
+void print_summaries(const cell *cells, int n);
+
+/* Which cells take more than before. */
+void print_against_before(const cell *cells, int n);
+
+/* The totals that are wanted, and whether they are met. */
+void print_wanted(const cell *cells, int n);
+
+#endif
