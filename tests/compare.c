@@ -550,7 +550,7 @@ static const group groups[] = {
     {"old contents", group_old_contents, false},
     {"windows on damaged maps", group_windows_on_damaged_maps, false},
     {"vast borders and answers", group_vast_windows, false},
-    {"the walk", group_walk, false},
+    {"largest windows", group_largest_windows, false},
     {"largest maps", group_largest_maps, false},
     {"random maps", group_random_maps, true},
     {"random files", group_random_files, true},

@@ -78,7 +78,7 @@ const void *left(size_t i);
  * bytes is a mismatch. All bytes count from the top of that stack down to the last one that was written: those of the
  * library, and of the run_ function that calls it, with the parameters it hands over.
  */
-enum { MOST_STACK = 4000 };
+enum { MOST_STACK = 3000 };
 void watch_stack(void);
 void end_watch(void);
 

@@ -2,7 +2,6 @@
 
 #include "questions.h"
 
-#include <inttypes.h>
 #include <stdio.h>
 #include <string.h>
 
@@ -509,30 +508,14 @@ void group_random_windows(void)
             random_small_windows();
 }
 
-/* ---- Group: the walk ---- */
+/* ---- Group: the largest windows ---- */
 
-/*
- * The walk through the maximal blocks comes to a block once in each row that crosses it, and to the end of each row:
- * the first as often as the sides of the blocks add up to. That has to be about (w + h) log T, and not w x h.
- */
-static void count_steps(window at)
-{
-    uint32_t n = compare_decompose(12, at, enough(at)).first;
-    const uint32_t *keys = left(0);
-    size_t steps = 0;
-    for (uint32_t i = 0; i < n; i++)
-        steps += side_of_block(12, keys[i]);
-    require(steps <= 2 * 12 * ((size_t)at.w + at.h), "a walk of too many steps");
-    printf("walk over window %d %d %d %d at m = 12: %" PRIu32 " blocks, %zu steps and %d ends of rows\n", at.r0, at.c0,
-           at.h, at.w, n, steps, at.h);
-}
-
-void group_walk(void)
+void group_largest_windows(void)
 {
     const window windows[] = {whole_picture(12), {0, 0, 4095, 4095}, {1, 1, 4095, 4095}, {1, 1, 4094, 4094}};
     for (size_t i = 0; i < COUNT(windows); i++)
         if (begin_case())
-            count_steps(windows[i]);
+            compare_decompose(12, windows[i], enough(windows[i]));
 }
 
 /* ---- Group: the stack ---- */

@@ -15,8 +15,8 @@ void group_vast_windows(void);
 void group_large_windows(void);
 void group_random_windows(void);
 
-/* How many steps the walk through the maximal blocks takes, said for some windows. */
-void group_walk(void);
+/* Windows as large as the largest picture, or nearly so, decomposed. How the work grows with them is counted in bench/. */
+void group_largest_windows(void);
 
 /* Calls of all operations, on large maps and windows, while the stack is watched. */
 void group_stack(void);
