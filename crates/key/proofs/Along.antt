@@ -1,4 +1,4 @@
--- Along the keys: which blocks start at a place, by the key of the pixel there; and the pixel's key where a block ends.
+-- Along the keys: which blocks start at a place, by the key of the pixel there; and the largest one where a block ends.
 -- Assumes nothing.
 use mathlib.Core.Path.{_≡_, refl, sym, ap, _∙_, subst}
 use mathlib.Core.Logic.{_↔_}
@@ -12,11 +12,11 @@ use Rattle.key.specs.declared.Spot.{Spot}
 use Rattle.key.specs.declared.Fit.the-variants.{Block, Other}
 use Rattle.key.specs.Alignment.{alignment}
 use Rattle.key.specs.Blocks.{Names, Lies}
-use Rattle.key.specs.Along.{ones, onesTable, Finds, Stands, Fits, block, other}
-use Rattle.key.proofs.Powers.{pow-least, four}
-use Rattle.key.proofs.Blocks.{At, lies, at-form, form-at, one-at}
+use Rattle.key.specs.Along.{ones, onesTable, Finds, pixelAt, Stands, Fits, block, other}
+use Rattle.key.proofs.Powers.{pow-least, pow-most, four}
+use Rattle.key.proofs.Blocks.{At, whole, lies, at-form, form-at, one-at}
 use Rattle.key.proofs.Zeros.{alignment-divides}
-use Rattle.key.proofs.Corners.{ones-pow, ones-entry, ones-at, first-at}
+use Rattle.key.proofs.Corners.{ones-pow, ones-entry, first-at}
 use Rattle.key.proofs.Ends.{at-aligned, start-at, Top, end-at}
 
 -- ---- the exponents of the blocks that may start at a place: up to half its trailing zeros
@@ -30,36 +30,43 @@ halves x i t l e =
 
 module _ {m : ℕ} {s : Spot} (S : Stands m s) where
   module _ (h : s .place < 4 ^ m) where
-    pixel-here : At m (s .pixel) 0 (s .place)
-    pixel-here = form-at m (s .pixel) (S .pixel h .is)
+    largest-here : At m (s .key) (s .top) (s .place)
+    largest-here = form-at m (s .key) (S .largest h .is)
+
+    pixel-here : At m (pixelAt s) 0 (s .place)
+    pixel-here = first-at largest-here
+
+    -- the key of the pixel here does not wrap
+    pub pixel-room : m ≤ 12 → pixelAt s < 5 ^ 12
+    pixel-room few = omega (arith, lies largest-here .keys, ones-pow (s .top), pow-most 4 m few, pow-least 4 (s .top))
 
     -- a block of each exponent up to the greatest starts here, with a key so many digits 1 below the pixel's
-    pub fits-start : {i : ℕ} → i ≤ s .top → (key : ℕ) × At m key i (s .place) × (key + ones i ≡ s .pixel)
+    pub fits-start : {i : ℕ} → i ≤ s .top → (key : ℕ) × At m key i (s .place) × (key + ones i ≡ pixelAt s)
     fits-start {i} c =
         let l : i ≤ m = omega (arith, S .cap) in
         let a = start-at m i (s .place) l h (S .aligned i l .0 c) in
         (a .0, a .1, one-at (first-at (a .1)) pixel-here)
 
     -- so a key is that of a block that starts here exactly when it is so many digits 1 below the pixel's
-    pub fits-key : {key i : ℕ} → Names m key i (s .place) ↔ ((i ≤ s .top) × (key + ones i ≡ s .pixel))
+    pub fits-key : {key i : ℕ} → Names m key i (s .place) ↔ ((i ≤ s .top) × (key + ones i ≡ pixelAt s))
     fits-key {key} {i} = (to, from)
       where
-        to : Names m key i (s .place) → (i ≤ s .top) × (key + ones i ≡ s .pixel)
+        to : Names m key i (s .place) → (i ≤ s .top) × (key + ones i ≡ pixelAt s)
         to b = let a = form-at m key (b .is) in (S .aligned i (lies a .small) .1 (at-aligned a), one-at (first-at a) pixel-here)
 
-        from : (i ≤ s .top) × (key + ones i ≡ s .pixel) → Names m key i (s .place)
+        from : (i ≤ s .top) × (key + ones i ≡ pixelAt s) → Names m key i (s .place)
         from c =
             let a = fits-start (c .0) in
             let e : a .0 ≡ key = omega (arith, a .2) in
             let n : Names m (a .0) i (s .place) = record { is = at-form (a .1) } in
             rw e at n
 
-pub first-stands : {m : ℕ} {s : Spot} → s .place ≡ 0 → s .pixel ≡ ones m → s .top ≡ m → Stands m s
+pub first-stands : {m : ℕ} {s : Spot} → s .place ≡ 0 → s .key ≡ 0 → s .top ≡ m → Stands m s
 first-stands {m} {s} ep ek et =
     let z : (i : ℕ) → s .place % 4 ^ i ≡ 0 = λ i. rw ep (zero-mod (4 ^ i)) in
     record {
       within = omega arith;
-      pixel = λ h. rw (ek, ep) (record { is = at-form (ones-at m) });
+      largest = λ h. rw (ek, ep, et) (record { is = at-form whole });
       cap = omega arith;
       aligned = λ i l. (λ h. z i, λ h. omega arith);
     }
@@ -77,7 +84,7 @@ module _ {m key i s : ℕ} (few : m ≤ 12) (n : Names m key i s) where
     half : (k : ℕ) → k ≤ 16 → (k ≤ top) ↔ (place % 4 ^ k ≡ 0)
     half k l = rw et (halves place k (alignment 32 place) l refl)
 
-    pub next-cap : top ≤ m
+    next-cap : top ≤ m
     next-cap =
         elim (decLt m top) [
           | yes h ↦
@@ -99,12 +106,10 @@ module _ {m key i s : ℕ} (few : m ≤ 12) (n : Names m key i s) where
             let e : t .top ≡ top = omega arith in
             subst (λ (x : ℕ). At m (key + 5 ^ i) x place) e (t .at)
 
-  pub next-stands : {t : Spot} → t .place ≡ s + 4 ^ i → t .top ≡ alignment 32 (t .place) / 2 → t .pixel ≡ key + 4 * ones i + 1 + ones (t .top) → Stands m t
+  pub next-stands : {t : Spot} → t .place ≡ s + 4 ^ i → t .top ≡ alignment 32 (t .place) / 2 → t .key ≡ key + 4 * ones i + 1 → Stands m t
   next-stands {t} ep et ek = record {
     within = omega (arith, lies here .span);
-    pixel = λ h.
-        let e : t .pixel ≡ key + 5 ^ i + ones (t .top) = omega (arith, ones-pow i) in
-        rw e (record { is = at-form (first-at (next-top ep et h)) });
+    largest = λ h. let e : t .key ≡ key + 5 ^ i = omega (arith, ones-pow i) in rw e (record { is = at-form (next-top ep et h) });
     cap = next-cap ep et;
     aligned = λ k l. half ep et k (omega arith);
   }
@@ -135,8 +140,11 @@ module _ {m : ℕ} {s : Spot} (S : Stands m s) where
   pub fits-behind : {key : ℕ} → s .place ≡ 4 ^ m → Fits m (s .place) key Other
   fits-behind {key} e = other (λ i n. omega (arith, lies (form-at m key (n .is)) .span, pow-least 3 i))
 
+  pub fits-largest : {key : ℕ} → s .place < 4 ^ m → key ≡ s .key → Fits m (s .place) key (Block (s .top))
+  fits-largest h e = rw e (block (S .largest h))
+
   -- the pixel's key less this one is d, where it wraps if this one is over it
-  module _ (h : s .place < 4 ^ m) (few : m ≤ 12) {table digits : List ℕ} {key d i : ℕ} (t : Told table digits d i) (less : Less (s .pixel) key d) where
+  module _ (h : s .place < 4 ^ m) (few : m ≤ 12) {table digits : List ℕ} {key d i : ℕ} (t : Told table digits d i) (less : Less (pixelAt s) key d) where
     told-block : {j : ℕ} → Names m key j (s .place) → (i ≡ j) × (d ≡ ones j) × (j ≤ s .top)
     told-block {j} b =
         let k = fits-key S h .0 b in

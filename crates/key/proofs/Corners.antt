@@ -40,7 +40,7 @@ ones-entry i e h = table-entry ones 13 i e (omega arith)
 
 -- ---- the first pixel of a block
 
-pub ones-at : (m : ℕ) → At m (ones m) 0 0
+ones-at : (m : ℕ) → At m (ones m) 0 0
 ones-at zero = let e : ones 0 ≡ 0 = omega (arith, ones-pow 0) in rw e whole
 ones-at (suc m) = quad {key′ = ones (suc m)} {s′ = 0} 0 (lit< tt) (ones-at m) (omega (arith, ones-next m, zero-mul (5 ^ m))) (omega (arith, zero-mul (4 ^ m)))
 

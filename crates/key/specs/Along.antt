@@ -1,9 +1,9 @@
--- Along the keys, from block to block: the place that is reached, the key of the pixel there, and how large a block may start there.
+-- Along the keys, from block to block: the place that is reached, and the largest block that starts there.
 -- Assumes nothing.
 use mathlib.Core.Path.{_≡_}
 use mathlib.Core.Logic.{_↔_}
 use mathlib.Core.List.{List, map}
-use Prim.Native.Nat.{ℕ, _-_, _/_, _%_, _^_, _≤_, _<_}
+use Prim.Native.Nat.{ℕ, _+_, _-_, _/_, _%_, _^_, _≤_, _<_}
 use lib.ListN.{getD}
 use Rattle.lists.specs.Lists.{upFrom}
 use Rattle.key.specs.declared.Spot.{Spot}
@@ -24,10 +24,14 @@ pub record Finds (table : List ℕ) : Type 0 where
   pub small : (x : ℕ) → x < 16 → getD table x 0 ≤ 12
   pub finds : (i : ℕ) → i ≤ 12 → getD table (ones i % 16) 0 ≡ i
 
--- the walk stands at a place, or behind the last one: with the key of the pixel there, and the greatest exponent of a block that may start there
+-- the key of the pixel where the walk stands: that of the first pixel of the largest block that starts there
+abbrev pub pixelAt : Spot → ℕ
+pixelAt s = s .key + ones (s .top)
+
+-- the walk stands at a place, or behind the last one: with the key of the largest block that starts there, and its exponent, the greatest of a block that may start there
 pub record Stands (m : ℕ) (s : Spot) : Type 0 where
   pub within : s .place ≤ 4 ^ m
-  pub pixel : s .place < 4 ^ m → Names m (s .pixel) 0 (s .place)
+  pub largest : s .place < 4 ^ m → Names m (s .key) (s .top) (s .place)
   pub cap : s .top ≤ m
   pub aligned : (i : ℕ) → i ≤ m → (i ≤ s .top) ↔ (s .place % 4 ^ i ≡ 0)
 

@@ -6,7 +6,7 @@ ghost use Rattle.key.specs.Picture.{Pixel};
 ghost use Rattle.key.specs.Spread.{spread, spreads};
 ghost use Rattle.key.specs.Key.{pixelKey, blockKey};
 ghost use Rattle.key.specs.Form.{formOf};
-ghost use Rattle.key.specs.Along.{ones, onesTable, Finds, Stands, Fits, Begins};
+ghost use Rattle.key.specs.Along.{ones, onesTable, Finds, pixelAt, Stands, Fits, Begins};
 ghost use Rattle.key.specs.Blocks.{Names};
 ghost use Rattle.key.specs.Alignment.{alignment};
 ghost use Rattle.key.specs.Power.{Power};
@@ -125,10 +125,10 @@ pub fn alignment(m: u32, x: u16) -> u32
     if z < m { z } else { m }
 }
 
-// Where a walk along the keys stands: a place, the key of the pixel there, and the greatest exponent of a block that may start there. Behind the last place only the place counts.
+// Where a walk along the keys stands: a place, and the largest block that starts there, by its key and its exponent. Behind the last place only the place counts.
 pub struct Spot {
     pub place: u32,
-    pub pixel: u32,
+    pub key: u32,
     pub top: u32,
 }
 
@@ -151,19 +151,26 @@ pub fn digits_table() -> [u8; 16]
     DIGITS
 }
 
-pub fn first_spot(ones: &[u32; 13], m: u32) -> Spot
-    requires { ⌜ (now ones ≡ onesTable) × (m ≤ 12) ⌝ }
+pub fn first_spot(m: u32) -> Spot
     ensures { λ r. ⌜ (r .place ≡ 0) × Stands m r ⌝ }
 {
     Spot {
         place: 0,
-        pixel: ones[m as usize],
+        key: 0,
         top: m,
     }
 }
 
-// The exponent of the block of a key that starts where the walk stands. By so many digits 1 as that says, the pixel's key is over the block's; it is by no
-// such number over a key that is larger.
+// The key of the pixel where the walk stands. m is there for the contract alone.
+fn pixel_at(ones: &[u32; 13], m: u32, spot: Spot) -> u32
+    requires { ⌜ (now ones ≡ onesTable) × (m ≤ 12) × Stands m spot × (spot .place < 4 ^ m) ⌝ }
+    ensures { λ r. ⌜ r ≡ pixelAt spot ⌝ }
+{
+    spot.key + ones[spot.top as usize]
+}
+
+// The exponent of the block of a key that starts where the walk stands. It is mostly the largest; of any other, the key of the pixel there is over it by so many digits 1 as its
+// exponent says, and by no such number over a key that is larger.
 pub fn exponent_at(ones: &[u32; 13], digits: &[u8; 16], m: u32, spot: Spot, key: u32) -> Fit
     requires { ⌜ (now ones ≡ onesTable) × Finds (now digits) × (m ≤ 12) × Stands m spot ⌝ }
     ensures { λ r. ⌜ Fits m (spot .place) key r ⌝ }
@@ -171,7 +178,10 @@ pub fn exponent_at(ones: &[u32; 13], digits: &[u8; 16], m: u32, spot: Spot, key:
     if spot.place == pow4(m) {
         return Fit::Other;
     }
-    let over = std::num::wrapping_sub_u32(spot.pixel, key);
+    if key == spot.key {
+        return Fit::Block { exponent: spot.top };
+    }
+    let over = std::num::wrapping_sub_u32(pixel_at(ones, m, spot), key);
     let exponent = digits[(over % 16) as usize] as u32;
     if ones[exponent as usize] != over {
         return Fit::Other;
@@ -183,11 +193,14 @@ pub fn exponent_at(ones: &[u32; 13], digits: &[u8; 16], m: u32, spot: Spot, key:
 }
 
 // The same of a key that is known to be that of such a block: nothing is left to be tested. m is there for the contract alone.
-pub fn exponent_here(digits: &[u8; 16], m: u32, spot: Spot, key: u32) -> u32
-    requires { ⌜ Finds (now digits) × (m ≤ 12) × Stands m spot × Begins m (spot .place) key ⌝ }
+pub fn exponent_here(ones: &[u32; 13], digits: &[u8; 16], m: u32, spot: Spot, key: u32) -> u32
+    requires { ⌜ (now ones ≡ onesTable) × Finds (now digits) × (m ≤ 12) × Stands m spot × Begins m (spot .place) key ⌝ }
     ensures { λ r. ⌜ Names m key r (spot .place) ⌝ }
 {
-    let over = spot.pixel - key;
+    if key == spot.key {
+        return spot.top;
+    }
+    let over = pixel_at(ones, m, spot) - key;
     digits[(over % 16) as usize] as u32
 }
 
@@ -202,7 +215,7 @@ pub fn advance(ones: &[u32; 13], m: u32, key: u32, i: u32, start: u32) -> Spot
     let end = key + 4 * ones[i as usize] + 1;
     Spot {
         place,
-        pixel: end + ones[top as usize],
+        key: end,
         top,
     }
 }

@@ -54,7 +54,7 @@ fn records(m: u32, keys: &[u32]) -> Verdict
 {
     let ones = key::ones_table();
     let digits = key::digits_table();
-    let mut spot = key::first_spot(&ones, m);
+    let mut spot = key::first_spot(m);
     let mut n: usize = 0;
     while n < keys.len() {
         let key = keys[n];

@@ -145,12 +145,12 @@ fn gather_run(
     ensures { λ r. ⌜ now (totals .exit) ≡ gathered m (now (keys .entry)) (now (classes .entry)) window (upFrom first count) (now (totals .entry)) ⌝ }
 {
     let end = first + count;
-    let mut spot = key::first_spot(ones, exponent);
+    let mut spot = key::first_spot(exponent);
     let mut n = first;
     while n < end {
         let at = n as usize;
         let inner = keys[at] - key;
-        let e = key::exponent_here(digits, exponent, spot, inner);
+        let e = key::exponent_here(ones, digits, exponent, spot, inner);
         totals[classes[at] as usize] += key::pow4(e);
         spot = key::advance(ones, exponent, inner, e, spot.place);
         n += 1;

@@ -1,17 +1,16 @@
 -- `key::advance` meets its contract: where a block's keys end, those of the largest block begin that starts where its span ends.
 -- Assumes nothing.
 use mathlib.Core.Path.{_≡_, refl}
-use Prim.Native.Nat.{ℕ, _+_, _*_, _/_, _^_, _≤_}
+use Prim.Native.Nat.{_+_, _*_, _^_, _≤_}
 use native.Mathlib.Omega.{arith}
-use lib.Count.{trailingZeros}
 use lib.ListN.{getD}
 use borrow.Author.Needs.{needs}
 use Rattle.key.specs.Alignment.{alignment}
 use Rattle.key.specs.Blocks.{Lies}
 use Rattle.key.specs.Along.{ones}
 use Rattle.key.proofs.Powers.{pow-most}
-use Rattle.key.proofs.Corners.{ones-pow, ones-entry, ones-most}
-use Rattle.key.proofs.Along.{next-room, next-cap, next-stands}
+use Rattle.key.proofs.Corners.{ones-pow, ones-entry}
+use Rattle.key.proofs.Along.{next-room, next-stands}
 use Rattle.key.proofs.advance.Statement.{statement}
 use Rattle.key.proofs.advance.Tie as tie
 
@@ -50,63 +49,14 @@ add-end c = omega (arith, own (c .before .before), end (c .before .before), most
 add-end-2 : tie.Need-add-end-2
 add-end-2 c = omega (arith, own (c .before .before), end (c .before .before), most (c .before .before))
 
--- where its span ends, and how large a block may start there
-module _ (c : tie.After-pow4) where
-  place : ℕ
-  place = c .before .args .start + c .pow4 .result
-
-  top : ℕ
-  top = trailingZeros 32 place / 2
-
-  reached : place ≡ c .before .args .start + 4 ^ c .before .args .i
-  unfolding place
-  reached = omega (arith, c .pow4 .ensures .is)
-
-  cap : top ≤ c .before .args .m
-  unfolding top alignment
-  cap = next-cap (c .before .pre .1) (c .before .pre .2) reached refl
-
-  there : getD (c .before .args .ones .now) top 0 ≡ ones top
-  there = ones-entry top (c .before .pre .0) (omega (arith, cap, c .before .pre .1))
-
-cast-t10 : tie.Need-cast-t10
-unfolding place top
-cast-t10 c = omega (arith, cap (c .before), c .before .before .pre .1)
-
-mul-t11 : tie.Need-mul-t11
-unfolding place top
-mul-t11 c = omega (arith, cap (c .before), c .before .before .pre .1)
-
-element-copy-out-t15 : tie.Need-element-copy-out-t15
-unfolding place top
-element-copy-out-t15 c = omega (arith, cap (c .before), c .before .before .pre .1)
-
-add-t9 : tie.Need-add-t9
-unfolding place top
-add-t9 c =
-    let s = c .before .before .before in
-    omega (arith, own s, end s, most s, there (c .before .before), ones-most (top (c .before .before)) (s .args .m) (cap (c .before .before)))
-
 returns : tie.Need-returns
-unfolding place top alignment
+unfolding alignment
 returns c =
-    let s = c .before .before .before in
-    let e = c .before .before in
-    (reached e, next-stands (s .pre .1) (s .pre .2) (reached e) refl (omega (arith, own s, there e)))
+    let s = c .before .before in
+    let reached : s .args .start + c .before .pow4 .result ≡ s .args .start + 4 ^ s .args .i = omega (arith, c .before .pow4 .ensures .is) in
+    (reached, next-stands (s .pre .1) (s .pre .2) reached refl (omega (arith, own s)))
 
 pub advance-spec : {M : Type 1} → statement M
 advance-spec =
     tie.close
-    (tie.spec
-    pow4-requires
-    add-place
-    mul-end
-    element-copy-out-end
-    mul-end-2
-    add-end
-    add-end-2
-    cast-t10
-    mul-t11
-    element-copy-out-t15
-    add-t9
-    returns)
+    (tie.spec pow4-requires add-place mul-end element-copy-out-end mul-end-2 add-end add-end-2 returns)

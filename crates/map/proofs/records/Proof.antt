@@ -25,7 +25,7 @@ digits-table-requires : tie.Need-digits-table-requires Inv-loop μ-loop
 digits-table-requires c κs = search needs
 
 first-spot-requires : tie.Need-first-spot-requires Inv-loop μ-loop
-first-spot-requires c κs = (c .before .before .ones-table .ensures, c .before .before .before .before .pre .0)
+first-spot-requires c κs = search needs
 
 loop-holds : tie.Need-loop-holds Inv-loop μ-loop
 loop-holds c = (rw (c .first-spot .ensures .0) (walking-first _ _), c .first-spot .ensures .1)
@@ -33,10 +33,10 @@ loop-holds c = (rw (c .first-spot .ensures .0) (walking-first _ _), c .first-spo
 -- at a turn: what was there before the loop
 module _ (c : tie.At-loop Inv-loop μ-loop) where
   abbrev start : tie.Start Inv-loop μ-loop
-  start = c .before .before .before .before .before .before
+  start = c .before .before .before .before .before
 
-  abbrev table : c .before .before .before .before .ones-table .result ≡ onesTable
-  table = c .before .before .before .before .ones-table .ensures
+  abbrev table : c .before .before .before .ones-table .result ≡ onesTable
+  table = c .before .before .before .ones-table .ensures
 
 mul-key : tie.Need-mul-key Inv-loop μ-loop
 mul-key c = search needs
@@ -45,7 +45,7 @@ shared-slice-read-key : tie.Need-shared-slice-read-key Inv-loop μ-loop
 shared-slice-read-key c = search needs
 
 exponent-at-requires : tie.Need-exponent-at-requires Inv-loop μ-loop
-exponent-at-requires c κs = let at = c .before .before .before .before in (table at, at .before .before .before .digits-table .ensures, start at .pre .0, at .loop .inv .1)
+exponent-at-requires c κs = let at = c .before .before .before .before in (table at, at .before .before .digits-table .ensures, start at .pre .0, at .loop .inv .1)
 
 enum-known-fit : tie.Need-enum-known-fit Inv-loop μ-loop
 enum-known-fit c = search needs
@@ -90,8 +90,8 @@ loop-again c =
 pow4-requires : tie.Need-pow4-requires Inv-loop μ-loop
 pow4-requires c κs = search needs
 
-cast-t24 : tie.Need-cast-t24 Inv-loop μ-loop
-cast-t24 c = search needs
+cast-t23 : tie.Need-cast-t23 Inv-loop μ-loop
+cast-t23 c = search needs
 
 returns-2 : tie.Need-returns-2 Inv-loop μ-loop
 returns-2 c = sym (walking-short (c .before .before .before .before .loop .inv .0) (c .before .before .before .loop-test .left) (omega (arith, c .if1 .taken, c .before .before .pow4 .ensures .is)))
@@ -122,6 +122,6 @@ records-spec =
     loop-less
     loop-again
     pow4-requires
-    cast-t24
+    cast-t23
     returns-2
     returns-3)

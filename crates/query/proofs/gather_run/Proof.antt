@@ -35,7 +35,7 @@ small : (c : tie.Start Inv-loop μ-loop) → c .args .exponent ≤ 12
 small c = omega (arith, fills-small (c .pre .2), c .pre .2 .hands .given .small)
 
 first-spot-requires : tie.Need-first-spot-requires Inv-loop μ-loop
-first-spot-requires c κs = (c .before .before .pre .0, small (c .before .before))
+first-spot-requires c κs = search needs
 
 loop-holds : tie.Need-loop-holds Inv-loop μ-loop
 loop-holds c = (λ W L G. adding-first G, c .first-spot .ensures .1, rw (c .first-spot .ensures .0) (fills-first (c .before .before .before .pre .2)))
@@ -70,7 +70,7 @@ sub-inner c = omega (arith, fills-key (start (c .before) .pre .2) (among (c .bef
 exponent-here-requires : tie.Need-exponent-here-requires Inv-loop μ-loop
 exponent-here-requires c κs =
     let t = c .before in
-    (start t .pre .1, small (start t), turn t .loop .inv .1, fills-begins (start t .pre .2) (among t) (turn t .loop .inv .2))
+    (start t .pre .0, start t .pre .1, small (start t), turn t .loop .inv .1, fills-begins (start t .pre .2) (among t) (turn t .loop .inv .2))
 
 pow4-requires : tie.Need-pow4-requires Inv-loop μ-loop
 pow4-requires c κs = omega (arith, block-lies (c .exponent-here .ensures) .small, small (start (c .before .before)))
