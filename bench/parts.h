@@ -124,32 +124,42 @@ static inline uint32_t alignment(uint32_t m, uint32_t x)
     return least((uint32_t)__builtin_ctz(x | 0x10000), m);
 }
 
-/* Where a walk along the keys stands: a place, the key of the pixel there, the greatest exponent of a block there. */
+/* Where a walk along the keys stands: a place, and the largest block that starts there, by its key and its exponent. */
 typedef struct {
-    uint32_t place, pixel, top;
+    uint32_t place, key, top;
 } spot;
 
 static inline spot first_spot(uint32_t m)
 {
-    spot first = {0, ones[m], m};
+    spot first = {0, 0, m};
     return first;
 }
 
 /* The exponent of a key's block that starts there; false where the key is another. */
 static inline bool exponent_at(uint32_t m, spot at, uint32_t key, uint32_t *exponent)
 {
-    uint32_t over = at.pixel - key;
-    if (at.place == pixels(m) || at.pixel < key)
+    uint32_t over;
+    if (at.place == pixels(m))
         return false;
+    *exponent = at.top;
+    if (key == at.key)
+        return true;
+    over = at.key + ones[at.top] - key;
     *exponent = digits[over % 16];
     return ones[*exponent] == over && *exponent <= at.top;
+}
+
+/* The same of a key that is known to be one's that starts there. */
+static inline uint32_t exponent_here(spot at, uint32_t key)
+{
+    return key == at.key ? at.top : digits[(at.key + ones[at.top] - key) % 16];
 }
 
 /* Behind the block of a key, of exponent i, that starts at a place. */
 static inline spot advance(uint32_t key, uint32_t i, uint32_t start)
 {
-    uint32_t place = start + pixels(i), top = (uint32_t)__builtin_ctz(place) / 2;
-    spot next = {place, key + 4 * ones[i] + 1 + ones[top], top};
+    uint32_t place = start + pixels(i);
+    spot next = {place, key + 4 * ones[i] + 1, (uint32_t)__builtin_ctz(place) / 2};
     return next;
 }
 

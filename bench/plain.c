@@ -207,9 +207,7 @@ __attribute__((noinline)) static void add_inside(const uint32_t *keys, const uin
 {
     spot at = first_spot(i);
     for (size_t n = 0; n < count; n++) {
-        uint32_t exponent, key = keys[n] - corner;
-        if (!exponent_at(i, at, key, &exponent))
-            return;
+        uint32_t key = keys[n] - corner, exponent = exponent_here(at, key);
         totals[classes[n]] += pixels(exponent);
         at = advance(key, exponent, at.place);
     }
