@@ -43,7 +43,8 @@ module _ {m top : ℕ} {keys : List ℕ} {W : Window} {at : Walk} {cells : List 
       let t = all-skipped m top keys n (blocksFrom W top (spot at)) (λ b h. listed-corner {top = top} (rw (R .walked .all) (Memᴰ·append-right (R .past) h)) .inside) in
       finds.end kept-none (t .0) (t .1)
 
-  module _ {r c i d : ℕ} (g : Goes W top (spot at) (Block r c i d)) {border : List ℕ} {answer : Stepped} (U : Usable m top keys W (length cells)) (S : Step m top keys W (r, c) cells answer border) where
+  module _ {r c i d : ℕ} (g : Goes W top (spot at) (Block r c i d)) {border : List ℕ} {answer : Stepped}
+      (U : Usable m top keys W (length cells)) (S : Step m top keys W (r, c) cells answer border) where
     fewer : columnsLeft W border + shutBy answer ≡ columnsLeft W cells
     fewer = step-left (R .past) (blocksFrom W top (r, d)) U (record { inside = goes-in g; own = goes-corner g }) (walked-split (R .walked) g) (R .stated) S
 
@@ -123,4 +124,5 @@ module _ {m top : ℕ} {keys : List ℕ} {W : Window} {cells : List ℕ} {at : W
           pub skipping-found : {left : ℕ} → left + shut ≡ to .left → Finds m top keys W at cells (found.Opening r c i key first count (walk r d left)) border′
           unfolding madeBy shutBy
           skipping-found {left} l =
-              finds.opening {first = first} {count = count} {on = walk r d left} K (goes-exponent g) (step-key S e) (on (rw e l)) skipping-kept (P .made-as ∙ made-next g S ∙ rw e) (P .left-as ∙ left-next g S)
+              finds.opening {first = first} {count = count} {on = walk r d left} K (goes-exponent g) (step-key S e) (on (rw e l)) skipping-kept
+              (P .made-as ∙ made-next g S ∙ rw e) (P .left-as ∙ left-next g S)

@@ -27,7 +27,9 @@ start-requires : tie.Need-start-requires Inv-loop μ-loop
 start-requires c κs = search needs
 
 loop-holds : tie.Need-loop-holds Inv-loop μ-loop
-loop-holds c = rw (c .start .ensures, c .before .before .before .before .before .before .before .before .before .pre .5) (totalling-first _ (finding-first _ (c .before .before .before .before .before .before .before .before .before .pre .3) (c .before .before .before .fill .ensures)))
+loop-holds c =
+    let p = c .before .before .before .before .before .before .before .before .before .pre in
+    rw (c .start .ensures, p .5) (totalling-first _ (finding-first _ (p .3) (c .before .before .before .fill .ensures)))
 
 -- at a turn: what was there before the loop
 module _ (c : tie.At-loop Inv-loop μ-loop) where
@@ -53,7 +55,8 @@ module _ (c : tie.After-enum-told Inv-loop μ-loop) where
   abbrev last : tie.At-loop Inv-loop μ-loop
   last = c .before .before .before .before .before .before
 
-  none : Finds (first last .args .m) (first last .args .m) (first last .args .keys .now) (first last .args .window) (last .loop .at) (last .loop .border) End (c .before .before .before .before .next-opening .last .1 .1 .1 .1 .1 .1 .0)
+  none : Finds (first last .args .m) (first last .args .m) (first last .args .keys .now) (first last .args .window)
+      (last .loop .at) (last .loop .border) End (c .before .before .before .before .next-opening .last .1 .1 .1 .1 .1 .1 .0)
   none = rw (c .enum-told .given .1) at (c .before .before .before .before .next-opening .ensures)
 
 same-length : tie.Need-same-length Inv-loop μ-loop
@@ -70,7 +73,8 @@ module _ (c : tie.After-known-told Inv-loop μ-loop) where
   turn = c .before .before .before .before .before .before .before
 
   found : Finds (first turn .args .m) (first turn .args .m) (first turn .args .keys .now) (first turn .args .window) (turn .loop .at) (turn .loop .border)
-      (Opening (c .before .found .given .0 .0) (c .before .found .given .0 .1 .0) (c .before .found .given .0 .1 .1 .0) (c .before .found .given .0 .1 .1 .1 .0) (c .before .found .given .0 .1 .1 .1 .1 .0) (c .before .found .given .0 .1 .1 .1 .1 .1 .0) (c .before .found .given .0 .1 .1 .1 .1 .1 .1 .0))
+      (Opening (c .before .found .given .0 .0) (c .before .found .given .0 .1 .0) (c .before .found .given .0 .1 .1 .0) (c .before .found .given .0 .1 .1 .1 .0)
+      (c .before .found .given .0 .1 .1 .1 .1 .0) (c .before .found .given .0 .1 .1 .1 .1 .1 .0) (c .before .found .given .0 .1 .1 .1 .1 .1 .1 .0))
       (c .before .before .before .before .before .next-opening .last .1 .1 .1 .1 .1 .1 .0)
   found = rw (c .before .found .given .1) at (c .before .before .before .before .before .next-opening .ensures)
 

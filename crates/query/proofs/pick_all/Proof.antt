@@ -33,29 +33,49 @@ same-length : tie.Need-same-length Inv-loop μ-loop
 same-length c = listed-same (c .before .before .before .loop .inv .listing)
 
 returns : tie.Need-returns Inv-loop μ-loop
-returns c = selecting-last _ _ (c .before .before .before .before .before .before .before .pre .1) (c .before .before .before .loop .inv) (rw (c .enum-told .given .1) at (c .before .before .next-block .ensures))
+returns c =
+    let at = c .before .before .before in
+    selecting-last _ _ (at .before .before .before .before .pre .1) (at .loop .inv) (rw (c .enum-told .given .1) at (c .before .before .next-block .ensures))
 
--- the arm of a block: what the walk says
-goes : (c : tie.After-known-told Inv-loop μ-loop) → Goes (c .before .before .before .before .before .before .before .before .args .window) (c .before .before .before .before .before .before .before .before .args .m) (c .before .before .before .before .loop .r, c .before .before .before .before .loop .c) (Block (c .before .next .given .0 .0) (c .before .next .given .0 .1 .0) (c .before .next .given .0 .1 .1 .0) (c .before .next .given .0 .1 .1 .1 .0))
-goes c = rw (c .before .next .given .1) at (c .before .before .before .next-block .ensures)
+-- the arm of a block: where the loop is, and what the walk says
+module _ (c : tie.After-known-told Inv-loop μ-loop) where
+  abbrev turn : tie.At-loop Inv-loop μ-loop
+  turn = c .before .before .before .before
+
+  abbrev start : tie.Start Inv-loop μ-loop
+  start = c .before .before .before .before .before .before .before .before
+
+  goes : Goes (start .args .window) (start .args .m) (turn .loop .r, turn .loop .c)
+      (Block (c .before .next .given .0 .0) (c .before .next .given .0 .1 .0) (c .before .next .given .0 .1 .1 .0) (c .before .next .given .0 .1 .1 .1 .0))
+  goes = rw (c .before .next .given .1) at (c .before .before .before .next-block .ensures)
 
 block-key-requires : tie.Need-block-key-requires Inv-loop μ-loop
-block-key-requires c κs = let k = selecting-key _ _ (c .before .before .before .before .before .before .before .before .pre .1) (c .before .before .before .before .loop .inv) (goes c) in (c .before .before .before .before .before .before .before .before .pre .0, c .before .before .before .before .before .before .before .before .pre .1 .small, k .0, k .1)
+block-key-requires c κs =
+    let p = start c .pre in
+    let k = selecting-key _ _ (p .1) (turn c .loop .inv) (goes c) in
+    (p .0, p .1 .small, k .0, k .1)
 
 records-near-requires : tie.Need-records-near-requires Inv-loop μ-loop
-records-near-requires c κs = let u = c .before .before .before .before .before .before .before .before .before .pre .1 in (c .before .before .before .before .before .before .before .before .before .pre .0, u .small, u .few, u .sound, selecting-block _ _ u (c .before .before .before .before .before .loop .inv) (goes (c .before)) (c .block-key .ensures))
+records-near-requires c κs =
+    let of = c .before in
+    let p = start of .pre in
+    (p .0, p .1 .small, p .1 .few, p .1 .sound, selecting-block _ _ (p .1) (turn of .loop .inv) (goes of) (c .block-key .ensures))
 
 pick-requires : tie.Need-pick-requires Inv-loop μ-loop
 pick-requires c κs =
-    let u = c .before .before .before .before .before .before .before .before .before .before .before .pre .1 in
-    let o = selecting-run _ _ u (c .before .before .before .before .before .before .before .loop .inv) (goes (c .before .before .before)) (c .before .before .block-key .ensures) (c .before .records-near .ensures) in
-    (o .some, o .room, u .few, c .before .before .before .before .before .before .before .before .before .before .before .pre .2, omega (arith, o .room, u .few, selecting-most _ _ u (c .before .before .before .before .before .before .before .loop .inv) (goes (c .before .before .before))))
+    let of = c .before .before .before in
+    let p = start of .pre in
+    let o = selecting-run _ _ (p .1) (turn of .loop .inv) (goes of) (c .before .before .block-key .ensures) (c .before .records-near .ensures) in
+    (o .some, o .room, p .1 .few, p .2, omega (arith, o .room, p .1 .few, selecting-most _ _ (p .1) (turn of .loop .inv) (goes of)))
 
 loop-less : tie.Need-loop-less Inv-loop μ-loop
 loop-less c = goes-less (goes (c .before .before .before .before .before .before))
 
 loop-again : tie.Need-loop-again Inv-loop μ-loop
-loop-again c = selecting-next _ _ (c .before .before .before .before .before .before .before .before .before .before .before .before .before .before .pre .1) (c .before .before .before .before .before .before .before .before .before .before .loop .inv) (goes (c .before .before .before .before .before .before)) (c .before .before .before .before .before .block-key .ensures) (c .before .before .before .before .records-near .ensures) (c .before .before .pick .ensures)
+loop-again c =
+    let of = c .before .before .before .before .before .before in
+    selecting-next _ _ (start of .pre .1) (turn of .loop .inv) (goes of)
+    (c .before .before .before .before .before .block-key .ensures) (c .before .before .before .before .records-near .ensures) (c .before .before .pick .ensures)
 
 pub pick-all-spec : {M : Type 1} → statement M
 pick-all-spec =
