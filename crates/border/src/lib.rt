@@ -152,15 +152,17 @@ fn put_opening(out: &mut [u32], n: u32, key: u32, first: u32, count: u32)
     out[at + 2] = count;
 }
 
+fn walk_from(row: u16, col: u16, left: u16) -> Walk
+    ensures { λ r. ⌜ r ≡ walk row col left ⌝ }
+{
+    Walk { row, col, left }
+}
+
 // The walk stands at the window's first pixel, and all columns are left.
 pub fn start(window: Window) -> Walk
     ensures { λ r. ⌜ r ≡ walk (window .r0) (window .c0) (window .w) ⌝ }
 {
-    Walk {
-        row: window.r0,
-        col: window.c0,
-        left: window.w,
-    }
+    walk_from(window.r0, window.c0, window.w)
 }
 
 // The next opening: skips blocks until one is opened. Where no column is left, all is out, and the walk ends.
@@ -207,11 +209,7 @@ pub fn next_opening(
                 key,
                 first,
                 count,
-                on: Walk {
-                    row,
-                    col: after,
-                    left: left - closed,
-                },
+                on: walk_from(row, after, left - closed),
             };
         }
         r = row;

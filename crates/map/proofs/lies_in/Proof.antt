@@ -26,7 +26,8 @@ add-next c = search needs
 returns-3 : tie.Need-returns-3
 returns-3 c =
     let s = c .before .before .before .before .before in
-    around (s .pre .3) (omega (arith, c .before .before .before .if1 .left)) (omega (arith, c .before .if2 .left)) (omega (arith, pow-least 4 (s .args .i))) (λ l. absurd (omega (arith, c .if3 .taken)))
+    around (s .pre .3) (omega (arith, c .before .before .before .if1 .left)) (omega (arith, c .before .if2 .left))
+    (omega (arith, pow-least 4 (s .args .i))) (λ l. absurd (omega (arith, c .if3 .taken)))
 
 mul-if4 : tie.Need-mul-if4
 mul-if4 c = search needs
@@ -49,7 +50,8 @@ returns-5 : tie.Need-returns-5
 returns-5 c =
     let e = c .before .before .before .before in
     let s = e .before .before .before .before in
-    around (s .pre .3) (omega (arith, e .before .before .if1 .left)) (omega (arith, e .if2 .left)) (omega (arith, pow-least 4 (s .args .i))) (λ l. omega (arith, c .if4 .left, c .before .pow5 .ensures .is))
+    around (s .pre .3) (omega (arith, e .before .before .if1 .left)) (omega (arith, e .if2 .left))
+    (omega (arith, pow-least 4 (s .args .i))) (λ l. omega (arith, c .if4 .left, c .before .pow5 .ensures .is))
 
 pub lies-in-spec : {M : Type 1} → statement M
 lies-in-spec =
