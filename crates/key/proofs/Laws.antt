@@ -9,13 +9,16 @@ use Rattle.key.specs.Picture.{Pixel, place, PixelAt}
 use Rattle.key.specs.Key.{pixelKey, blockKey}
 use Rattle.key.specs.Blocks.{Names, Lies, Among, Inside, Stand, within, around, after, before}
 use Rattle.key.proofs.Powers.{pow-least}
+use Rattle.key.proofs.Digits.{form-whole}
 use Rattle.key.proofs.Blocks.{At, lies, at-form, form-at, stand, one-at}
 use Rattle.key.proofs.Pixels.{coarse, place-one, place-onto, place-div, pixel-at, block-at}
 pub use Rattle.key.proofs.Pixels.{place-lt, place-one, place-onto, corner-place}
-pub use Rattle.key.proofs.Powers.{pow-least, pow-most, power, four}
+pub use Rattle.key.proofs.Powers.{pow-least, pow-most, power, four, size-le}
 pub use Rattle.key.proofs.Ends.{Starts, first-pixel, aligned-start, block-starting, end-key, sub-key}
+pub use Rattle.key.proofs.Places.{span-key, span-named}
+pub use Rattle.key.proofs.Around.{key-zeros, key-least, reaches-least, reaches-before, reaches-around}
 pub use Rattle.key.proofs.Along.{fits-key, fits-block, fits-other}
-pub use Rattle.key.proofs.Zeros.{alignment-most, alignment-zero, alignment-divides}
+pub use Rattle.key.proofs.Zeros.{alignment-most, alignment-zero, alignment-divides, leading-most, log-of}
 
 at : {m key i s : ℕ} → Names m key i s → At m key i s
 at {m} {key} n = form-at m key (n .is)
@@ -34,6 +37,10 @@ block-named m i r c l p = record { is = at-form (block-at m i r c l p) }
 
 pub pixel-named : (m r c : ℕ) → Pixel m r c → Names m (pixelKey m r c) 0 (place r c)
 pixel-named m r c p = record { is = at-form (pixel-at m r c p) }
+
+-- key 0 is the whole picture
+pub whole-named : (m : ℕ) → Names m 0 m 0
+whole-named m = record { is = form-whole m }
 
 pub block-lies : {m key i s : ℕ} → Names m key i s → Lies m key i s
 block-lies n = lies (at n)

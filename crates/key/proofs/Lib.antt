@@ -6,6 +6,8 @@ mod Pixels
 mod Zeros
 mod Corners
 mod Ends
+mod Places
+mod Around
 mod Along
 mod Here
 mod Examples

@@ -4,5 +4,6 @@ pub mod Key
 pub mod Form
 pub mod Blocks
 pub mod Along
+pub mod Places
 pub mod Alignment
 pub mod Power

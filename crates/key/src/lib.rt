@@ -7,7 +7,7 @@ ghost use Rattle.key.specs.Spread.{spread, spreads};
 ghost use Rattle.key.specs.Key.{pixelKey, blockKey};
 ghost use Rattle.key.specs.Form.{formOf};
 ghost use Rattle.key.specs.Along.{ones, onesTable, Finds, pixelAt, Stands, Fits, Begins};
-ghost use Rattle.key.specs.Blocks.{Names};
+ghost use Rattle.key.specs.Blocks.{Names, Below, Reaches};
 ghost use Rattle.key.specs.Alignment.{alignment};
 ghost use Rattle.key.specs.Power.{Power};
 
@@ -204,6 +204,14 @@ pub fn exponent_here(ones: &[u32; 13], digits: &[u8; 16], m: u32, spot: Spot, ke
     digits[(over % 16) as usize] as u32
 }
 
+// The key of the block of exponent i that starts where the walk stands: i digits 1 below that of the pixel there.
+pub fn key_here(ones: &[u32; 13], m: u32, spot: Spot, i: u32) -> u32
+    requires { ⌜ (now ones ≡ onesTable) × (m ≤ 12) × Stands m spot × (spot .place < 4 ^ m) × (i ≤ spot .top) ⌝ }
+    ensures { λ r. ⌜ Names m r i (spot .place) ⌝ }
+{
+    pixel_at(ones, m, spot) - ones[i as usize]
+}
+
 // Behind the block of a key, of exponent i and with a span from `start` on. Where its keys end, those of the largest block begin that starts where its span ends. m is there for the
 // contract alone.
 pub fn advance(ones: &[u32; 13], m: u32, key: u32, i: u32, start: u32) -> Spot
@@ -218,4 +226,26 @@ pub fn advance(ones: &[u32; 13], m: u32, key: u32, i: u32, start: u32) -> Spot
         key: end,
         top,
     }
+}
+
+// How far the block of a key reaches around the block of a larger key and its exponent i: its own exponent where it contains it, otherwise i. Where it does, it is as many digits
+// larger as the one key has over the other, and its own key ends in as many zeros.
+pub fn reach_over(table: &[u32; 256], m: u32, own: u32, key: u32, i: u32) -> u32
+    requires { ⌜ (now table ≡ spreads) × (m ≤ 12) × Below m own key i ⌝ }
+    ensures { λ r. ⌜ Reaches m own key i r ⌝ }
+{
+    if own == 0 {
+        return m;
+    }
+    let over = key - own;
+    let mut e = i;
+    let mut p = pow5(table, i);
+    while p <= over {
+        p = 5 * p;
+        e += 1;
+    }
+    if own % p != 0 {
+        return i;
+    }
+    e
 }

@@ -1,8 +1,8 @@
 -- What passes a test: which elements, how many, part by part, and where only a run of numbers passes. By induction over the list.
 -- Assumes nothing.
-use mathlib.Core.Path.{_≡_, refl, sym, _∙_}
+use mathlib.Core.Path.{_≡_, refl, sym, ap, _∙_}
 use mathlib.Core.Bool.{Bool, true, false, cond}
-use mathlib.Core.List.{List, [], _∷_, _++_, append-nil, List·Memᴰ, List·Memᴰ·head, List·Memᴰ·tail, List·Memᴰ·not-nil}
+use mathlib.Core.List.{List, [], _∷_, _++_, map, append-nil, List·Memᴰ, List·Memᴰ·head, List·Memᴰ·tail, List·Memᴰ·not-nil}
 use Prim.Native.Nat.{ℕ, suc, _+_, _-_, _≤_, _<_}
 use native.Mathlib.Omega.{arith}
 use lib.ListN.{length}
@@ -66,6 +66,15 @@ module _ {A : Type 0} where
       go true ih = more (λ y n. h y (keep-in f l n)) ih
       go false ih = ih
 
+pub keep-map : {A B : Type 0} (f : B → Bool) (g : A → B) (l : List A) → keep f (map g l) ≡ map g (keep (λ x. f (g x)) l)
+unfolding keep
+keep-map f g [] = refl
+keep-map {B = B} f g (x ∷ l) = go (f (g x)) (keep-map f g l)
+  where
+    go : (b : Bool) → keep f (map g l) ≡ map g (keep (λ y. f (g y)) l) → cond b (g x ∷ keep f (map g l)) (keep f (map g l)) ≡ map g (cond b (x ∷ keep (λ y. f (g y)) l) (keep (λ y. f (g y)) l))
+    go true ih = ap (λ (ys : List B). g x ∷ ys) ih
+    go false ih = ih
+
 pub keep-most : {A : Type 0} (f : A → Bool) (l : List A) → length (keep f l) ≤ length l
 unfolding keep
 keep-most f [] = omega arith
@@ -90,6 +99,11 @@ module _ {A : Type 0} (f : A → Bool) where
   keep-none [] h = refl
   keep-none (x ∷ xs) h = rw (h x (List·Memᴰ·head refl)) (keep-none xs (λ y l. h y (List·Memᴰ·tail l)))
 
+  pub keep-all : (xs : List A) → ((x : A) → List·Memᴰ x xs → f x ≡ true) → keep f xs ≡ xs
+  unfolding keep
+  keep-all [] h = refl
+  keep-all (x ∷ xs) h = rw (h x (List·Memᴰ·head refl), keep-all xs (λ y l. h y (List·Memᴰ·tail l)))
+
   pub keep-same : (g : A → Bool) (xs : List A) → ((x : A) → List·Memᴰ x xs → f x ≡ g x) → keep f xs ≡ keep g xs
   unfolding keep
   keep-same g [] h = refl
@@ -99,7 +113,8 @@ module _ {A : Type 0} (f : A → Bool) where
 keep-middle : (f : ℕ → Bool) (a n d : ℕ) → ((x : ℕ) → x < a + (n + d) → f x ≡ true → (a ≤ x) × (x < a + n)) → keep f (upFrom 0 (a + (n + d))) ≡ keep f (upFrom a n)
 keep-middle f a n d h =
     let z : 0 + a ≡ a = omega arith in
-    rw (up-append 0 a (n + d), z, up-append a n d, keep-append f (upFrom 0 a) (upFrom a n ++ upFrom (a + n) d), keep-append f (upFrom a n) (upFrom (a + n) d), keep-none f (upFrom 0 a) ahead, keep-none f (upFrom (a + n) d) past)
+    let rest : List ℕ = upFrom (a + n) d in
+    rw (up-append 0 a (n + d), z, up-append a n d, keep-append f (upFrom 0 a) (upFrom a n ++ rest), keep-append f (upFrom a n) rest, keep-none f (upFrom 0 a) ahead, keep-none f rest past)
     (append-nil (keep f (upFrom a n)))
   where
     ahead : (x : ℕ) → List·Memᴰ x (upFrom 0 a) → f x ≡ false

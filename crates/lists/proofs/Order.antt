@@ -1,9 +1,10 @@
--- Order: parts of an ordered list, two lists in one, and the pigeonhole principle. By induction over the list.
+-- Order: parts of an ordered list, two lists in one, the pigeonhole principle, and lists with the same elements. By induction over the list.
 -- Assumes nothing.
-use mathlib.Core.Path.{_≡_, refl, sym, ap, _∙_, subst}
+use mathlib.Core.Path.{_≡_, refl, sym, ap, ap₂, _∙_, subst}
 use mathlib.Core.Logic.{_⊎_, inl, inr, _≢_}
-use mathlib.Core.List.{List, [], _∷_, _++_, map, List·Memᴰ, List·Memᴰ·head, List·Memᴰ·tail, List·Memᴰ·append-cases, Memᴰ·append-left, Memᴰ·of-map}
-use Prim.Native.Nat.{suc, _≤_}
+use mathlib.Core.List.{List, [], _∷_, _++_, map, List·Memᴰ, List·Memᴰ·head, List·Memᴰ·tail}
+use mathlib.Core.List.{List·Memᴰ·not-nil, List·Memᴰ·cases-cons, List·Memᴰ·append-cases, Memᴰ·append-left, Memᴰ·of-map}
+use Prim.Native.Nat.{ℕ, suc, _≤_, _<_}
 use native.Mathlib.Omega.{arith}
 use lib.ListN.{length}
 use Rattle.lists.specs.Lists.{Ordered, none, more}
@@ -28,13 +29,21 @@ module _ {A : Type 0} where
       go y (inl n) = h y n
       go y (inr n) = k x y (List·Memᴰ·head refl) n
 
+-- a function that keeps an order
+pub ordered-map : {A B : Type 0} {R : A → A → Type 0} {S : B → B → Type 0} (f : A → B) {l : List A} → Ordered R l
+    → ((x y : A) → List·Memᴰ x l → List·Memᴰ y l → R x y → S (f x) (f y)) → Ordered S (map f l)
+ordered-map f none k = none
+ordered-map {B = B} {S = S} f (more {x = x} {l = l} h o) k = more late (ordered-map f o (λ a b m n. k a b (List·Memᴰ·tail m) (List·Memᴰ·tail n)))
+  where
+    late : (y : B) → List·Memᴰ y (map f l) → S (f x) y
+    late y m = let t = Memᴰ·of-map f l m in rw (← t .2) (k x (t .0) (List·Memᴰ·head refl) (List·Memᴰ·tail (t .1)) (h (t .0) (t .1)))
+
 -- different elements, and a function that keeps them apart
 pub distinct-map : {A B : Type 0} (f : A → B) {l : List A} → Ordered _≢_ l → ((x y : A) → List·Memᴰ x l → List·Memᴰ y l → f x ≡ f y → x ≡ y) → Ordered _≢_ (map f l)
-distinct-map f none u = none
-distinct-map {B = B} f (more {x = x} {l = l} h o) u = more late (distinct-map f o (λ a b m n. u a b (List·Memᴰ·tail m) (List·Memᴰ·tail n)))
-  where
-    late : (y : B) → List·Memᴰ y (map f l) → f x ≢ y
-    late y m e = let t = Memᴰ·of-map f l m in h (t .0) (t .1) (u x (t .0) (List·Memᴰ·head refl) (List·Memᴰ·tail (t .1)) (e ∙ sym (t .2)))
+distinct-map f o u = ordered-map f o (λ x y m n h e. h (u x y m n e))
+
+pub rising-distinct : {l : List ℕ} → Ordered _<_ l → Ordered _≢_ l
+rising-distinct o = ordered-imp (λ x y h e. omega arith) o
 
 -- ---- pigeonhole
 
@@ -59,19 +68,72 @@ module _ {B : Type 0} where
       go (inl e) = inl e
       go (inr k) = inr (List·Memᴰ·tail k)
 
--- Where each of different a's has a b of the list s, and no two have the same, the a's are no more than s.
-pub pigeon : {A B : Type 0} (R : A → B → Type 0) {l : List A} (s : List B) → Ordered _≢_ l
-    → ((a : A) → List·Memᴰ a l → (b : B) × List·Memᴰ b s × R a b)
-    → ((a a′ : A) (b : B) → List·Memᴰ a l → List·Memᴰ a′ l → R a b → R a′ b → a ≡ a′)
-    → length l ≤ length s
-pigeon R s none f u = omega arith
-pigeon {A} {B} R s (more {x = x} {l = l} h o) f u =
-    let t : (b : B) × List·Memᴰ b s × R x b = f x (List·Memᴰ·head refl) in
-    omega (arith, remove-length (t .1), pigeon R (remove (t .1)) o (λ a n. go t a n (f a (List·Memᴰ·tail n))) (λ a a′ b m n. u a a′ b (List·Memᴰ·tail m) (List·Memᴰ·tail n)))
+module _ {A B : Type 0} (R : A → B → Type 0) where
+  -- when the b of one a is taken away, every other a still has its own
+  others : {x : A} {l : List A} (s : List B) → ((y : A) → List·Memᴰ y l → x ≢ y)
+      → ((a : A) → List·Memᴰ a (x ∷ l) → (b : B) × List·Memᴰ b s × R a b)
+      → ((a a′ : A) (b : B) → List·Memᴰ a (x ∷ l) → List·Memᴰ a′ (x ∷ l) → R a b → R a′ b → a ≡ a′)
+      → (t : (b : B) × List·Memᴰ b s × R x b) (a : A) → List·Memᴰ a l → (b : B) × List·Memᴰ b (remove (t .1)) × R a b
+  others {x} {l} s h f u t a n = pick (f a (List·Memᴰ·tail n))
+    where
+      pick : (b : B) × List·Memᴰ b s × R a b → (b : B) × List·Memᴰ b (remove (t .1)) × R a b
+      pick k = go (remove-in (t .1) (k .1))
+        where
+          go : (k .0 ≡ t .0) ⊎ List·Memᴰ (k .0) (remove (t .1)) → (b : B) × List·Memᴰ b (remove (t .1)) × R a b
+          go (inl e) = absurd (h a n (u x a (t .0) (List·Memᴰ·head refl) (List·Memᴰ·tail n) (t .2) (subst (λ (b : B). R a b) e (k .2))))
+          go (inr m) = (k .0, m, k .2)
+
+  -- Where each of different a's has a b of the list s, and no two have the same, the a's are no more than s.
+  pub pigeon : {l : List A} (s : List B) → Ordered _≢_ l
+      → ((a : A) → List·Memᴰ a l → (b : B) × List·Memᴰ b s × R a b)
+      → ((a a′ : A) (b : B) → List·Memᴰ a l → List·Memᴰ a′ l → R a b → R a′ b → a ≡ a′)
+      → length l ≤ length s
+  pigeon s none f u = omega arith
+  pigeon s (more {x = x} {l = l} h o) f u =
+      let t : (b : B) × List·Memᴰ b s × R x b = f x (List·Memᴰ·head refl) in
+      omega (arith, remove-length (t .1), pigeon (remove (t .1)) o (others s h f u t) (λ a a′ b m n. u a a′ b (List·Memᴰ·tail m) (List·Memᴰ·tail n)))
+
+  -- And where s is no longer, each of its b's is that of an a.
+  pub pigeon-onto : {l : List A} (s : List B) → Ordered _≢_ l
+      → ((a : A) → List·Memᴰ a l → (b : B) × List·Memᴰ b s × R a b)
+      → ((a a′ : A) (b : B) → List·Memᴰ a l → List·Memᴰ a′ l → R a b → R a′ b → a ≡ a′)
+      → length s ≤ length l → (b : B) → List·Memᴰ b s → (a : A) × List·Memᴰ a l × R a b
+  pigeon-onto s none f u k b n = absurd (omega (arith, remove-length n))
+  pigeon-onto s (more {x = x} {l = l} h o) f u k b n =
+      go t (remove-in (t .1) n)
+      (pigeon-onto (remove (t .1)) o (others s h f u t) (λ a a′ b m n. u a a′ b (List·Memᴰ·tail m) (List·Memᴰ·tail n)) (omega (arith, remove-length (t .1))) b)
+    where
+      t : (b : B) × List·Memᴰ b s × R x b
+      t = f x (List·Memᴰ·head refl)
+
+      go : (t : (b : B) × List·Memᴰ b s × R x b) → (b ≡ t .0) ⊎ List·Memᴰ b (remove (t .1))
+          → (List·Memᴰ b (remove (t .1)) → (a : A) × List·Memᴰ a l × R a b) → (a : A) × List·Memᴰ a (x ∷ l) × R a b
+      go t (inl e) ih = (x, List·Memᴰ·head refl, subst (λ (b : B). R x b) (sym e) (t .2))
+      go t (inr m) ih = let z = ih m in (z .0, List·Memᴰ·tail (z .1), z .2)
+
+-- ---- one list
+
+-- Of two rising lists one has all elements of the other, and is no longer: they are one.
+pub same-rising : {l s : List ℕ} → Ordered _<_ l → Ordered _<_ s → ((x : ℕ) → List·Memᴰ x l → List·Memᴰ x s) → length s ≤ length l → s ≡ l
+same-rising {s = []} none o k h = refl
+same-rising {s = y ∷ s} none o k h = absurd (omega arith)
+same-rising {s = []} (more {x = x} g o) p k h = absurd (List·Memᴰ·not-nil (k x (List·Memᴰ·head refl)))
+same-rising {s = y ∷ s} (more {x = x} {l = l} g o) (more u p) k h = go (List·Memᴰ·cases-cons (k x (List·Memᴰ·head refl))) (same-rising o p)
   where
-    go : (t : (b : B) × List·Memᴰ b s × R x b) (a : A) → List·Memᴰ a l → (b : B) × List·Memᴰ b s × R a b → (b : B) × List·Memᴰ b (remove (t .1)) × R a b
-    go t a n k = pick (remove-in (t .1) (k .1))
+    -- an element behind y
+    later : (z : ℕ) → y < z → List·Memᴰ z (x ∷ l) → List·Memᴰ z s
+    later z d n = pick (List·Memᴰ·cases-cons (k z n))
       where
-        pick : (k .0 ≡ t .0) ⊎ List·Memᴰ (k .0) (remove (t .1)) → (b : B) × List·Memᴰ b (remove (t .1)) × R a b
-        pick (inl e) = absurd (h a n (u x a (t .0) (List·Memᴰ·head refl) (List·Memᴰ·tail n) (t .2) (subst (λ (b : B). R a b) e (k .2))))
-        pick (inr m) = (k .0, m, k .2)
+        pick : (z ≡ y) ⊎ List·Memᴰ z s → List·Memᴰ z s
+        pick (inl e) = absurd (omega arith)
+        pick (inr i) = i
+
+    over : y < x → (z : ℕ) → List·Memᴰ z (x ∷ l) → y < z
+    over d z (List·Memᴰ·head e) = omega arith
+    over d z (List·Memᴰ·tail i) = omega (arith, g z i)
+
+    go : (x ≡ y) ⊎ List·Memᴰ x s → (((z : ℕ) → List·Memᴰ z l → List·Memᴰ z s) → length s ≤ length l → s ≡ l) → y ∷ s ≡ x ∷ l
+    go (inl e) ih = ap₂ _∷_ (sym e) (ih (λ z i. later z (omega (arith, g z i)) (List·Memᴰ·tail i)) (omega arith))
+    go (inr i) ih =
+        let d : y < x = u x i in
+        absurd (omega (arith, pigeon _≡_ s (rising-distinct (more {x = x} g o)) (λ z n. (z, later z (over d z n) n, refl)) (λ z z′ b n n′ e e′. e ∙ sym e′)))

@@ -3,14 +3,14 @@
 -- Assumes nothing.
 use mathlib.Core.Path.{_≡_, sym, ap, _∙_}
 use mathlib.Core.Logic.{_↔_}
-use Prim.Native.Nat.{ℕ, suc, min, _+_, _-_, _*_, _/_, _^_, _≤_, _<_}
+use Prim.Native.Nat.{ℕ, min, _+_, _-_, _*_, _/_, _^_, _≤_, _<_}
 use native.Mathlib.Decide.{decLt}
 use native.Mathlib.Nat.{add-mul-div-right, add-mul, div-eq-of-lt, div-lt-iff-lt-mul, sub-add-cancel, one-mul}
-use native.Mathlib.Numerals.{add-one}
 use native.Mathlib.Omega.{arith}
 use lib.Bits.{bitXor, xor-shr, xor-self, xor-lt, xor-add-and, and-le-l, and-le-r}
-use lib.Count.{leadingZeros, leading-top}
-use lib.Pow.{pow-pos, pow-add, pow-mono}
+use lib.Count.{leadingZeros}
+use lib.Pow.{pow-pos, pow-add}
+use Rattle.key.proofs.Laws.{log-of}
 use Rattle.window.specs.declared.Window.{Window}
 use Rattle.window.specs.Window.{Px, In}
 use Rattle.window.specs.Blocks.{floor, Fits, exponent}
@@ -85,25 +85,6 @@ module _ {a n x : ℕ} (B : Between a n x) where
           (λ l. let s = p .0 (w .0 (omega arith)) in let t = q .0 (e .0 (omega arith)) in omega arith, λ l. let s = w .1 (p .1 (omega arith)) in let t = e .1 (q .1 (omega arith)) in omega arith)
 
 -- ---- the exponent
-
--- twice a number and 1 more has one zero less before its highest bit
-leading-twice : (k v : ℕ) → leadingZeros (suc k) (2 * v + 1) ≡ leadingZeros k v
-unfolding leadingZeros
-leading-twice k v = let e : suc (2 * v) / 2 ≡ v = omega arith in rw (add-one, e)
-
--- so a bit is set, and this is the place of the highest
-pub leading-most : (v : ℕ) → 1 ≤ v → v < 2 ^ 14 → leadingZeros 32 (2 * v + 1) ≤ 30
-leading-most v h l = omega (arith, leading-twice 31 v, leading-top 31 v h (omega arith) .1)
-
-pub log-of : (v i : ℕ) → 1 ≤ v → v < 2 ^ 14 → i ≡ 30 - leadingZeros 32 (2 * v + 1) → (j : ℕ) → (j ≤ i) ↔ (2 ^ j ≤ v)
-log-of v i h l e j =
-    let t = leading-top 31 v h (omega arith) in
-    let d : i ≡ t .0 = omega (arith, t .1, leading-twice 31 v) in
-    (λ k. omega (arith, t .2, pow-mono {i = j} {j = t .0} (omega arith)), λ k. go (decLt i j) (t .0) d (t .3) k)
-  where
-    go : Dec (i < j) → (k : ℕ) → i ≡ k → v < 2 ^ suc k → 2 ^ j ≤ v → j ≤ i
-    go (yes g) k d f m = absurd (omega (arith, pow-mono {i = suc k} {j = j} (omega arith)))
-    go (no g) k d f m = omega arith
 
 module _ (W : Window) (top : ℕ) {p : Px} (v : In W p) where
   pub exponent-least : {rows cols i : ℕ} → top ≤ 12 → Reach (W .r0) (W .h) (p .0) rows → Reach (W .c0) (W .w) (p .1) cols → i ≡ 30 - leadingZeros 32 (2 * min rows cols + 1)
