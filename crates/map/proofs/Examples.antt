@@ -1,22 +1,28 @@
 -- Worked examples of maps, computed from the definitions. P1's map has m = 2 and the keys 5, 11, 12, 13, 14, 15, 20.
 -- Assumes nothing.
 use mathlib.Core.Path.{_≡_, refl}
+use mathlib.Core.Bool.{true, false}
 use mathlib.Core.List.{List, [], _∷_}
 use Prim.Native.Nat.{ℕ}
 use Rattle.lists.specs.Lists.{before, howMany}
-use Rattle.answers.specs.Rows.{answer}
+use Rattle.answers.specs.declared.Verdict.the-variants.{Passed}
+use Rattle.answers.specs.declared.Verdict.the-variants as refusal
+use Rattle.answers.specs.Rows.{answer, verdict}
 use Rattle.answers.specs.Sizes.{wrongCount, sizeRows}
 use Rattle.key.specs.Spread.{spreadTo, spread}
 use Rattle.key.specs.Picture.{place}
 use Rattle.key.specs.Form.{from, formOf}
 use Rattle.map.specs.declared.Checked.the-variants.{Sound, Refused}
 use Rattle.map.specs.Spans.{malformed, exponent, start, end, holds, overlap}
-use Rattle.map.specs.Check.{recordRows, mapRows, checkOf}
-use Rattle.map.specs.Records.{recordOf, exponentOf}
+use Rattle.map.specs.Check.{late, rowsFrom, mapRows, checkOf}
+use Rattle.map.specs.Records.{recordOf, exponentOf, tileOf}
 use Rattle.map.specs.Runs.{run, runOf}
 
 abbrev keys : List ℕ
 keys = 5 ∷ 11 ∷ 12 ∷ 13 ∷ 14 ∷ 15 ∷ 20 ∷ []
+
+abbrev gapped : List ℕ
+gapped = 11 ∷ 20 ∷ []
 
 pub record Examples : Type 0 where
   pub sound : checkOf 2 keys 7 ≡ Sound 7
@@ -30,13 +36,25 @@ pub record Examples : Type 0 where
   pub record-3 : recordOf 2 keys (place 1 2) ≡ 3
   pub record-0 : recordOf 2 keys (place 1 1) ≡ 0
   pub side-0 : exponentOf 2 keys (place 1 1) ≡ 1
-  -- block 10 has four records, block 9 lies in one, and the picture has all
-  pub run-10 : runOf 2 keys 10 ≡ run 1 4
-  pub run-9 : runOf 2 keys 9 ≡ run 0 1
-  pub run-0 : runOf 2 keys 0 ≡ run 0 7
+  -- block 10 has four records, block 9 lies in one, of side 2, and the picture has all
+  pub run-10 : runOf 2 keys 10 ≡ run 1 4 1
+  pub run-9 : runOf 2 keys 9 ≡ run 0 1 1
+  pub run-0 : runOf 2 keys 0 ≡ run 0 7 2
+  -- a map with gaps passes unless it is to be whole
+  pub gaps : verdict (rowsFrom false 2 0 0 gapped) ≡ Passed
+  pub not-whole : verdict (rowsFrom true 2 0 0 gapped) ≡ refusal.Refused 5 0
+  pub nothing : verdict (rowsFrom false 2 0 0 []) ≡ Passed
+  pub back : verdict (rowsFrom false 2 0 0 (20 ∷ 11 ∷ [])) ≡ refusal.Refused 4 1
+  -- there block 7 meets no record, and its pixel is a tile of its own; block 10 meets one that does not contain it, and block 22 one that does
+  pub run-none : runOf 2 gapped 7 ≡ run 0 0 0
+  pub run-part : runOf 2 gapped 10 ≡ run 0 1 1
+  pub run-22 : runOf 2 gapped 22 ≡ run 1 1 1
+  pub no-record : recordOf 2 gapped 1 ≡ 2
+  pub no-side : exponentOf 2 gapped 1 ≡ 0
+  pub tile : tileOf 2 gapped 1 ≡ 3
 
 pub examples : Examples
-unfolding answer wrongCount sizeRows spreadTo spread place from formOf malformed exponent start end holds overlap recordRows mapRows checkOf before howMany recordOf exponentOf runOf
+unfolding answer wrongCount sizeRows spreadTo spread place from formOf malformed exponent start end holds overlap late rowsFrom mapRows checkOf before howMany recordOf exponentOf tileOf runOf
 examples = record {
   sound = refl;
   pixel = refl;
@@ -51,4 +69,14 @@ examples = record {
   run-10 = refl;
   run-9 = refl;
   run-0 = refl;
+  gaps = refl;
+  not-whole = refl;
+  nothing = refl;
+  back = refl;
+  run-none = refl;
+  run-part = refl;
+  run-22 = refl;
+  no-record = refl;
+  no-side = refl;
+  tile = refl;
 }

@@ -1,32 +1,40 @@
 -- The records of a block: `runOf` gives those that meet it, and they are found by where the block's keys begin and end in the list of keys.
 -- Assumes nothing.
-use mathlib.Core.Path.{_≡_, refl, ap, ap₂, _∙_}
-use mathlib.Core.Logic.{_↔_}
-use mathlib.Core.Bool.{Bool, true}
+use mathlib.Core.Path.{_≡_, ap, _∙_}
+use mathlib.Core.Logic.{_↔_, _≢_, _⊎_, inl, inr}
+use mathlib.Core.Bool.{Bool, true, cond}
 use mathlib.Core.List.{List}
-use Prim.Native.Nat.{ℕ, _+_, _-_, _^_, _≤_, _<_}
+use Prim.Native.Nat.{ℕ, max, _+_, _-_, _^_, _≤_, _<_}
 use native.Mathlib.Nat.{add-zero, add-sub-of-le}
-use native.Mathlib.Decide.{decLt}
+use native.Mathlib.Decide.{decLt, ℕ-discrete}
 use native.Mathlib.Omega.{arith}
+use lib.Dec.{eqb}
 use lib.ListN.{length, getD}
+use borrow.Author.Tests.{eq-eqb, ne-eqb}
+use Rattle.lists.specs.Lists.{before, howMany}
 use Rattle.lists.proofs.Laws.{Stretch, stretch-of, stretch-begins, stretch-counts}
 use Rattle.key.specs.Form.{formOf}
-use Rattle.key.specs.Blocks.{Names}
-use Rattle.key.proofs.Laws.{pow-least}
+use Rattle.key.specs.Blocks.{Names, Among, Inside}
+use Rattle.key.proofs.Laws.{one-block, nested, pow-least, size-le}
 use Rattle.map.specs.Spans.{overlap}
-use Rattle.map.specs.Sound.{Follow}
-use Rattle.map.specs.Records.{Record}
-use Rattle.map.specs.Runs.{run, runOf, Meets, Rising, Between, Splits, Around}
-use Rattle.map.proofs.Order.{record-at, keys-apart, keys-rise}
-use Rattle.map.proofs.Meeting.{meets-run, meets-one}
-use Rattle.map.proofs.Halves.{between-first, between-upper, split-on, split-behind, split-own, some-split}
-use Rattle.map.proofs.Tests.{overlap-is}
+use Rattle.map.specs.Sound.{Spaced}
+use Rattle.map.specs.Records.{Record, SomeRecord, Holder, Free, exponentOf}
+use Rattle.map.specs.Runs.{run, runOf, Meets, Between, Splits}
+use Rattle.map.proofs.Order.{record-at, keys-apart, keys-rise, find}
+use Rattle.map.proofs.Holding.{exponent-of, exponent-none}
+use Rattle.map.proofs.Meeting.{meets-run, meets-around, meets-none, in-block}
+use Rattle.map.proofs.Halves.{between-first, between-upper, split-on, split-behind, some-split}
+use Rattle.map.proofs.Tests.{exponent-is, start-is, overlap-is}
 
-module _ {m : ℕ} {keys : List ℕ} (F : Follow m 0 keys) {key i s : ℕ} (b : Names m key i s) where
+module _ {m : ℕ} {keys : List ℕ} (F : Spaced m 0 keys) {key i s : ℕ} (b : Names m key i s) where
+  -- the exponent of the larger of the block and the record of its first place
+  abbrev far : ℕ
+  far = max i (exponentOf m keys s)
+
   -- `runOf` gives the records that overlap it
-  run-of : {first count : ℕ} → Meets m keys i s first count → runOf m keys key ≡ run first count
+  run-of : {first count reach : ℕ} → Meets m keys i s first count → far ≡ reach → runOf m keys key ≡ run first count reach
   unfolding runOf
-  run-of {first} {count} M = ap₂ run (stretch-begins test keys first (first + count) stretch (omega (arith, M .some))) (stretch-counts test keys first (first + count) stretch ∙ omega arith)
+  run-of {first} {count} {reach} M e = rw (exponent-is b, start-is b, e) (go (ℕ-discrete count 0))
     where
       test : ℕ → Bool
       test k = overlap (formOf m key) (formOf m k)
@@ -40,6 +48,34 @@ module _ {m : ℕ} {keys : List ℕ} (F : Follow m 0 keys) {key i s : ℕ} (b : 
 
       stretch : Stretch test keys first (first + count)
       stretch = stretch-of test (omega arith) (M .room) exactly
+
+      many : howMany test keys ≡ count
+      many = stretch-counts test keys first (first + count) stretch ∙ omega arith
+
+      go : Dec (count ≡ 0) → run (cond (eqb (howMany test keys) 0) 0 (before test keys)) (howMany test keys) reach ≡ run first count reach
+      go (yes e) = rw (many, eq-eqb count 0 e, M .empty e)
+      go (no n) = rw (many, ne-eqb count 0 n, stretch-begins test keys first (first + count) stretch (omega arith))
+
+  -- records that overlap it and lie in it reach no further than it
+  pub reach-inside : {first count : ℕ} → Meets m keys i s first count → ((n j t : ℕ) → Among first count n → Record m keys n j t → Inside s (4 ^ i) t (4 ^ j)) → far ≡ i
+  reach-inside M h = go (find F s)
+    where
+      go : Holder m keys s ⊎ Free m keys s → max i (exponentOf m keys s) ≡ i
+      go (inl H) =
+          let l = size-le (H .exponent) i .1 (omega (arith, h _ _ _ (M .exactly (H .is) .0 (omega (arith, H .has, pow-least 3 i))) (H .is))) in
+          rw (exponent-of F H) (omega arith)
+      go (inr f) = rw (exponent-none F f) (omega arith)
+
+  -- one around it reaches as far as itself
+  pub reach-around : {n j t : ℕ} → Record m keys n j t → Inside t (4 ^ j) s (4 ^ i) → far ≡ j
+  reach-around {n} {j} {t} r h =
+      let H : Holder m keys s = record { index = n; exponent = j; start = t; is = r; has = omega (arith, pow-least 3 i) } in
+      let l = size-le i j .1 (omega arith) in
+      rw (exponent-of F H) (omega arith)
+
+  -- a record that has the block's key among its own contains it, and is the only one
+  pub found-around : {n j t : ℕ} → Record m keys n j t → Among (getD keys n 0) (5 ^ j) key → runOf m keys key ≡ run n 1 j
+  found-around r k = let h = nested (r .names) b .1 k in run-of (meets-around F r h) (reach-around r h)
 
   -- it is known where its keys begin in the list of keys: they end there too, where the next key lies beyond it; or behind its own key; or further on
   module _ {a : ℕ} (A : Splits keys key a) where
@@ -61,11 +97,12 @@ module _ {m : ℕ} {keys : List ℕ} (F : Follow m 0 keys) {key i s : ℕ} (b : 
 
   -- and where they begin and end says which records these are
   module _ {a z : ℕ} (A : Splits keys key a) (Z : Splits keys (key + 5 ^ i) z) where
-    pub found-run : a < z → runOf m keys key ≡ run a (z - a)
-    found-run l = run-of (meets-run F b A Z l)
+    found-run : a < z → runOf m keys key ≡ run a (z - a) i
+    found-run l = let M = meets-run F b A Z l in run-of M (reach-inside M (λ n j t h r. in-block F b A Z r (omega arith) (omega arith)))
 
-    pub found-one : a ≡ z → (1 ≤ a) × (runOf m keys key ≡ run (a - 1) 1)
-    found-one e = let o = meets-one F b A Z e in (o .0, run-of (o .1))
+    -- none, where the record before ends before the block
+    pub found-none : a ≡ z → ((j t : ℕ) → 1 ≤ a → Record m keys (a - 1) j t → getD keys (a - 1) 0 + 5 ^ j ≤ key) → runOf m keys key ≡ run 0 0 i
+    found-none e h = let M = meets-none F b A Z e h in run-of M (reach-inside M (λ n j t l r. absurd (omega arith)))
 
     -- the searches are in order
     pub in-order : a ≤ z
@@ -78,34 +115,35 @@ module _ {m : ℕ} {keys : List ℕ} (F : Follow m 0 keys) {key i s : ℕ} (b : 
     pub counted : Splits keys (key + 5 ^ i) (a + (z - a))
     counted = rw (add-sub-of-le in-order) Z
 
-    either : Dec (a < z) → Meets m keys i s (runOf m keys key .first) (runOf m keys key .count)
-    either (yes l) = rw (found-run l) (meets-run F b A Z l)
-    either (no h) = let e : a ≡ z = omega (arith, h, in-order) in rw (found-one e .1) (meets-one F b A Z e .1)
+    abbrev Met : Type 0
+    Met = Meets m keys i s (runOf m keys key .first) (runOf m keys key .count)
 
-  -- a record that is the block or contains it is the only one
-  pub found-near : {n : ℕ} → Around keys key (key + 5 ^ i) n → runOf m keys key ≡ run n 1
-  found-near {n} a = go (decLt (getD keys n 0) key)
-    where
-      R : Rising keys
-      R = keys-rise F
+    none-met : a ≡ z → ((j t : ℕ) → 1 ≤ a → Record m keys (a - 1) j t → getD keys (a - 1) 0 + 5 ^ j ≤ key) → Met
+    none-met e h = rw (found-none e h) (meets-none F b A Z e h)
 
-      within : n < length keys
-      within = omega (arith, a .last .room)
+    before-it : a ≡ z → 1 ≤ a → SomeRecord m keys (a - 1) → Met
+    before-it e l r = go (decLt key (getD keys (a - 1) 0 + 5 ^ r .exponent))
+      where
+        go : Dec (key < getD keys (a - 1) 0 + 5 ^ r .exponent) → Met
+        go (yes k) =
+            let h : Among (getD keys (a - 1) 0) (5 ^ r .exponent) key = record { least = omega (arith, A .below (a - 1) (omega arith)); most = k } in
+            rw (found-around (r .is) h) (meets-around F (r .is) (nested (r .is .names) b .1 h))
+        go (no k) = none-met e (λ j t l u. let o = one-block (r .is .names) (u .names) in omega (arith, ap (λ (x : ℕ). 5 ^ x) (o .0)))
 
-      go : Dec (getD keys n 0 < key) → runOf m keys key ≡ run n 1
-      go (yes l) =
-          let A : Splits keys key (n + 1) = split-behind R within l (λ h. omega (arith, a .last .over (n + 1) (omega arith) h)) in
-          let e : n + 1 - 1 ≡ n = omega arith in
-          found-one A (a .last) refl .1 ∙ ap (λ (k : ℕ). run k 1) e
-      go (no g) =
-          let own : getD keys n 0 ≡ key = omega (arith, g, a .low) in
-          let A : Splits keys key n = rw own at (split-own R within) in
-          let e : n + 1 - n ≡ 1 = omega arith in
-          found-run A (a .last) (omega arith) ∙ ap (run n) e
+    met : Dec (a < z) → Dec (0 < a) → Met
+    met (yes l) d = rw (found-run l) (meets-run F b A Z l)
+    met (no h) (no d) = none-met (omega (arith, in-order)) (λ j t l u. absurd (omega arith))
+    met (no h) (yes l) = before-it (omega (arith, in-order)) l (record-at F (a - 1) (omega (arith, A .room)))
 
-  -- for a block of the picture, one record contains it, or the records that overlap it are a run, each inside it
+  -- so many records lie in it, from where its keys begin
+  pub found-inside : {a count : ℕ} → Splits keys key a → Splits keys (key + 5 ^ i) (a + count) → count ≢ 0 → runOf m keys key ≡ run a count i
+  found-inside {a} {count} A Z n =
+      let e : a + count - a ≡ count = omega arith in
+      found-run A Z (omega arith) ∙ ap (λ (k : ℕ). run a k i) e
+
+  -- for a block of the picture, one record contains it, or the records that overlap it are a run, each inside it; there may be none
   pub block-records : Meets m keys i s (runOf m keys key .first) (runOf m keys key .count)
   block-records =
       let A = some-split (keys-rise F) key in
       let Z = some-split (keys-rise F) (key + 5 ^ i) in
-      either (A .1) (Z .1) (decLt (A .0) (Z .0))
+      met (A .1) (Z .1) (decLt (A .0) (Z .0)) (decLt 0 (A .0))

@@ -1,7 +1,6 @@
 -- The records inside a block, one after another. A block is a picture of its own: there a record's key is what it has over the block's, and the records follow one another.
 -- Assumes nothing.
 use mathlib.Core.Path.{_≡_}
-use mathlib.Core.Logic.{_≢_}
 use mathlib.Core.List.{List}
 use Prim.Native.Nat.{ℕ, suc, _+_, _-_, _^_, _<_}
 use native.Mathlib.Decide.{decLt}
@@ -14,22 +13,26 @@ use Rattle.key.proofs.Laws.{one-block, block-lies, nested, sub-key, pow-least}
 use Rattle.map.specs.Spans.{exponent, start}
 use Rattle.map.specs.Sound.{Follow}
 use Rattle.map.specs.Records.{Record, SomeRecord, Holder}
-use Rattle.map.specs.Runs.{Nest, contained, filled, Meets}
-use Rattle.map.proofs.Order.{record-at, apart, follows, holder}
+use Rattle.map.specs.Runs.{runOf}
+use Rattle.map.proofs.Order.{spaced, record-at, apart, follows, holder}
+use Rattle.map.proofs.Found.{block-records}
+use Rattle.map.proofs.Reach.{reach-within}
 use Rattle.map.proofs.Tests.{exponent-is, start-is}
 
 -- record n, if it is one of those before `end`, starts at place p of the block of a key
 pub record Inner (m : ℕ) (keys : List ℕ) (key end n p : ℕ) : Type 0 where
   pub here : n < end → start (formOf m (getD keys n 0)) ≡ start (formOf m key) + p
 
--- several records that meet a block lie in it
-module _ {m : ℕ} {keys : List ℕ} (F : Follow m 0 keys) {key i s : ℕ} (b : Names m key i s) {first count : ℕ} (M : Meets m keys i s first count) (several : count ≢ 1) where
-  pub inner-inside : {n j t : ℕ} → Among first count n → Record m keys n j t → Inside s (4 ^ i) t (4 ^ j)
-  inner-inside {n} {j} {t} a r = go (M .nest)
-    where
-      go : Nest m keys i s first count → Inside s (4 ^ i) t (4 ^ j)
-      go (contained e u h) = absurd (several e)
-      go (filled h) = h n j t a r
+-- a block of a whole map, beyond which its records do not reach
+module _ {m : ℕ} {keys : List ℕ} (F : Follow m 0 keys) {key i s : ℕ} (b : Names m key i s) (short : runOf m keys key .reach ≡ i) where
+  abbrev first : ℕ
+  first = runOf m keys key .first
+
+  abbrev count : ℕ
+  count = runOf m keys key .count
+
+  inside : {n j t : ℕ} → Among first count n → Record m keys n j t → Inside s (4 ^ i) t (4 ^ j)
+  inside = reach-within (spaced F) b short
 
   -- one of them holds the block's first place, and none stands before it
   starts : {j t : ℕ} → Record m keys first j t → t ≡ s
@@ -37,10 +40,10 @@ module _ {m : ℕ} {keys : List ℕ} (F : Follow m 0 keys) {key i s : ℕ} (b : 
     where
       go : Holder m keys s → t ≡ s
       go H =
-          let a : Among first count (H .index) = M .exactly (H .is) .0 (omega (arith, H .has, pow-least 3 i)) in
-          let k = inner-inside a (H .is) in
+          let a : Among first count (H .index) = block-records (spaced F) b .exactly (H .is) .0 (omega (arith, H .has, pow-least 3 i)) in
+          let k = inside a (H .is) in
           elim (decLt first (H .index)) [
-            | yes l ↦ absurd (omega (arith, apart F first (H .index) r (H .is) l, inner-inside (omega (arith, M .some)) r, H .has, pow-least 3 j))
+            | yes l ↦ absurd (omega (arith, apart (spaced F) first (H .index) r (H .is) l, inside (omega arith) r, H .has, pow-least 3 j))
             | no l ↦
                 let e : first ≡ H .index = omega arith in
                 let u : Names m (getD keys (H .index) 0) j t = rw e at (r .names) in
@@ -48,14 +51,14 @@ module _ {m : ℕ} {keys : List ℕ} (F : Follow m 0 keys) {key i s : ℕ} (b : 
           ]
 
   at : (n : ℕ) → n < first + count → SomeRecord m keys n
-  at n l = record-at F n (omega (arith, M .room))
+  at n l = record-at (spaced F) n (omega (arith, block-records (spaced F) b .room))
 
   pub inner-first : Inner m keys key (first + count) first 0
   inner-first = record { here = λ l. let r = at first l in omega (arith, start-is b, start-is (r .is .names), starts (r .is)) }
 
   -- its keys are among the block's
   pub inner-key : {n : ℕ} → Among first count n → Among key (5 ^ i) (getD keys n 0)
-  inner-key {n} a = let r = at n (a .most) in nested b (r .is .names) .0 (inner-inside a (r .is))
+  inner-key {n} a = let r = at n (a .most) in nested b (r .is .names) .0 (inside a (r .is))
 
   module _ {n p : ℕ} (a : Among first count n) (I : Inner m keys key (first + count) n p) where
     -- what it is in the block, and where it ends the next one starts
@@ -63,7 +66,7 @@ module _ {m : ℕ} {keys : List ℕ} (F : Follow m 0 keys) {key i s : ℕ} (b : 
     inner-names =
         let r = at n (a .most) in
         let e : r .start - s ≡ p = omega (arith, start-is b, start-is (r .is .names), I .here (a .most)) in
-        rw (exponent-is (r .is .names), ← e) (sub-key b (r .is .names) (inner-inside a (r .is)))
+        rw (exponent-is (r .is .names), ← e) (sub-key b (r .is .names) (inside a (r .is)))
 
     pub inner-next : {end : ℕ} → end ≡ p + 4 ^ exponent (formOf m (getD keys n 0)) → Inner m keys key (first + count) (n + 1) end
     inner-next {end} e = rw add-one (record { here = next })

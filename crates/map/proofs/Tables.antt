@@ -2,6 +2,7 @@
 -- Assumes nothing.
 use mathlib.Core.Path.{_≡_, refl, sym, ap, _∙_}
 use mathlib.Core.Logic.{_↔_}
+use mathlib.Core.Bool.{Bool, true, false}
 use mathlib.Core.List.{List, [], _∷_}
 use Prim.Native.Nat.{ℕ, suc, _+_, _^_, _≤_, _<_}
 use native.Mathlib.Decide.{decLt}
@@ -18,9 +19,9 @@ use Rattle.key.specs.Form.{formOf}
 use Rattle.key.specs.Blocks.{Names}
 use Rattle.key.proofs.Laws.{one-block, block-lies}
 use Rattle.map.specs.declared.Checked.the-variants.{Sound, Refused}
-use Rattle.map.specs.Check.{recordRows, mapRows, checkOf}
-use Rattle.map.specs.Sound.{Follow, full, next, SoundMap}
-use Rattle.map.proofs.Steps.{step-malformed, step-early, step-late, step-next, step-short, step-full}
+use Rattle.map.specs.Check.{late, rowsFrom, recordRows, mapRows, checkOf}
+use Rattle.map.specs.Sound.{Follow, full, next, Spaced, ended, later, SoundMap}
+use Rattle.map.proofs.Steps.{late-not, late-never, not-late, step-malformed, step-early, step-late, step-next, step-short, step-full}
 
 module _ (m : ℕ) (keys : List ℕ) (classes : ℕ) where
   pub sizes-refused : {n p : ℕ} → verdict (sizeRows m (length keys) classes) ≡ refusal.Refused n p → verdict (mapRows m keys classes) ≡ refusal.Refused n p
@@ -41,41 +42,67 @@ module _ (m : ℕ) (keys : List ℕ) (classes : ℕ) where
 
 -- ---- the records
 
-follow-on : (m n at k : ℕ) (ks : List ℕ) (f : Form) → formOf m k ≡ f
-    → ((e : ℕ) → e ≤ 4 ^ m → (verdict (recordRows m (suc n) e ks) ≡ Passed) ↔ Follow m e ks)
-    → (verdict (recordRows m n at (k ∷ ks)) ≡ Passed) ↔ Follow m at (k ∷ ks)
-follow-on m n at k ks Malformed e ih = (λ v. absurd (refused-not-passed (sym (step-malformed m n at k ks e) ∙ v)), from)
-  where
-    from : Follow m at (k ∷ ks) → verdict (recordRows m n at (k ∷ ks)) ≡ Passed
-    from (next b q F) = absurd (let z : _≡_ {A = ℕ} 0 1 = cc in omega arith)
-follow-on m n at k ks (Block i s) e ih = (to (decLt s at) (decLt at s), from)
-  where
-    b : Names m k i s
-    b = record { is = e }
+-- what the table asks of the records behind `at`: that they follow one another, or that they are spaced
+module _ (whole : Bool) (m : ℕ) (Good : ℕ → List ℕ → Type 0)
+    (none : (at : ℕ) → at ≤ 4 ^ m → (late whole at (4 ^ m) ≡ false) ↔ Good at [])
+    (some : (at k : ℕ) (ks : List ℕ) → Good at (k ∷ ks) → (i : ℕ) × (s : ℕ) × Names m k i s × (at ≤ s) × (late whole at s ≡ false) × Good (s + 4 ^ i) ks)
+    (more : (at k : ℕ) (ks : List ℕ) (i s : ℕ) → Names m k i s → at ≤ s → late whole at s ≡ false → Good (s + 4 ^ i) ks → Good at (k ∷ ks)) where
+  passes-on : (n at k : ℕ) (ks : List ℕ) (f : Form) → formOf m k ≡ f
+      → ((e : ℕ) → e ≤ 4 ^ m → (verdict (rowsFrom whole m (suc n) e ks) ≡ Passed) ↔ Good e ks)
+      → (verdict (rowsFrom whole m n at (k ∷ ks)) ≡ Passed) ↔ Good at (k ∷ ks)
+  passes-on n at k ks Malformed e ih = (λ v. absurd (refused-not-passed (sym (step-malformed whole m n at k ks e) ∙ v)), from)
+    where
+      from : Good at (k ∷ ks) → verdict (rowsFrom whole m n at (k ∷ ks)) ≡ Passed
+      from g = let t = some at k ks g in let d = t .2 .is in absurd (let z : _≡_ {A = ℕ} 0 1 = cc in omega arith)
+  passes-on n at k ks (Block i s) e ih = (to (decLt s at) (late whole at s) refl, from)
+    where
+      b : Names m k i s
+      b = record { is = e }
 
-    rest : (verdict (recordRows m (suc n) (s + 4 ^ i) ks) ≡ Passed) ↔ Follow m (s + 4 ^ i) ks
-    rest = ih (s + 4 ^ i) (block-lies b .span)
+      rest : (verdict (rowsFrom whole m (suc n) (s + 4 ^ i) ks) ≡ Passed) ↔ Good (s + 4 ^ i) ks
+      rest = ih (s + 4 ^ i) (block-lies b .span)
 
-    to : Dec (s < at) → Dec (at < s) → verdict (recordRows m n at (k ∷ ks)) ≡ Passed → Follow m at (k ∷ ks)
-    to (yes l) d v = absurd (refused-not-passed (sym (step-early m n at k ks b l) ∙ v))
-    to (no g) (yes l) v = absurd (refused-not-passed (sym (step-late m n at k ks b l) ∙ v))
-    to (no g) (no h) v =
-        let q : s ≡ at = omega (arith, g, h) in
-        next (rw q at b) (ap (λ (x : ℕ). x + 4 ^ i) q) (rest .0 (sym (step-next m n at k ks b q) ∙ v))
+      to : Dec (s < at) → (t : Bool) → late whole at s ≡ t → verdict (rowsFrom whole m n at (k ∷ ks)) ≡ Passed → Good at (k ∷ ks)
+      to (yes l) t d v = absurd (refused-not-passed (sym (step-early whole m n at k ks b l) ∙ v))
+      to (no g) true d v = absurd (refused-not-passed (sym (step-late whole m n at k ks b d) ∙ v))
+      to (no g) false d v = let l : at ≤ s = omega arith in more at k ks i s b l d (rest .0 (sym (step-next whole m n at k ks b l d) ∙ v))
 
-    from : Follow m at (k ∷ ks) → verdict (recordRows m n at (k ∷ ks)) ≡ Passed
-    from (next a q F) = let o = one-block b a in step-next m n at k ks b (o .1) ∙ rest .1 (rw (o .0, o .1, ← q) F)
+      from : Good at (k ∷ ks) → verdict (rowsFrom whole m n at (k ∷ ks)) ≡ Passed
+      from g =
+          let t = some at k ks g in
+          let o = one-block b (t .2) in
+          step-next whole m n at k ks b (rw (o .1) (t .3)) (rw (o .1) (t .4)) ∙ rest .1 (rw (o .0, o .1) (t .5))
 
+  passes : (n at : ℕ) (keys : List ℕ) → at ≤ 4 ^ m → (verdict (rowsFrom whole m n at keys) ≡ Passed) ↔ Good at keys
+  passes n at [] l = (λ v. none at l .0 (to (late whole at (4 ^ m)) refl v), λ g. step-full whole m n at (none at l .1 g))
+    where
+      to : (t : Bool) → late whole at (4 ^ m) ≡ t → verdict (rowsFrom whole m n at []) ≡ Passed → t ≡ false
+      to true d v = absurd (refused-not-passed (sym (step-short whole m n at d) ∙ v))
+      to false d v = refl
+  passes n at (k ∷ ks) l = passes-on n at k ks (formOf m k) refl (λ e h. passes (suc n) e ks h)
+
+-- a whole map
 follow : (m n at : ℕ) (keys : List ℕ) → at ≤ 4 ^ m → (verdict (recordRows m n at keys) ≡ Passed) ↔ Follow m at keys
-follow m n at [] l = (to (decLt at (4 ^ m)), from)
+follow m = passes true m (Follow m) none some more
   where
-    to : Dec (at < 4 ^ m) → verdict (recordRows m n at []) ≡ Passed → Follow m at []
-    to (yes h) v = absurd (refused-not-passed (sym (step-short m n at h) ∙ v))
-    to (no g) v = let e : at ≡ 4 ^ m = omega (arith, g) in full e
+    none : (at : ℕ) → at ≤ 4 ^ m → (late true at (4 ^ m) ≡ false) ↔ Follow m at []
+    none at l = (λ e. let d : at ≡ 4 ^ m = omega (arith, not-late at (4 ^ m) e) in full d, back)
+      where
+        back : Follow m at [] → late true at (4 ^ m) ≡ false
+        back (full e) = late-not true (omega arith)
 
-    from : Follow m at [] → verdict (recordRows m n at []) ≡ Passed
-    from (full e) = step-full m n at (omega arith)
-follow m n at (k ∷ ks) l = follow-on m n at k ks (formOf m k) refl (λ e h. follow m (suc n) e ks h)
+    some : (at k : ℕ) (ks : List ℕ) → Follow m at (k ∷ ks) → (i : ℕ) × (s : ℕ) × Names m k i s × (at ≤ s) × (late true at s ≡ false) × Follow m (s + 4 ^ i) ks
+    some at k ks (next {i = i} b q F) = (i, at, b, omega arith, late-not true (omega arith), rw q at F)
+
+    more : (at k : ℕ) (ks : List ℕ) (i s : ℕ) → Names m k i s → at ≤ s → late true at s ≡ false → Follow m (s + 4 ^ i) ks → Follow m at (k ∷ ks)
+    more at k ks i s b l e F = let q : s ≡ at = omega (arith, not-late at s e) in next (rw q at b) (ap (λ (x : ℕ). x + 4 ^ i) q) F
+
+-- a map that may have gaps
+pub spaced-records : (m n at : ℕ) (keys : List ℕ) → at ≤ 4 ^ m → (verdict (rowsFrom false m n at keys) ≡ Passed) ↔ Spaced m at keys
+spaced-records m = passes false m (Spaced m) (λ at l. (λ e. ended, λ g. late-never at (4 ^ m))) some (λ at k ks i s b l e F. later l b refl F)
+  where
+    some : (at k : ℕ) (ks : List ℕ) → Spaced m at (k ∷ ks) → (i : ℕ) × (s : ℕ) × Names m k i s × (at ≤ s) × (late false at s ≡ false) × Spaced m (s + 4 ^ i) ks
+    some at k ks (later {i = i} {s = s} l b q F) = (i, s, b, l, late-never at s, rw q at F)
 
 -- a map passes exactly when it is sound
 pub sound-map : (m : ℕ) (keys : List ℕ) (classes : ℕ) → (verdict (mapRows m keys classes) ≡ Passed) ↔ SoundMap m keys classes

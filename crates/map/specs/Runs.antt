@@ -2,23 +2,30 @@
 -- Assumes nothing.
 use mathlib.Core.Path.{_≡_}
 use mathlib.Core.Logic.{_↔_}
-use mathlib.Core.Bool.{Bool}
-use Prim.Native.Nat.{ℕ, _+_, _^_, _≤_, _<_}
+use mathlib.Core.Bool.{Bool, cond}
+use Prim.Native.Nat.{ℕ, max, _+_, _^_, _≤_, _<_}
 use mathlib.Core.List.{List}
+use lib.Dec.{eqb}
 use lib.ListN.{length, getD}
 use Rattle.lists.specs.Lists.{before, howMany}
 use Rattle.key.specs.Form.{formOf}
 use Rattle.key.specs.Blocks.{Names, Among, Inside}
 use Rattle.map.specs.declared.Run.{Run}
-use Rattle.map.specs.Spans.{overlap}
-use Rattle.map.specs.Records.{Record}
+use Rattle.map.specs.declared.Near.{Near}
+use Rattle.map.specs.declared.Seen.{Seen}
+use Rattle.map.specs.Spans.{exponent, start, overlap}
+use Rattle.map.specs.Records.{Record, exponentOf}
 
-abbrev pub run : ℕ → ℕ → Run
-run first count = record { first = first; count = count }
+abbrev pub run : ℕ → ℕ → ℕ → Run
+run first count reach = record { first = first; count = count; reach = reach }
 
--- the records that overlap the block of a key: the first of them, and how many they are
+-- the records that overlap the block of a key: the first of them and how many they are, 0 and 0 where there is none; and their reach, the exponent of the larger of the block and the
+-- record of its first place
 unfoldable pub runOf : ℕ → List ℕ → ℕ → Run
-runOf m keys key = let test : ℕ → Bool = λ k. overlap (formOf m key) (formOf m k) in run (before test keys) (howMany test keys)
+runOf m keys key =
+    let test : ℕ → Bool = λ k. overlap (formOf m key) (formOf m k) in
+    let n : ℕ = howMany test keys in
+    run (cond (eqb n 0) 0 (before test keys)) n (max (exponent (formOf m key)) (exponentOf m keys (start (formOf m key))))
 
 -- the key is that of a block of exponent i
 pub record BlockOf (m key i : ℕ) : Type 0 where
@@ -37,7 +44,7 @@ pub data Nest (m : ℕ) (keys : List ℕ) (i s first count : ℕ) : Type 0 where
 
 -- and these records are exactly those that overlap it
 pub record Meets (m : ℕ) (keys : List ℕ) (i s first count : ℕ) : Type 0 where
-  pub some : 1 ≤ count
+  pub empty : count ≡ 0 → first ≡ 0
   pub room : first + count ≤ length keys
   pub exactly : {n j t : ℕ} → Record m keys n j t → Overlap s (4 ^ i) t (4 ^ j) ↔ Among first count n
   pub nest : Nest m keys i s first count
@@ -56,7 +63,24 @@ pub record Between (keys : List ℕ) (x low high : ℕ) : Type 0 where
 abbrev pub Splits : List ℕ → ℕ → ℕ → Type 0
 Splits keys x r = Between keys x r r
 
--- key n is the last below `end`, and it is not over x
-pub record Around (keys : List ℕ) (x end n : ℕ) : Type 0 where
-  pub low : getD keys n 0 ≤ x
-  pub last : Splits keys end (n + 1)
+abbrev pub near : ℕ → ℕ → ℕ → Near
+near first from end = record { first = first; from = from; end = end }
+
+abbrev pub seen : Run → Near → Near → Seen
+seen run near other = record { run = run; near = near; other = other }
+
+-- a key behind that of the record, and before the end of its keys
+pub record LiesIn (n : Near) (key : ℕ) : Type 0 where
+  pub behind : n .from < key
+  pub before : key < n .end
+
+-- each block that lies in the record overlaps it alone, and it reaches further
+pub record Known (m : ℕ) (keys : List ℕ) (n : Near) : Type 0 where
+  pub first : (key i : ℕ) → BlockOf m key i → LiesIn n key → runOf m keys key .first ≡ n .first
+  pub reach : (key i : ℕ) → BlockOf m key i → LiesIn n key → i < runOf m keys key .reach
+
+-- the records that overlap the block of a key, and two records that are known
+pub record Sees (m : ℕ) (keys : List ℕ) (key : ℕ) (s : Seen) : Type 0 where
+  pub is : s .run ≡ runOf m keys key
+  pub near-known : Known m keys (s .near)
+  pub other-known : Known m keys (s .other)

@@ -1,13 +1,14 @@
 -- `map::records_of` meets its contract: where the block's keys begin and end in the list of keys.
 -- Assumes nothing.
-use mathlib.Core.Path.{_≡_, sym, ap, _∙_}
-use Prim.Native.Nat.{_+_, _-_, _≤_}
+use mathlib.Core.Path.{sym, _∙_}
+use Prim.Native.Nat.{_+_, _^_}
+use native.Mathlib.Nat.{add-zero}
 use native.Mathlib.Omega.{arith}
 use borrow.Author.Needs.{needs}
-use Rattle.map.specs.Runs.{run, runOf}
+use Rattle.map.specs.Runs.{Splits}
 use Rattle.map.proofs.Order.{keys-rise}
 use Rattle.map.proofs.Halves.{between-first}
-use Rattle.map.proofs.Found.{found-run, found-one}
+use Rattle.map.proofs.Found.{found-inside}
 use Rattle.map.proofs.records_of.Statement.{statement}
 use Rattle.map.proofs.records_of.Tie as tie
 
@@ -17,36 +18,31 @@ keys-below-requires c κs = (keys-rise (c .before .pre .3), between-first _ _)
 records-inside-requires : tie.Need-records-inside-requires
 records-inside-requires c κs = search needs
 
--- no record lies in the block
-none : (c : tie.Then1)
-    → (1 ≤ c .before .before .keys-below .result)
-    × (runOf (c .before .before .before .before .args .m) (c .before .before .before .before .args .keys .now) (c .before .before .before .before .args .key) ≡ run (c .before .before .keys-below .result - 1) 1)
-none c =
-    let s = c .before .before .before .before in
-    found-one (s .pre .3) (s .pre .4 .names) (c .before .before .keys-below .ensures) (c .before .records-inside .ensures) (omega (arith, c .if1 .taken))
+-- where no record lies in the block
+module _ (c : tie.Then1) where
+  abbrev start : tie.Start
+  start = c .before .before .before .before
 
-sub-t9 : tie.Need-sub-t9
-sub-t9 c = none c .0
+  none : Splits (start .args .keys .now) (start .args .key + 5 ^ start .args .i) (c .before .before .keys-below .result)
+  none = rw (c .if1 .taken, add-zero) at (c .before .records-inside .ensures)
 
-cast-t10 : tie.Need-cast-t10
-cast-t10 c = search needs
+record-around-requires : tie.Need-record-around-requires
+record-around-requires c κs = let p = start c .pre in (p .0, p .1, p .2, p .3, p .4, c .before .before .keys-below .ensures, none c)
 
 returns : tie.Need-returns
-returns c = sym (none c .1)
+returns c = search needs
 
-cast-t11 : tie.Need-cast-t11
-cast-t11 c = search needs
-
-cast-t12 : tie.Need-cast-t12
-cast-t12 c = search needs
+inside-requires : tie.Need-inside-requires
+inside-requires c κs =
+    let p = c .before .before .before .before .pre in
+    let z = c .before .records-inside .ensures .room in
+    (omega (arith, p .2), omega (arith, p .2))
 
 returns-2 : tie.Need-returns-2
 returns-2 c =
-    let s = c .before .before .before .before in
-    let first = c .before .before .keys-below .result in
-    let count = c .before .records-inside .result in
-    let e : first + count - first ≡ count = omega arith in
-    sym (found-run (s .pre .3) (s .pre .4 .names) (c .before .before .keys-below .ensures) (c .before .records-inside .ensures) (omega (arith, c .if1 .left)) ∙ ap (run first) e)
+    let e = c .before in
+    let p = e .before .before .before .before .pre in
+    c .inside .ensures ∙ sym (found-inside (p .3) (p .4 .names) (e .before .before .keys-below .ensures) (e .before .records-inside .ensures) (e .if1 .left))
 
 pub records-of-spec : {M : Type 1} → statement M
 records-of-spec =
@@ -54,9 +50,7 @@ records-of-spec =
     (tie.spec
     keys-below-requires
     records-inside-requires
-    sub-t9
-    cast-t10
+    record-around-requires
     returns
-    cast-t11
-    cast-t12
+    inside-requires
     returns-2)
