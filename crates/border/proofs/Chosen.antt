@@ -11,14 +11,14 @@ use Rattle.window.specs.Window.{Px, Inside}
 use Rattle.window.specs.Blocks.{maximal, Before}
 use Rattle.window.specs.Decompose.{keyOf}
 use Rattle.window.proofs.Laws.{listed-ordered, ordered-back}
-use Rattle.map.specs.Sound.{Follow}
-use Rattle.map.specs.Records.{pixelRecord}
+use Rattle.map.specs.Sound.{Spaced}
+use Rattle.map.specs.Records.{pixelTile}
 use Rattle.border.specs.Openings.{met, isHanded, Opening, opening, openFrom, openings}
 use Rattle.border.specs.Border.{handedBy}
 use Rattle.border.specs.Promises.{openingAt}
 use Rattle.border.proofs.Sweep.{Out}
 use Rattle.border.proofs.Fold.{handedWith, opens-none, skip-opens, take-opens, openings-are, handed-snoc, handed-none}
-use Rattle.border.proofs.Handing.{skip-test}
+use Rattle.border.proofs.Earlier.{skip-test}
 
 -- the openings os are those of some of the blocks bs
 pub record Chosen (m top : ℕ) (keys : List ℕ) (W : Window) (bs : List Px) (os : List Opening) : Type 0 where
@@ -26,12 +26,13 @@ pub record Chosen (m top : ℕ) (keys : List ℕ) (W : Window) (bs : List Px) (o
   pub are : os ≡ map (openingAt m top keys W) corners
   pub order : Ordered Before corners
   pub from : (b : Px) → List·Memᴰ b corners → List·Memᴰ b bs
-  pub fresh : (b : Px) → List·Memᴰ b corners → ¬ Out W top (pixelRecord m keys) b b
+  pub fresh : (b : Px) → List·Memᴰ b corners → ¬ Out W top (pixelTile m keys) b b
 
-module _ {m top : ℕ} {keys : List ℕ} (F : Follow m 0 keys) {W : Window} (I : Inside m W) (small : top ≤ m) where
+module _ {m top : ℕ} {keys : List ℕ} (F : Spaced m 0 keys) {W : Window} (I : Inside m W) (small : top ≤ m) where
   chosen-from : (before rest : List Px) → maximal W top ≡ before ++ rest
       → Chosen m top keys W rest (openFrom m keys (handedBy m top keys W before) (map (keyOf m top W) rest))
-  chosen-from before [] e = rw (opens-none m keys (handedBy m top keys W before)) (record { corners = []; are = refl; order = none; from = λ b l. l; fresh = λ b l. absurd (List·Memᴰ·not-nil l) })
+  chosen-from before [] e =
+      rw (opens-none m keys (handedBy m top keys W before)) (record { corners = []; are = refl; order = none; from = λ b l. l; fresh = λ b l. absurd (List·Memᴰ·not-nil l) })
   chosen-from before (b ∷ after) e =
       go (isHanded m keys handed k) refl (rw (handed-snoc m top keys W before b) at (chosen-from (before ++ b ∷ []) after (e ∙ sym (append-assoc before (b ∷ []) after))))
     where
@@ -50,7 +51,7 @@ module _ {m top : ℕ} {keys : List ℕ} (F : Follow m 0 keys) {W : Window} (I :
       skipped : Chosen m top keys W after (openFrom m keys handed ks) → Chosen m top keys W (b ∷ after) (openFrom m keys handed ks)
       skipped O = record { corners = O .corners; are = O .are; order = O .order; from = λ x l. List·Memᴰ·tail (O .from x l); fresh = O .fresh }
 
-      opened : ¬ Out W top (pixelRecord m keys) b b → Chosen m top keys W after (openFrom m keys (handed ++ met m keys k) ks)
+      opened : ¬ Out W top (pixelTile m keys) b b → Chosen m top keys W after (openFrom m keys (handed ++ met m keys k) ks)
           → Chosen m top keys W (b ∷ after) (opening m keys k ∷ openFrom m keys (handed ++ met m keys k) ks)
       opened f O = record {
         corners = b ∷ O .corners;
@@ -64,7 +65,7 @@ module _ {m top : ℕ} {keys : List ℕ} (F : Follow m 0 keys) {W : Window} (I :
           from x (List·Memᴰ·head h) = List·Memᴰ·head h
           from x (List·Memᴰ·tail l) = List·Memᴰ·tail (O .from x l)
 
-          fresh : (x : Px) → List·Memᴰ x (b ∷ O .corners) → ¬ Out W top (pixelRecord m keys) x x
+          fresh : (x : Px) → List·Memᴰ x (b ∷ O .corners) → ¬ Out W top (pixelTile m keys) x x
           fresh x (List·Memᴰ·head h) = rw h f
           fresh x (List·Memᴰ·tail l) = O .fresh x l
 

@@ -4,7 +4,7 @@ use mathlib.Core.Path.{_≡_, refl}
 use mathlib.Core.List.{List, [], _∷_}
 use Prim.Native.Nat.{ℕ}
 use lib.ListN.{take}
-use Rattle.lists.specs.Lists.{upFrom, any, keep, before, howMany}
+use Rattle.lists.specs.Lists.{upFrom, any, keep, before, howMany, greatest}
 use Rattle.answers.specs.Rows.{answer}
 use Rattle.answers.specs.Sizes.{wrongCount, sizeRows}
 use Rattle.answers.specs.Cells.{overwrite}
@@ -14,10 +14,10 @@ use Rattle.key.specs.Key.{pixelKey, blockKey}
 use Rattle.key.specs.Form.{from, formOf}
 use Rattle.window.specs.declared.Window.{Window}
 use Rattle.window.specs.Window.{window, beyond, outside, windowRows}
-use Rattle.window.specs.Blocks.{floor, lies, fits, greatest, exponent, corner, across, rows, isCorner, maximal}
+use Rattle.window.specs.Blocks.{floor, lies, fits, exponent, corner, across, rows, isCorner, maximal}
 use Rattle.window.specs.Decompose.{keyOf, keysOf}
 use Rattle.map.specs.Spans as spans
-use Rattle.map.specs.Check.{recordRows, mapRows}
+use Rattle.map.specs.Check.{late, rowsFrom, mapRows}
 use Rattle.map.specs.Records.{recordOf, exponentOf}
 use Rattle.map.specs.Runs.{runOf}
 use Rattle.border.specs.declared.Stepped.the-variants as stepped
@@ -26,10 +26,14 @@ use Rattle.border.specs.Openings.{indices, within, isHanded, opening, op
 use Rattle.border.specs.Cells.{filled, raised, closed}
 use Rattle.border.specs.Step.{afterStep, stepOf}
 use Rattle.border.specs.Found.{made}
+use Rattle.border.specs.Promises.{bringing}
 use Rattle.border.specs.Open.{useRows, spent, after, usedFor, openOf}
 
 abbrev keys : List ℕ
 keys = 5 ∷ 11 ∷ 12 ∷ 13 ∷ 14 ∷ 15 ∷ 20 ∷ []
+
+abbrev gapped : List ℕ
+gapped = 11 ∷ 20 ∷ []
 
 abbrev W : Window
 W = window 0 1 3 3
@@ -42,20 +46,31 @@ pub record Examples : Type 0 where
   -- one record over all: the first block opens it, and all others are skipped
   pub single : openings 2 2 (0 ∷ []) W ≡ made 7 0 1 ∷ []
   -- P1's first steps: block 7 raises the cell of its column to the bottom of record 0; block 9, after block 10, is skipped
-  pub step-7 : stepOf 2 2 keys W (0, 1) (0 ∷ 0 ∷ 0 ∷ []) ≡ afterStep (stepped.Opened 7 0 1 0) (2 ∷ 0 ∷ 0 ∷ [])
-  pub step-10 : stepOf 2 2 keys W (0, 2) (2 ∷ 0 ∷ 0 ∷ []) ≡ afterStep (stepped.Opened 10 1 4 0) (2 ∷ 2 ∷ 2 ∷ [])
+  pub step-7 : stepOf 2 2 keys W (0, 1) (0 ∷ 0 ∷ 0 ∷ []) ≡ afterStep (stepped.Opened 7 0 1 1 0) (2 ∷ 0 ∷ 0 ∷ [])
+  pub step-10 : stepOf 2 2 keys W (0, 2) (2 ∷ 0 ∷ 0 ∷ []) ≡ afterStep (stepped.Opened 10 1 4 1 0) (2 ∷ 2 ∷ 2 ∷ [])
   pub step-9 : stepOf 2 2 keys W (1, 1) (2 ∷ 2 ∷ 2 ∷ []) ≡ afterStep stepped.Skipped (2 ∷ 2 ∷ 2 ∷ [])
   -- borders of two and of three cells, answer slices of 11 and of 12 cells
   pub narrow : openOf 2 keys 7 W (take 2 old) old ≡ after (Refused 7 3) (take 2 old) old
   pub short : openOf 2 keys 7 W (take 3 old) (take 11 old) ≡ after (Refused 8 12) (3 ∷ 3 ∷ 3 ∷ []) (take 11 old)
   pub done : openOf 2 keys 7 W (take 4 old) old ≡ after (Done 4 7) (3 ∷ 3 ∷ 3 ∷ 93 ∷ []) (7 ∷ 0 ∷ 1 ∷ 10 ∷ 1 ∷ 4 ∷ 17 ∷ 5 ∷ 1 ∷ 21 ∷ 6 ∷ 1 ∷ 102 ∷ [])
+  -- a map with gaps, of the records 11 and 20 alone: blocks 7, 9 and 17 meet no record and are opened empty, and block 22 lies in record 1
+  pub gaps : openings 2 2 gapped W ≡ made 7 0 0 ∷ made 10 0 1 ∷ made 9 0 0 ∷ made 17 0 0 ∷ made 21 1 1 ∷ []
+  -- two of them bring a record
+  pub two : bringing (openings 2 2 gapped W) ≡ made 10 0 1 ∷ made 21 1 1 ∷ []
+  -- an empty block raises its own column
+  pub step-none : stepOf 2 2 gapped W (0, 1) (0 ∷ 0 ∷ 0 ∷ []) ≡ afterStep (stepped.Opened 7 0 0 0 0) (1 ∷ 0 ∷ 0 ∷ [])
+  -- with blocks of one pixel and no larger, P1's records 1 to 4 take an opening each, and record 6 one still
+  pub pixels : openings 2 0 keys W ≡ made 7 0 1 ∷ made 11 1 1 ∷ made 12 2 1 ∷ made 13 3 1 ∷ made 14 4 1 ∷ made 17 5 1 ∷ made 21 6 1 ∷ []
   -- refusals in their order: the map's, then the window's, then the border's
   pub map-first : openOf 2 (take 6 keys) 6 (window 0 0 0 0) [] [] ≡ after (Refused 5 6) [] []
   pub window-next : openOf 2 keys 7 (window 2 0 3 1) [] [] ≡ after (Refused 6 0) [] []
   pub large : openOf 13 [] 7 (window 0 0 0 0) [] [] ≡ after (Refused 1 0) [] []
 
 pub examples : Examples
-unfolding answer wrongCount sizeRows overwrite upFrom spreadTo spread place pixelKey blockKey from formOf beyond outside windowRows keep floor lies fits greatest exponent corner across rows isCorner maximal keyOf keysOf spans.malformed spans.exponent spans.start spans.end spans.holds spans.overlap recordRows mapRows before howMany recordOf exponentOf runOf any indices within isHanded opening openFrom handedAfter openings handsOut cellsOf filled raised closed stepOf useRows spent usedFor openOf
+unfolding answer wrongCount sizeRows overwrite upFrom spreadTo spread place pixelKey blockKey from formOf beyond outside windowRows keep floor lies
+    fits greatest exponent corner across rows isCorner maximal keyOf keysOf spans.malformed spans.exponent spans.start spans.end spans.holds
+    spans.overlap late rowsFrom mapRows before howMany recordOf exponentOf runOf any indices within isHanded opening openFrom handedAfter openings
+    handsOut cellsOf bringing filled raised closed stepOf useRows spent usedFor openOf
 examples = record {
   single = refl;
   step-7 = refl;
@@ -64,6 +79,10 @@ examples = record {
   narrow = refl;
   short = refl;
   done = refl;
+  gaps = refl;
+  two = refl;
+  step-none = refl;
+  pixels = refl;
   map-first = refl;
   window-next = refl;
   large = refl;

@@ -1,10 +1,10 @@
 -- From opening to opening: a border that is filled anew, the openings behind the walk and those ahead of it, and the last one.
 -- Assumes nothing.
 use mathlib.Core.Path.{_≡_, refl, sym, ap, _∙_}
-use mathlib.Core.List.{List, [], _∷_, _++_, append-assoc, append-nil, List·Memᴰ, List·Memᴰ·not-nil, List·Memᴰ·head, Memᴰ·append-right}
+use mathlib.Core.List.{List, [], _∷_, _++_, append-assoc, append-nil, List·Memᴰ, List·Memᴰ·head, Memᴰ·append-right}
 use Prim.Native.Nat.{ℕ, _+_, _≤_, _<_}
 use native.Mathlib.Omega.{arith}
-use lib.ListN.{length, drop, replicate, length-replicate, take-append-drop}
+use lib.ListN.{length, replicate, length-replicate, take-append-drop}
 use Rattle.answers.proofs.Laws.{overwrite-part}
 use Rattle.window.specs.declared.Window.{Window}
 use Rattle.window.specs.Window.{Px}
@@ -17,7 +17,7 @@ use Rattle.map.specs.Runs as runs
 use Rattle.border.specs.declared.Walk.{Walk}
 use Rattle.border.specs.declared.Found.the-variants as found
 use Rattle.border.specs.Openings.{Opening, opening, handedAfter, openings}
-use Rattle.border.specs.Border.{Stated, Handed, handedBy}
+use Rattle.border.specs.Border.{Stated, Covered}
 use Rattle.border.specs.Cells.{filled}
 use Rattle.border.specs.Step.{Corner, Usable}
 use Rattle.border.specs.Found.{made, leftOver, madeFrom, leftFrom, walk, spot, Reached, Kept, Finds}
@@ -26,10 +26,9 @@ use Rattle.border.specs.Open.{spent}
 use Rattle.border.proofs.Filled.{filled-length, filled-beyond}
 use Rattle.border.proofs.Columns.{left-first}
 use Rattle.border.proofs.Stays.{begins, ends}
-use Rattle.border.proofs.Fold.{openings-are}
-use Rattle.border.proofs.Overlaps.{met-room}
-use Rattle.border.proofs.Handing.{all-handed}
-use Rattle.border.proofs.Once.{opening-block}
+use Rattle.border.proofs.Fold.{openings-are, opening-block}
+use Rattle.border.proofs.Overlaps.{met-room, far-is}
+use Rattle.border.proofs.Covering.{none-covered, all-covered}
 use Rattle.border.proofs.Stepping.{kept-none, kept-more, spent-kept}
 use Rattle.border.proofs.Rest.{Ahead, ahead-is}
 pub use Rattle.border.proofs.Stepping.{filled-spent}
@@ -65,7 +64,7 @@ module _ {m top : ℕ} {keys : List ℕ} {W : Window} (cells : List ℕ) {border
     kept = kept-none;
     all = openings-are m top keys W ∙ rw (← walked .all) (sym (A .openings));
     left =
-        let t = ends (leftOver m top keys W border (maximal W top)) (λ p v. all-handed (U .sound) (U .inside) (U .cap) v) (omega (arith, fresh-usable .wide, A .kept .same)) (A .stated) in
+        let t = ends (leftOver m top keys W border (maximal W top)) (λ p v. all-covered (U .sound) (U .inside) (U .cap) v) (omega (arith, fresh-usable .wide, A .kept .same)) (A .stated) in
         let l : length (replicate (W .w) (W .r0 + W .h)) ≡ W .w = length-replicate (W .w) (W .r0 + W .h) in
         rw (← walked .all) (sym (take-append-drop (W .w) _) ∙ rw (t, A .kept .beyond) (rw l at (overwrite-part (replicate (W .w) (W .r0 + W .h)) border)));
   }
@@ -73,8 +72,8 @@ module _ {m top : ℕ} {keys : List ℕ} {W : Window} (cells : List ℕ) {border
       walked : Walked W top [] (W .r0, W .c0)
       walked = walked-first (U .inside)
 
-      stated : Stated W (Handed m keys (handedBy m top keys W [])) border
-      stated = rw e (begins cells (λ p n. List·Memᴰ·not-nil n) (U .wide))
+      stated : Stated W (Covered m top keys W []) border
+      stated = rw e (begins cells (λ p n. none-covered n) (U .wide))
 
       A : Ahead m top keys W [] (maximal W top) border
       A = ahead-is [] (maximal W top) border fresh-usable refl stated
@@ -91,9 +90,9 @@ module _ {m top : ℕ} {keys : List ℕ} {W : Window} {border₀ border : List �
         let l = finding-usable U .wide in
         (e ∙ filled-spent W border l ∙ spent-kept (F .kept), rw e (filled-length 0 (W .w) (W .r0 + W .h) border (omega arith) l) ∙ F .kept .same)
 
-    pub finding-next : {row col i key first count : ℕ} {on : Walk} {border′ : List ℕ} → Finds m top keys W at border (found.Opening row col i key first count on) border′
+    pub finding-next : {row col i key first count far : ℕ} {on : Walk} {border′ : List ℕ} → Finds m top keys W at border (found.Opening row col i key first count far on) border′
         → Finding m top keys W border₀ border′ on (done ++ (made key first count ∷ []))
-    finding-next (finds.opening K d n R k e l) = record {
+    finding-next (finds.opening K d n f R k e l) = record {
       reached = R;
       kept = kept-more (F .kept) k;
       all = F .all ∙ rw e (sym (append-assoc done _ _));
@@ -103,26 +102,29 @@ module _ {m top : ℕ} {keys : List ℕ} {W : Window} {border₀ border : List �
     pub finding-last : {border′ : List ℕ} → Finds m top keys W at border found.End border′ → (openings m top keys W ≡ done) × (border′ ≡ spent W border₀) × Kept W border₀ border′
     finding-last (finds.end k e l) = (F .all ∙ rw (e, append-nil), sym l ∙ F .left, kept-more (F .kept) k)
 
--- the block with corner b is opened with the `count` records from `first` on
-pub record Opens (m top : ℕ) (keys : List ℕ) (W : Window) (b : Px) (first count : ℕ) : Type 0 where
+-- the block with corner b is opened with the `count` records from `first` on, which reach so far
+pub record Opens (m top : ℕ) (keys : List ℕ) (W : Window) (b : Px) (first count far : ℕ) : Type 0 where
   pub corner : Corner W top b
-  pub run : runOf m keys (keyOf m top W b) ≡ runs.run first count
+  pub run : runOf m keys (keyOf m top W b) ≡ runs.run first count far
   pub room : first + count ≤ length keys
 
-module _ {m top : ℕ} {keys : List ℕ} {W : Window} {at : Walk} {cells border : List ℕ} {row col i key first count : ℕ} {on : Walk} where
+module _ {m top : ℕ} {keys : List ℕ} {W : Window} {at : Walk} {cells border : List ℕ} {row col i key first count far : ℕ} {on : Walk} where
   -- what is found is an opening of the block with that corner
   pub finds-opens : {n : ℕ} {border₀ : List ℕ} {done : List Opening} → Usable m top keys W n → Finding m top keys W border₀ cells at done
-      → Finds m top keys W at cells (found.Opening row col i key first count on) border → Opens m top keys W (row, col) first count
+      → Finds m top keys W at cells (found.Opening row col i key first count far on) border → Opens m top keys W (row, col) first count far
   unfolding opening
-  finds-opens {done = done} U F (finds.opening K x n R k e l) =
+  finds-opens {done = done} U F (finds.opening K x n f R k e l) =
       let listed : List·Memᴰ (made key first count) (openings m top keys W) = rw (F .all, e) (Memᴰ·append-right done (List·Memᴰ·head {xs = madeFrom m top keys W border (spot on)} refl)) in
-      let t = opening-block (U .sound) (U .inside) (U .cap) (made key first count) listed in
+      let t = opening-block m top keys W listed in
       let d : keyOf m top W (t .0) ≡ keyOf m top W (row, col) = sym (ap (λ (o : Opening). o .key) (t .2)) ∙ n in
-      let r : runOf m keys (keyOf m top W (row, col)) ≡ runs.run first count = rw (← d) (ap (λ (o : Opening). runs.run (o .first) (o .count)) (sym (t .2))) in
+      let far-own = far-is (U .sound) (U .inside) (U .cap) K in
+      let r : runOf m keys (keyOf m top W (row, col)) ≡ runs.run first count far =
+      rw (f ∙ sym far-own, ← d) (ap (λ (o : Opening). runs.run (o .first) (o .count) (runOf m keys (keyOf m top W (t .0)) .reach)) (sym (t .2))) in
       record { corner = K; run = r; room = rw r at (met-room (U .sound) (U .inside) (U .cap) K) }
 
-  pub finds-exponent : Finds m top keys W at cells (found.Opening row col i key first count on) border → (i ≡ exponent W top (row, col)) × (key ≡ keyOf m top W (row, col))
-  finds-exponent (finds.opening K x n R k e l) = (x, n)
+  pub finds-exponent : Finds m top keys W at cells (found.Opening row col i key first count far on) border → (i ≡ exponent W top (row, col)) × (key ≡ keyOf m top W (row, col))
+  finds-exponent (finds.opening K x n f R k e l) = (x, n)
 
-  pub finds-less : Finds m top keys W at cells (found.Opening row col i key first count on) border → length (madeFrom m top keys W border (spot on)) < length (madeFrom m top keys W cells (spot at))
-  finds-less (finds.opening K x n R k e l) = rw e (omega arith)
+  pub finds-less : Finds m top keys W at cells (found.Opening row col i key first count far on) border
+      → length (madeFrom m top keys W border (spot on)) < length (madeFrom m top keys W cells (spot at))
+  finds-less (finds.opening K x n f R k e l) = rw e (omega arith)

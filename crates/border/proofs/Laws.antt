@@ -1,4 +1,5 @@
--- The laws of openings: all that the crates above know of them. On a sound map they hand out the records that overlap the window, each once, and no fewer blocks do.
+-- The laws of openings: all that the crates above know of them. They hand out the records that overlap the window, each once, and no fewer blocks bring these. Of a map that may have
+-- gaps `Spaced` is known, of a whole one `Follow`.
 -- Assumes nothing.
 use mathlib.Core.Path.{_≡_, sym, ap, _∙_}
 use mathlib.Core.List.{List}
@@ -11,14 +12,17 @@ use Rattle.border.specs.Openings.{openings, handsOut, cellsOf}
 use Rattle.border.specs.declared.Opened.the-variants.{Done, Refused}
 use Rattle.border.specs.Open.{after, openOf}
 use Rattle.border.specs.Promises.{Answered}
-use Rattle.border.proofs.Fold.{cells-length}
-use Rattle.border.proofs.Tables.{use-known, used-told}
-pub use Rattle.border.proofs.Overlaps.{within-is, OfPixel, spans, met-pixels, size-le, met-first, met-some, met-room, block-key}
-pub use Rattle.border.proofs.Fold.{opening-hands, met-in, hands-none, hands-one, hands-append, in-hands}
+use Rattle.border.proofs.Hands.{cells-length}
+use Rattle.border.proofs.Tables.{use-known, use-whole, used-told}
+pub use Rattle.border.proofs.Overlaps.{within-is, OfPixel, spans, met-inside, met-pixels, met-first, met-room, block-key, far-is}
+pub use Rattle.border.proofs.Fold.{opening-hands, opening-block, met-in}
+pub use Rattle.border.proofs.Hands.{hands-none, hands-one, hands-append, in-hands}
 pub use Rattle.border.proofs.Handing.{listed-corner}
-pub use Rattle.border.proofs.Tables.{use-known, use-same, used-refused, used-short, used-done, used-by-lengths, Told, used-told}
-pub use Rattle.border.proofs.Once.{records-out, opening-block, hands-all, hands-once, records-once, hands-some, openings-enough, fewest, openings-most, records-most, openings-few}
-pub use Rattle.border.proofs.Room.{openings-records, openings-fit, roomy}
+pub use Rattle.border.proofs.Once.{records-out, hands-all, hands-once, records-once}
+pub use Rattle.border.proofs.Fewest.{openings-enough, bringing-enough, fewest, openings-most, records-most, bringing-records, openings-capped, openings-few}
+pub use Rattle.border.proofs.Whole.{covered-whole, stays-whole, hands-some, hands-whole, all-bring, fewest-whole}
+pub use Rattle.border.proofs.Tables.{use-known, use-whole, use-same, used-refused, used-short, used-done, used-by-lengths, Told, used-told}
+pub use Rattle.border.proofs.Room.{openings-records, capped-fit, openings-fit, roomy}
 
 -- ---- an accepted call
 
@@ -37,4 +41,10 @@ answered m keys classes W border out {count} {records} {border′} {out′} e =
     let n : length os ≡ count = cc in
     let k : handsOut os ≡ records = cc in
     let full : length (cellsOf os) ≡ 3 * count = cells-length os ∙ ap (λ (x : ℕ). 3 * x) n in
-    record { sound = U .sound; inside = U .inside; many = sym n; records-are = sym k; list = rw (← full, ← t .writes) (take-overwrite (cellsOf os) out) }
+    record {
+      sound = use-whole m keys classes W (length border) (t .passed);
+      inside = U .inside;
+      many = sym n;
+      records-are = sym k;
+      list = rw (← full, ← t .writes) (take-overwrite (cellsOf os) out);
+    }

@@ -4,9 +4,8 @@ use mathlib.Core.Path.{_≡_, sym, _∙_}
 use mathlib.Core.Logic.{_↔_}
 use mathlib.Core.Bool.{true, _&&_}
 use mathlib.Core.List.{List, List·Memᴰ}
-use Prim.Native.Nat.{ℕ, suc, max, _+_, _^_, _≤_, _<_}
-use native.Mathlib.Nat.{pow-le-pow-right, zero-lt-suc}
-use native.Mathlib.Decide.{decLe, decLt}
+use Prim.Native.Nat.{ℕ, max, _+_, _^_, _≤_, _<_}
+use native.Mathlib.Decide.{decLt}
 use native.Mathlib.Omega.{arith}
 use lib.Dec.{leb}
 use borrow.Author.Tests.{leb-true, le-leb}
@@ -15,18 +14,19 @@ use Rattle.lists.proofs.Tests.{both}
 use Rattle.key.specs.Picture.{Pixel, place, PixelAt}
 use Rattle.key.specs.Form.{formOf}
 use Rattle.key.specs.Blocks.{Names, Among, Inside as Covers, Stand, within as lies-in, around, after, before}
-use Rattle.key.proofs.Laws.{block-lies, blocks-stand, holds-same, place-onto, pow-least}
+use Rattle.key.proofs.Laws.{block-lies, blocks-stand, holds-same, place-onto, pow-least, size-le}
 use Rattle.window.specs.declared.Window.{Window}
 use Rattle.window.specs.Window.{Px, In, Inside}
 use Rattle.window.specs.Blocks.{Same, exponent, corner}
 use Rattle.window.specs.Decompose.{keyOf}
 use Rattle.window.proofs.Laws.{same-div, fits-all, exponent-fits, same→corner, corner→same, pixel-in, key-named}
-use Rattle.map.specs.Sound.{Follow}
-use Rattle.map.specs.Records.{Record, SomeRecord, Holder, pixelRecord, pixelExponent}
+use Rattle.map.specs.Spans.{holds}
+use Rattle.map.specs.Sound.{Spaced}
+use Rattle.map.specs.Records.{Record, SomeRecord, Holder, pixelTile, pixelExponent}
 use Rattle.map.specs.Runs.{runOf, BlockOf, Overlap, Meets}
-use Rattle.map.proofs.Laws.{record-at, apart, block-records, record-of, exponent-of, pixel-holder, start-is, end-is}
+use Rattle.map.proofs.Laws.{record-at, apart, block-records, reach-is, tile-of, tile-holder, exponent-of, start-is, end-is, holds-is}
 use Rattle.border.specs.Openings.{met, within}
-use Rattle.border.specs.Step.{Corner}
+use Rattle.border.specs.Step.{Corner, reach}
 use Rattle.border.proofs.Fold.{met-in}
 
 -- ---- a block in another
@@ -41,24 +41,16 @@ within-is {i = i} {s = s} {j = j} {t = t} x y = rw (start-is x, end-is x, start-
     tests : (leb t s && leb (s + 4 ^ i) (t + 4 ^ j) ≡ true) ↔ ((leb t s ≡ true) × (leb (s + 4 ^ i) (t + 4 ^ j) ≡ true))
     tests = both _ _
 
--- the larger of two sizes has the larger exponent
-pub size-le : {i j : ℕ} → 4 ^ i ≤ 4 ^ j → i ≤ j
-size-le {i} {j} h = go (decLe i j)
-  where
-    go : Dec (i ≤ j) → i ≤ j
-    go (yes l) = l
-    go (no g) = absurd (omega (arith, pow-le-pow-right {n = 4} (zero-lt-suc 3) {i = suc j} {j = i} (omega (arith, g)), pow-least 3 j))
-
 -- ---- the records of a block
 
--- record n is that of a pixel of the block with corner b
+-- tile n is that of a pixel of the block with corner b
 pub record OfPixel (m top : ℕ) (keys : List ℕ) (W : Window) (b : Px) (n : ℕ) : Type 0 where
   pub at : Px
   pub inside : In W at
   pub block : corner W top at ≡ b
-  pub is : pixelRecord m keys (at .0) (at .1) ≡ n
+  pub is : pixelTile m keys (at .0) (at .1) ≡ n
 
-module _ {m top : ℕ} {keys : List ℕ} (F : Follow m 0 keys) {W : Window} (I : Inside m W) (small : top ≤ m) {b : Px} (C : Corner W top b) where
+module _ {m top : ℕ} {keys : List ℕ} (F : Spaced m 0 keys) {W : Window} (I : Inside m W) (small : top ≤ m) {b : Px} (C : Corner W top b) where
   -- the block with corner b: its exponent, its first place, and what meets it
   abbrev i : ℕ
   i = exponent W top b
@@ -82,6 +74,13 @@ module _ {m top : ℕ} {keys : List ℕ} (F : Follow m 0 keys) {W : Window} (I :
   block-same : {p : Px} → In W p → corner W top p ≡ b → Same i b p
   block-same v e = corner→same W top (C .inside) v (C .own ∙ sym e)
 
+  -- by its key it has the window's pixels whose corner is b
+  pub block-holds : {p : Px} → In W p → (holds (place (p .0) (p .1)) (formOf m (keyOf m top W b)) ≡ true) ↔ (corner W top p ≡ b)
+  block-holds {p} v =
+      let h = holds-is (place (p .0) (p .1)) named in
+      let k = spans (pixel-in I v) in
+      (λ e. sym (same→corner W top (C .inside) (k .0 (h .0 e))) ∙ C .own, λ e. h .1 (k .1 (block-same v e)))
+
   -- a record that has a place of the block is that of one of its pixels
   shared : {n j t q : ℕ} → Record m keys n j t → Among s (4 ^ i) q → Among t (4 ^ j) q → OfPixel m top keys W b n
   shared {n} {j} {t} {q} R h k = go (place-onto m q (omega (arith, block-lies named .span)))
@@ -95,52 +94,46 @@ module _ {m top : ℕ} {keys : List ℕ} (F : Follow m 0 keys) {W : Window} (I :
             at = p;
             inside = fits-all (exponent-fits W top (C .inside)) p same;
             block = sym (same→corner W top (C .inside) same) ∙ C .own;
-            is = record-of F H;
+            is = tile-of F H;
           }
 
-  pub met-pixels : (n : ℕ) → List·Memᴰ n (met m keys (keyOf m top W b)) ↔ OfPixel m top keys W b n
-  met-pixels n = let h = met-in m keys (keyOf m top W b) n in (λ l. to (h .0 l), λ o. h .1 (from o))
+  pub met-pixels : (n : ℕ) → List·Memᴰ n (met m keys (keyOf m top W b)) ↔ (OfPixel m top keys W b n × (n < length keys))
+  met-pixels n = let h = met-in m keys (keyOf m top W b) n in (λ l. to (h .0 l), λ o. h .1 (from (o .0) (o .1)))
     where
-      to : Among (runOf m keys (keyOf m top W b) .first) (runOf m keys (keyOf m top W b) .count) n → OfPixel m top keys W b n
-      to h = go (record-at F n (omega (arith, meets .room)))
+      to : Among (runOf m keys (keyOf m top W b) .first) (runOf m keys (keyOf m top W b) .count) n → OfPixel m top keys W b n × (n < length keys)
+      to h = (go (record-at F n (omega (arith, meets .room))), omega (arith, meets .room))
         where
           go : SomeRecord m keys n → OfPixel m top keys W b n
           go R =
               let o = meets .exactly (R .is) .1 h in
               shared {q = max s (R .start)} (R .is) (omega (arith, pow-least 3 i)) (omega (arith, pow-least 3 (R .exponent)))
 
-      from : OfPixel m top keys W b n → Among (runOf m keys (keyOf m top W b) .first) (runOf m keys (keyOf m top W b) .count) n
-      from o =
-          let H = pixel-holder F (pixel-in I (o .inside)) in
+      from : OfPixel m top keys W b n → n < length keys → Among (runOf m keys (keyOf m top W b) .first) (runOf m keys (keyOf m top W b) .count) n
+      from o l =
+          let H = tile-holder F (place (o .at .0) (o .at .1)) (rw (o .is) l) in
           let k = spans (pixel-in I (o .inside)) .1 (block-same (o .inside) (o .block)) in
           let a = meets .exactly (H .is) .0 (omega (arith, H .has)) in
-          rw (sym (o .is) ∙ record-of F H) a
+          rw (sym (o .is) ∙ tile-of F H) a
 
-  -- the first of them holds the corner
-  pub met-first : runOf m keys (keyOf m top W b) .first ≡ pixelRecord m keys (b .0) (b .1)
-  met-first = go (decLt first (H .index))
+  -- the first of them holds the corner, where a record does
+  pub met-first : (H : Holder m keys s) → runOf m keys (keyOf m top W b) .first ≡ H .index
+  met-first H = go (decLt first (H .index))
     where
       first : ℕ
       first = runOf m keys (keyOf m top W b) .first
 
-      H : Holder m keys s
-      H = pixel-holder F (pixel-in I (C .inside))
-
-      R : SomeRecord m keys first
-      R = record-at F first (omega (arith, meets .some, meets .room))
-
       a : Among first (runOf m keys (keyOf m top W b) .count) (H .index)
       a = meets .exactly (H .is) .0 (omega (arith, H .has, pow-least 3 i))
 
+      R : SomeRecord m keys first
+      R = record-at F first (omega (arith, a, meets .room))
+
       o : Overlap s (4 ^ i) (R .start) (4 ^ R .exponent)
-      o = meets .exactly (R .is) .1 (omega (arith, meets .some))
+      o = meets .exactly (R .is) .1 (omega (arith, a))
 
-      go : Dec (first < H .index) → first ≡ pixelRecord m keys (b .0) (b .1)
+      go : Dec (first < H .index) → first ≡ H .index
       go (yes l) = absurd (omega (arith, apart F first (H .index) (R .is) (H .is) l, o, H .has))
-      go (no g) = rw (record-of F H) (omega (arith, a, g))
-
-  pub met-some : 1 ≤ runOf m keys (keyOf m top W b) .count
-  met-some = meets .some
+      go (no g) = omega (arith, a, g)
 
   pub met-room : runOf m keys (keyOf m top W b) .first + runOf m keys (keyOf m top W b) .count ≤ length keys
   met-room = meets .room
@@ -153,45 +146,30 @@ module _ {m top : ℕ} {keys : List ℕ} (F : Follow m 0 keys) {W : Window} (I :
   pub block-key : BlockOf m (keyOf m top W b) (exponent W top b)
   block-key = record { start = s; names = named }
 
-  pub first-key : BlockOf m (getD keys (runOf m keys (keyOf m top W b) .first) 0) (pixelExponent m keys (b .0) (b .1))
-  first-key =
-      let H = pixel-holder F (pixel-in I (C .inside)) in
-      rw (met-first, record-of F H, exponent-of F H) (record { start = H .start; names = H .is .names })
-
-  -- which of the two lies in the other, their keys tell
-  pub first-nests : let k = getD keys (runOf m keys (keyOf m top W b) .first) 0 in
-      (keyOf m top W b ≤ k → pixelExponent m keys (b .0) (b .1) ≤ exponent W top b) × (k < keyOf m top W b → exponent W top b ≤ pixelExponent m keys (b .0) (b .1))
-  first-nests = rw (met-first, record-of F H, exponent-of F H) (go (blocks-stand named (H .is .names)))
-    where
-      H : Holder m keys s
-      H = pixel-holder F (pixel-in I (C .inside))
-
-      go : {a k : ℕ} → Stand a i s k (H .exponent) (H .start) → (a ≤ k → H .exponent ≤ i) × (k < a → i ≤ H .exponent)
-      go (lies-in p q) = (λ h. size-le (omega arith), λ h. absurd (omega arith))
-      go (around g p l q) = (λ h. absurd (omega arith), λ h. size-le (omega arith))
-      go (after p q) = absurd (omega (arith, H .has, pow-least 3 i))
-      go (before p q) = absurd (omega (arith, H .has))
+  -- its records reach as far as the larger of the two
+  pub far-is : runOf m keys (keyOf m top W b) .reach ≡ reach W top (pixelExponent m keys) b
+  far-is = reach-is keys named
 
   -- the block lies in record n exactly when that is its corner's and not smaller
   pub in-record : (n : ℕ) → n < length keys → (within (formOf m (keyOf m top W b)) (formOf m (getD keys n 0)) ≡ true)
-      ↔ ((pixelRecord m keys (b .0) (b .1) ≡ n) × (exponent W top b ≤ pixelExponent m keys (b .0) (b .1)))
+      ↔ ((pixelTile m keys (b .0) (b .1) ≡ n) × (exponent W top b ≤ pixelExponent m keys (b .0) (b .1)))
   in-record n l = (λ e. to (record-at F n l) e, λ e. from (e .0) (e .1))
     where
       to : SomeRecord m keys n → within (formOf m (keyOf m top W b)) (formOf m (getD keys n 0)) ≡ true
-          → (pixelRecord m keys (b .0) (b .1) ≡ n) × (exponent W top b ≤ pixelExponent m keys (b .0) (b .1))
+          → (pixelTile m keys (b .0) (b .1) ≡ n) × (exponent W top b ≤ pixelExponent m keys (b .0) (b .1))
       to R e =
           let h = within-is named (R .is .names) .0 e in
           let H : Holder m keys s = record { index = n; exponent = R .exponent; start = R .start; is = R .is; has = omega (arith, pow-least 3 i) } in
-          (record-of F H, rw (exponent-of F H) (size-le (omega arith)))
+          (tile-of F H, rw (exponent-of F H) (size-le _ _ .1 (omega arith)))
 
-      from : pixelRecord m keys (b .0) (b .1) ≡ n → exponent W top b ≤ pixelExponent m keys (b .0) (b .1)
+      from : pixelTile m keys (b .0) (b .1) ≡ n → exponent W top b ≤ pixelExponent m keys (b .0) (b .1)
           → within (formOf m (keyOf m top W b)) (formOf m (getD keys n 0)) ≡ true
       from e h =
-          let le : 4 ^ i ≤ 4 ^ H .exponent = pow-le-pow-right {n = 4} (zero-lt-suc 3) (rw (exponent-of F H) at h) in
-          rw (sym e ∙ record-of F H) (within-is named (H .is .names) .1 (go le (blocks-stand named (H .is .names))))
+          let le : 4 ^ i ≤ 4 ^ H .exponent = size-le i (H .exponent) .0 (rw (exponent-of F H) at h) in
+          rw (sym e ∙ tile-of F H) (within-is named (H .is .names) .1 (go le (blocks-stand named (H .is .names))))
         where
           H : Holder m keys s
-          H = pixel-holder F (pixel-in I (C .inside))
+          H = tile-holder F s (rw e l)
 
           go : {a k : ℕ} → 4 ^ i ≤ 4 ^ H .exponent → Stand a i s k (H .exponent) (H .start) → Covers (H .start) (4 ^ H .exponent) s (4 ^ i)
           go le (lies-in p q) = omega arith

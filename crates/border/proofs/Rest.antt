@@ -1,9 +1,9 @@
 -- From a place of the walk on: what one step after another makes is the rest of the openings, and the border ends spent. By induction over the blocks that are left.
 -- Assumes nothing.
-use mathlib.Core.Path.{_≡_, refl, sym, ap, _∙_}
+use mathlib.Core.Path.{_≡_, sym, ap, _∙_}
 use mathlib.Core.Logic.{_↔_}
 use mathlib.Core.Bool.{true}
-use mathlib.Core.List.{List, [], _∷_, _++_, map, map-append, append-assoc, append-nil, List·Memᴰ·head, Memᴰ·append-right}
+use mathlib.Core.List.{List, [], _∷_, _++_, map, map-append, append-assoc, append-nil}
 use Prim.Native.Nat.{ℕ, _-_, _<_}
 use native.Mathlib.Decide.{decLt}
 use native.Mathlib.Omega.{arith}
@@ -13,21 +13,21 @@ use Rattle.window.specs.declared.Window.{Window}
 use Rattle.window.specs.Window.{Px}
 use Rattle.window.specs.Blocks.{maximal}
 use Rattle.window.specs.Decompose.{keyOf}
-use Rattle.map.proofs.Laws.{tiling}
+use Rattle.map.proofs.Laws.{tiles}
 use Rattle.border.specs.declared.Stepped.{Stepped}
 use Rattle.border.specs.Openings.{opening, isHanded, openFrom, handedAfter}
-use Rattle.border.specs.Border.{Stated, Handed, handedBy}
+use Rattle.border.specs.Border.{Stated, handedBy, Covered}
 use Rattle.border.specs.Step.{AfterStep, Corner, Usable, Step}
 use Rattle.border.specs.Found.{madeBy, madeOver, leftOver, Kept}
-use Rattle.border.proofs.Stays.{stated-as, skip-iff}
+use Rattle.border.proofs.Stays.{skip-iff}
 use Rattle.border.proofs.Fold.{opens-none, skip-opens, take-opens, opens-append, handed-append}
-use Rattle.border.proofs.Handing.{listed-corner, handed-out, skip-test}
+use Rattle.border.proofs.Earlier.{own-corner, stated-out, skip-test}
 use Rattle.border.proofs.Stepping.{kept-none, kept-more, low-is, step-kept, made-step, left-step, stepped-on}
 
 module _ {m top : ℕ} {keys : List ℕ} {W : Window} where
   -- the cells tell whether a block lies in a record handed out, and so what the step over it makes
   made-is : {cells border : List ℕ} {answer : Stepped} (past : List Px) (b : Px) (rest : List Px) → Usable m top keys W (length cells) → maximal W top ≡ past ++ b ∷ rest
-      → Stated W (Handed m keys (handedBy m top keys W past)) cells → Step m top keys W b cells answer border
+      → Stated W (Covered m top keys W past) cells → Step m top keys W b cells answer border
       → madeBy answer ≡ openFrom m keys (handedBy m top keys W past) (keyOf m top W b ∷ [])
   unfolding madeBy opening
   made-is {cells} {border} {answer} past b rest U split st S = go (decLt (b .0) (getD cells (b .1 - W .c0) 0))
@@ -40,8 +40,7 @@ module _ {m top : ℕ} {keys : List ℕ} {W : Window} where
 
       told : (b .0 < getD cells (b .1 - W .c0) 0) ↔ (isHanded m keys handed key ≡ true)
       told =
-          let K : Corner W top b = listed-corner (rw split (Memᴰ·append-right past (List·Memᴰ·head refl))) in
-          let a = skip-iff (U .inside) (tiling (U .sound)) K (stated-as (λ p v. handed-out (U .sound) (U .inside) (U .cap) past b rest split p) st) in
+          let a = skip-iff (U .inside) (tiles (U .sound)) (own-corner past b rest split) (stated-out (U .sound) (U .inside) (U .cap) past b rest split st) in
           let z = skip-test (U .sound) (U .inside) (U .cap) past b rest split in
           (λ l. z .1 (a .0 l), λ e. a .1 (z .0 e))
 
@@ -54,11 +53,11 @@ module _ {m top : ℕ} {keys : List ℕ} {W : Window} where
 -- when the blocks of `past` are past, steps over those of `bs`, which are to come, make the rest of the openings and leave a border on which all is out
 pub record Ahead (m top : ℕ) (keys : List ℕ) (W : Window) (past bs : List Px) (cells : List ℕ) : Type 0 where
   pub openings : madeOver m top keys W cells bs ≡ openFrom m keys (handedBy m top keys W past) (map (keyOf m top W) bs)
-  pub stated : Stated W (Handed m keys (handedBy m top keys W (maximal W top))) (leftOver m top keys W cells bs)
+  pub stated : Stated W (Covered m top keys W (maximal W top)) (leftOver m top keys W cells bs)
   pub kept : Kept W cells (leftOver m top keys W cells bs)
 
 pub ahead-is : {m top : ℕ} {keys : List ℕ} {W : Window} (past bs : List Px) (cells : List ℕ) → Usable m top keys W (length cells) → maximal W top ≡ past ++ bs
-    → Stated W (Handed m keys (handedBy m top keys W past)) cells → Ahead m top keys W past bs cells
+    → Stated W (Covered m top keys W past) cells → Ahead m top keys W past bs cells
 unfolding madeOver leftOver
 ahead-is {m} {top} {keys} {W} past [] cells U split st = record {
   openings = rw opens-none;
@@ -68,10 +67,10 @@ ahead-is {m} {top} {keys} {W} past [] cells U split st = record {
 ahead-is {m} {top} {keys} {W} past (b ∷ bs) cells U split st = go (stepped-on cells U K) (ahead-is (past ++ (b ∷ [])) bs)
   where
     K : Corner W top b
-    K = listed-corner (rw split (Memᴰ·append-right past (List·Memᴰ·head refl)))
+    K = own-corner past b bs split
 
     go : (answer : Stepped) × (border : List ℕ) × Step m top keys W b cells answer border
-        → ((border : List ℕ) → Usable m top keys W (length border) → maximal W top ≡ (past ++ (b ∷ [])) ++ bs → Stated W (Handed m keys (handedBy m top keys W (past ++ (b ∷ [])))) border
+        → ((border : List ℕ) → Usable m top keys W (length border) → maximal W top ≡ (past ++ (b ∷ [])) ++ bs → Stated W (Covered m top keys W (past ++ (b ∷ []))) border
         → Ahead m top keys W (past ++ (b ∷ [])) bs border)
         → Ahead m top keys W past (b ∷ bs) cells
     go (answer, border, S) ih =

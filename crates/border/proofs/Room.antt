@@ -1,7 +1,7 @@
 -- Three cells for each record of the map are room for every answer.
 -- Assumes nothing.
-use mathlib.Core.Path.{_≡_, refl, sym, ap, _∙_}
-use mathlib.Core.List.{List, [], _∷_, List·Memᴰ, List·Memᴰ·head, List·Memᴰ·tail}
+use mathlib.Core.Path.{_≡_, sym, ap, _∙_}
+use mathlib.Core.List.{List}
 use Prim.Native.Nat.{ℕ, _*_, _≤_}
 use native.Mathlib.Omega.{arith}
 use lib.ListN.{length}
@@ -10,26 +10,30 @@ use Rattle.answers.specs.Rows.{verdict}
 use Rattle.window.specs.declared.Window.{Window}
 use Rattle.window.specs.Window.{Inside}
 use Rattle.map.specs.Sound.{Follow}
+use Rattle.map.proofs.Laws.{spaced}
 use Rattle.border.specs.declared.Opened.{Opened}
 use Rattle.border.specs.declared.Opened.the-variants.{Done, Refused}
-use Rattle.border.specs.Openings.{Opening, openings, handsOut, cellsOf}
+use Rattle.border.specs.Openings.{openings, handsOut, cellsOf}
 use Rattle.border.specs.Open.{useRows, After, after, accepted, openOf}
-use Rattle.border.proofs.Tables.{use-known, open-done}
-use Rattle.border.proofs.Fold.{cells-length}
-use Rattle.border.proofs.Once.{hands-some, records-most}
+use Rattle.border.proofs.Tables.{use-known, use-whole, open-done}
+use Rattle.border.proofs.Hands.{cells-length}
+use Rattle.border.proofs.Fewest.{bringing-records}
+use Rattle.border.proofs.Whole.{all-bring}
 
--- openings that hand out some record each are no more than the records
-each : (os : List Opening) → ((o : Opening) → List·Memᴰ o os → 1 ≤ o .count) → length os ≤ handsOut os
-unfolding handsOut
-each [] some = omega arith
-each (o ∷ os) some = omega (arith, some o (List·Memᴰ·head refl), each os (λ o′ l. some o′ (List·Memᴰ·tail l)))
+-- in a whole map each opening brings a record of its own, whatever the cap
+pub openings-records : {m top : ℕ} {keys : List ℕ} → Follow m 0 keys → {W : Window} → Inside m W → top ≤ m → length (openings m top keys W) ≤ length keys
+openings-records F I small = rw (← all-bring F I small) (bringing-records (spaced F) I small)
 
-pub openings-records : {m : ℕ} {keys : List ℕ} → Follow m 0 keys → {W : Window} → Inside m W → length (openings m m keys W) ≤ length keys
-openings-records {m} {keys} F {W} I = omega (arith, each (openings m m keys W) (hands-some {top = m} F I (omega arith)), records-most {top = m} F I (omega arith))
+-- so three cells for each record hold the openings with a cap
+pub capped-fit : (m top : ℕ) (keys : List ℕ) (classes : ℕ) (W : Window) (border : ℕ) → top ≤ m → verdict (useRows m keys classes W border) ≡ verdict-of.Passed
+    → (length (openings m top keys W) ≤ length keys) × (length (cellsOf (openings m top keys W)) ≡ 3 * length (openings m top keys W))
+capped-fit m top keys classes W border small e =
+    (openings-records (use-whole m keys classes W border e) (use-known m keys classes W border e .inside) small, cells-length (openings m top keys W))
 
+-- and without one
 pub openings-fit : (m : ℕ) (keys : List ℕ) (classes : ℕ) (W : Window) (border : ℕ) → verdict (useRows m keys classes W border) ≡ verdict-of.Passed
     → (length (openings m m keys W) ≤ length keys) × (length (cellsOf (openings m m keys W)) ≡ 3 * length (openings m m keys W))
-openings-fit m keys classes W border e = let U = use-known m keys classes W border e in (openings-records (U .sound) (U .inside), cells-length (openings m m keys W))
+openings-fit m keys classes W border = capped-fit m m keys classes W border (omega arith)
 
 -- so 8 is not given
 pub roomy : (m : ℕ) (keys : List ℕ) (classes : ℕ) (W : Window) (border out : List ℕ) {n p : ℕ} {border′ out′ : List ℕ}

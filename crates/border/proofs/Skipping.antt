@@ -1,6 +1,6 @@
 -- The walk, one block on: where it has reached, the blocks that are skipped up to the next opening, and its end where no column is left.
 -- Assumes nothing.
-use mathlib.Core.Path.{_≡_, refl, ap, _∙_}
+use mathlib.Core.Path.{_≡_, refl, _∙_}
 use mathlib.Core.List.{List, [], _∷_, _++_, List·Memᴰ, List·Memᴰ·head, List·Memᴰ·tail, Memᴰ·append-right}
 use Prim.Native.Nat.{ℕ, _+_, _≤_}
 use native.Mathlib.Omega.{arith}
@@ -14,7 +14,7 @@ use Rattle.border.specs.declared.Stepped.{Stepped}
 use Rattle.border.specs.declared.Stepped.the-variants as stepped
 use Rattle.border.specs.declared.Walk.{Walk}
 use Rattle.border.specs.declared.Found.the-variants as found
-use Rattle.border.specs.Step.{AfterStep, stepOf, Corner, Usable, Ready, Step}
+use Rattle.border.specs.Step.{Corner, Usable, Ready, Step}
 use Rattle.border.specs.Found.{madeBy, madeOver, leftOver, madeFrom, leftFrom, columnsLeft, walk, spot, Reached, Kept, Finds}
 use Rattle.border.specs.Found as finds
 use Rattle.border.proofs.Columns.{left-none}
@@ -116,13 +116,13 @@ module _ {m top : ℕ} {keys : List ℕ} {W : Window} {cells : List ℕ} {at : W
           left-as = P .left-as ∙ left-next g S;
         }
 
-        module _ {key first count shut : ℕ} (e : answer ≡ stepped.Opened key first count shut) where
+        module _ {key first count far shut : ℕ} (e : answer ≡ stepped.Opened key first count far shut) where
           pub skipping-room : shut ≤ to .left
           unfolding shutBy
           skipping-room = rw e at (reached-room (P .reached) g (skipping-usable U) S)
 
-          pub skipping-found : {left : ℕ} → left + shut ≡ to .left → Finds m top keys W at cells (found.Opening r c i key first count (walk r d left)) border′
+          pub skipping-found : {left : ℕ} → left + shut ≡ to .left → Finds m top keys W at cells (found.Opening r c i key first count far (walk r d left)) border′
           unfolding madeBy shutBy
           skipping-found {left} l =
-              finds.opening {first = first} {count = count} {on = walk r d left} K (goes-exponent g) (step-key S e) (on (rw e l)) skipping-kept
+              finds.opening {first = first} {count = count} {on = walk r d left} K (goes-exponent g) (step-key S e .0) (step-key S e .1) (on (rw e l)) skipping-kept
               (P .made-as ∙ made-next g S ∙ rw e) (P .left-as ∙ left-next g S)

@@ -13,12 +13,12 @@ use Rattle.window.specs.declared.Window.{Window}
 use Rattle.window.specs.Window.{Px}
 use Rattle.window.specs.Blocks.{exponent, maximal}
 use Rattle.window.specs.Decompose.{keyOf}
-use Rattle.map.specs.Records.{pixelRecord, pixelExponent}
+use Rattle.map.specs.Records.{pixelTile, pixelExponent}
 use Rattle.map.specs.Runs.{runOf}
-use Rattle.map.proofs.Laws.{tiling}
+use Rattle.map.proofs.Laws.{tiles}
 use Rattle.border.specs.declared.Stepped.{Stepped}
 use Rattle.border.specs.declared.Stepped.the-variants as stepped
-use Rattle.border.specs.Border.{Stated, Handed, handedBy}
+use Rattle.border.specs.Border.{Stated, Covered}
 use Rattle.border.specs.Cells.{filled, raised, closed}
 use Rattle.border.specs.Step.{reach, AfterStep, afterStep, stepOf, Corner, Usable, Ready, Step}
 use Rattle.border.specs.Found.{madeBy, madeOver, leftOver, columnsLeft, Kept}
@@ -26,9 +26,9 @@ use Rattle.border.specs.Open.{spent}
 use Rattle.border.proofs.Filled.{raised-length, raised-beyond}
 use Rattle.border.proofs.Columns.{left-raised}
 use Rattle.border.proofs.Sweep.{Out}
-use Rattle.border.proofs.Stays.{stated-as, skip-iff, fresh-high}
+use Rattle.border.proofs.Stays.{skip-iff, fresh-high}
 use Rattle.border.proofs.Steps.{opened-not-skipped, step-skipped, step-opened}
-use Rattle.border.proofs.Handing.{handed-out}
+use Rattle.border.proofs.Earlier.{stated-out}
 
 pub kept-none : {W : Window} {cells : List ℕ} → Kept W cells cells
 kept-none = record { same = refl; beyond = refl }
@@ -59,7 +59,7 @@ module _ (m top : ℕ) (keys : List ℕ) (W : Window) (b : Px) (cells : List ℕ
 
   pub low-is : getD cells (b .1 - W .c0) 0 ≤ b .0
       → let run = runOf m keys (keyOf m top W b) in
-      stepOf m top keys W b cells ≡ afterStep (stepped.Opened (keyOf m top W b) (run .first) (run .count) (closed W size b)) (raised W size b cells)
+      stepOf m top keys W b cells ≡ afterStep (stepped.Opened (keyOf m top W b) (run .first) (run .count) size (closed W size b)) (raised W size b cells)
   unfolding stepOf
   low-is l = rw (le-ltb (b .0) (getD cells (b .1 - W .c0) 0) l)
 
@@ -78,15 +78,15 @@ module _ {m top : ℕ} {keys : List ℕ} {W : Window} {b : Px} {cells border : L
         beyond = raised-beyond (reach W top (pixelExponent m keys) b) cells (K .inside) wide;
       })
 
-  -- an opened block is opened by its key
-  pub step-key : {key first count shut : ℕ} → answer ≡ stepped.Opened key first count shut → key ≡ keyOf m top W b
-  step-key {key} e = go (decLt (b .0) (getD cells (b .1 - W .c0) 0))
+  -- an opened block is opened by its key, and told with its reach
+  pub step-key : {key first count far shut : ℕ} → answer ≡ stepped.Opened key first count far shut → (key ≡ keyOf m top W b) × (far ≡ reach W top (pixelExponent m keys) b)
+  step-key {key} {far = far} e = go (decLt (b .0) (getD cells (b .1 - W .c0) 0))
     where
-      go : Dec (b .0 < getD cells (b .1 - W .c0) 0) → key ≡ keyOf m top W b
+      go : Dec (b .0 < getD cells (b .1 - W .c0) 0) → (key ≡ keyOf m top W b) × (far ≡ reach W top (pixelExponent m keys) b)
       go (yes l) = absurd (opened-not-skipped (sym e ∙ S .skips .1 l))
       go (no h) =
           let d : answer ≡ _ = ap (λ (x : AfterStep). x .answer) (S .is ∙ low-is m top keys W b cells (omega (arith, h))) in
-          cc
+          (cc, cc)
 
   pub made-step : (bs : List Px) → madeOver m top keys W cells (b ∷ bs) ≡ madeBy answer ++ madeOver m top keys W border bs
   unfolding madeOver
@@ -99,24 +99,24 @@ module _ {m top : ℕ} {keys : List ℕ} {W : Window} {b : Px} {cells border : L
 -- how many columns a step closes
 unfoldable pub shutBy : Stepped → ℕ
 shutBy stepped.Skipped = 0
-shutBy (stepped.Opened key first count shut) = shut
+shutBy (stepped.Opened key first count far shut) = shut
 
 -- on cells that are as stated, so many fewer columns are left after it
 pub step-left : {m top : ℕ} {keys : List ℕ} {W : Window} {b : Px} {cells border : List ℕ} {answer : Stepped} (past rest : List Px) → Usable m top keys W (length cells) → Corner W top b
-    → maximal W top ≡ past ++ b ∷ rest → Stated W (Handed m keys (handedBy m top keys W past)) cells → Step m top keys W b cells answer border
+    → maximal W top ≡ past ++ b ∷ rest → Stated W (Covered m top keys W past) cells → Step m top keys W b cells answer border
     → columnsLeft W border + shutBy answer ≡ columnsLeft W cells
 unfolding shutBy
 step-left {m} {top} {keys} {W} {b} {cells} {border} {answer} past rest U K split st S = go (decLt (b .0) (getD cells (b .1 - W .c0) 0))
   where
-    o : Stated W (Out W top (pixelRecord m keys) b) cells
-    o = stated-as (λ p v. handed-out (U .sound) (U .inside) (U .cap) past b rest split p) st
+    o : Stated W (Out W top (pixelTile m keys) b) cells
+    o = stated-out (U .sound) (U .inside) (U .cap) past b rest split st
 
     go : Dec (b .0 < getD cells (b .1 - W .c0) 0) → columnsLeft W border + shutBy answer ≡ columnsLeft W cells
     go (yes l) = ap (λ (x : AfterStep). columnsLeft W (x .border) + shutBy (x .answer)) (S .is ∙ high-is m top keys W b cells l) ∙ add-zero (columnsLeft W cells)
     go (no h) =
-        let fresh : ¬ Out W top (pixelRecord m keys) b b = λ z. h (skip-iff (U .inside) (tiling (U .sound)) K o .1 z) in
+        let fresh : ¬ Out W top (pixelTile m keys) b b = λ z. h (skip-iff (U .inside) (tiles (U .sound)) K o .1 z) in
         ap (λ (x : AfterStep). columnsLeft W (x .border) + shutBy (x .answer)) (S .is ∙ low-is m top keys W b cells (omega (arith, h)))
-        ∙ left-raised (reach W top (pixelExponent m keys) b) cells (K .inside) (U .wide) (λ c x y e. omega (arith, fresh-high (U .inside) (tiling (U .sound)) K fresh o x y e, K .inside))
+        ∙ left-raised (reach W top (pixelExponent m keys) b) cells (K .inside) (U .wide) (λ c x y e. omega (arith, fresh-high (U .inside) (tiles (U .sound)) K fresh o x y e, K .inside))
 
 -- a step, as it is made
 pub stepped-on : {m top : ℕ} {keys : List ℕ} {W : Window} {b : Px} (cells : List ℕ) → Usable m top keys W (length cells) → Corner W top b
@@ -128,4 +128,4 @@ stepped-on {m} {top} {keys} {W} {b} cells U K = go (decLt (b .0) (getD cells (b 
 
     go : Dec (b .0 < getD cells (b .1 - W .c0) 0) → (answer : Stepped) × (border : List ℕ) × Step m top keys W b cells answer border
     go (yes l) = (stepped.Skipped, cells, step-skipped ready cells l)
-    go (no h) = (_, _, step-opened ready cells (omega (arith, h)) (U .wide) refl refl refl refl refl)
+    go (no h) = (_, _, step-opened ready cells (omega (arith, h)) (U .wide) refl refl refl refl)

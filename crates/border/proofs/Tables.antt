@@ -13,19 +13,21 @@ use Rattle.answers.specs.declared.Verdict.the-variants as verdict-of
 use Rattle.answers.specs.Rows.{row, answer, verdict}
 use Rattle.answers.specs.Cells.{overwrite}
 use Rattle.answers.proofs.Laws as Answers
-use Rattle.answers.proofs.Laws.{answer-none, answer-part, answer-append, row-held, row-clear, on-passed, on-refused, append-passed, append-refused, passed-row, passed-append, overwrite-length, overwrite-part, overwrite-again}
+use Rattle.answers.proofs.Laws.{answer-none, answer-part, answer-append, row-held, row-clear, on-passed, on-refused, append-passed, append-refused, passed-row, passed-append}
+use Rattle.answers.proofs.Laws.{overwrite-length, overwrite-part, overwrite-again}
 use Rattle.window.specs.declared.Window.{Window}
 use Rattle.window.specs.Window.{outside, windowRows}
 use Rattle.window.proofs.Laws.{window-refused, window-passed, window-inside}
 use Rattle.map.specs.Check.{mapRows}
-use Rattle.map.proofs.Laws.{sound-map}
+use Rattle.map.specs.Sound.{Follow}
+use Rattle.map.proofs.Laws.{sound-map, spaced}
 use Rattle.border.specs.declared.Opened.the-variants.{Done, Refused}
 use Rattle.border.specs.declared.Totals.{Totals}
 use Rattle.border.specs.Openings.{openings, handsOut, cellsOf}
 use Rattle.border.specs.Cells.{fitting}
 use Rattle.border.specs.Step.{Usable}
 use Rattle.border.specs.Open.{useRows, spent, Passed, After, after, usedFor, openOf, accepted}
-use Rattle.border.proofs.Fold.{cells-length}
+use Rattle.border.proofs.Hands.{cells-length}
 
 -- ---- refusals 1 to 7
 
@@ -61,10 +63,15 @@ module _ (m : ℕ) (keys : List ℕ) (classes : ℕ) (W : Window) (cells : ℕ) 
         small = s .sizes .small;
         cap = omega arith;
         few = s .sizes .most;
-        sound = s .records;
+        sound = spaced (s .records);
         inside = window-inside m W (b .0);
         wide = ltb-false cells (W .w) (passed-row (ltb cells (W .w)) 7 (W .w) [] .0 (b .1) .0);
       }
+
+  -- the map is whole
+  pub use-whole : verdict (useRows m keys classes W cells) ≡ verdict-of.Passed → Follow m 0 keys
+  unfolding useRows
+  use-whole e = sound-map m keys classes .0 (passed-append (mapRows m keys classes) _ .0 e .0) .records
 
   pub use-same : verdict (useRows m keys classes W cells) ≡ verdict-of.Passed → length keys ≡ classes
   unfolding useRows

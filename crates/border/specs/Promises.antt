@@ -2,9 +2,10 @@
 -- Assumes nothing.
 use mathlib.Core.Path.{_≡_}
 use mathlib.Core.List.{List, [], _∷_, _++_, List·Memᴰ}
-use Prim.Native.Nat.{ℕ, _*_}
+use Prim.Native.Nat.{ℕ, _*_, _<_}
+use lib.Dec.{ltb}
 use lib.ListN.{length, take}
-use Rattle.lists.specs.Lists.{upFrom}
+use Rattle.lists.specs.Lists.{upFrom, keep}
 use Rattle.window.specs.declared.Window.{Window}
 use Rattle.window.specs.Window.{Px, In, Inside}
 use Rattle.window.specs.Decompose.{keyOf, keysOf}
@@ -12,11 +13,15 @@ use Rattle.map.specs.Sound.{Follow}
 use Rattle.map.specs.Records.{pixelRecord}
 use Rattle.border.specs.Openings.{met, Opening, opening, openings, handsOut, cellsOf}
 
--- record n overlaps the window: they share a pixel
+-- the window has a pixel of record n. Of a pixel in no record `pixelRecord` is the number of records: where the map has gaps, that number may touch the window too
 pub record Touches (m : ℕ) (keys : List ℕ) (W : Window) (n : ℕ) : Type 0 where
   pub at : Px
   pub inside : In W at
   pub is : pixelRecord m keys (at .0) (at .1) ≡ n
+
+-- record n overlaps the window: they share a pixel, and n is the number of a record. In a whole map every pixel is in a record, and `Touches` says it alone
+abbrev pub Overlaps : ℕ → List ℕ → Window → ℕ → Type 0
+Overlaps m keys W n = Touches m keys W n × (n < length keys)
 
 -- the opening of the block with corner b
 abbrev pub openingAt : ℕ → ℕ → List ℕ → Window → Px → Opening
@@ -37,6 +42,10 @@ pub record HandedOut (os : List Opening) (n : ℕ) : Type 0 where
   pub listed : List·Memᴰ by os
   pub hands : List·Memᴰ n (hands by)
 
+-- the openings that bring a record: where the map has gaps, a block that overlaps no record is opened too
+unfoldable pub bringing : List Opening → List Opening
+bringing os = keep (λ o. ltb 0 (o .count)) os
+
 -- no record is handed out by both
 abbrev pub Apart : Opening → Opening → Type 0
 Apart o o′ = (n : ℕ) → List·Memᴰ n (hands o) → ¬ List·Memᴰ n (hands o′)
@@ -44,7 +53,7 @@ Apart o o′ = (n : ℕ) → List·Memᴰ n (hands o) → ¬ List·Memᴰ n (han
 -- these keys are those of maximal blocks, and each record that overlaps the window overlaps one of these blocks
 pub record Enough (m top : ℕ) (keys : List ℕ) (W : Window) (s : List ℕ) : Type 0 where
   pub blocks : (k : ℕ) → List·Memᴰ k s → List·Memᴰ k (keysOf m top W)
-  pub brings : (n : ℕ) → Touches m keys W n → (k : ℕ) × List·Memᴰ k s × List·Memᴰ n (met m keys k)
+  pub brings : (n : ℕ) → Overlaps m keys W n → (k : ℕ) × List·Memᴰ k s × List·Memᴰ n (met m keys k)
 
 -- what an accepted call tells: the map is sound, the window inside, and the answer counts the list that was written
 pub record Answered (m : ℕ) (keys : List ℕ) (W : Window) (count records : ℕ) (out : List ℕ) : Type 0 where

@@ -11,14 +11,12 @@ use Rattle.window.specs.declared.Window.{Window}
 use Rattle.window.specs.Window.{Px, In, Inside}
 use Rattle.window.specs.Blocks.{exponent, corner, maximal}
 use Rattle.window.specs.Decompose.{keyOf}
-use Rattle.map.specs.Sound.{Follow}
-use Rattle.key.specs.Form.{formOf}
-use Rattle.map.specs.Spans.{exponent as exponentIn}
-use Rattle.map.specs.Records.{SomeRecord, pixelExponent}
+use Rattle.map.specs.Sound.{Spaced}
+use Rattle.map.specs.Records.{pixelExponent}
 use Rattle.map.specs.Runs.{runOf}
 use Rattle.border.specs.declared.Stepped.{Stepped}
 use Rattle.border.specs.declared.Stepped.the-variants.{Skipped, Opened}
-use Rattle.border.specs.Border.{Stated, Handed, handedBy}
+use Rattle.border.specs.Border.{Stated, Covered}
 use Rattle.border.specs.Cells.{raised, closed}
 
 -- of the block with corner b and the record of b, by the exponents of records, the exponent of the larger
@@ -38,19 +36,19 @@ stepOf m top keys W b cells =
     let key = keyOf m top W b in
     let run = runOf m keys key in
     let n = reach W top (pixelExponent m keys) b in
-    cond (ltb (b .0) (getD cells (b .1 - W .c0) 0)) (afterStep Skipped cells) (afterStep (Opened key (run .first) (run .count) (closed W n b)) (raised W n b cells))
+    cond (ltb (b .0) (getD cells (b .1 - W .c0) 0)) (afterStep Skipped cells) (afterStep (Opened key (run .first) (run .count) n (closed W n b)) (raised W n b cells))
 
 -- b is the corner of a maximal block
 pub record Corner (W : Window) (top : ℕ) (b : Px) : Type 0 where
   pub inside : In W b
   pub own : corner W top b ≡ b
 
--- a sound map and a window inside it, with a border of so many cells
+-- a map, perhaps with gaps, and a window inside it, with a border of so many cells
 pub record Usable (m top : ℕ) (keys : List ℕ) (W : Window) (cells : ℕ) : Type 0 where
   pub small : m ≤ 12
   pub cap : top ≤ m
   pub few : length keys ≤ 65536
-  pub sound : Follow m 0 keys
+  pub sound : Spaced m 0 keys
   pub inside : Inside m W
   pub wide : W .w ≤ cells
 
@@ -60,15 +58,9 @@ pub record Ready (m top : ℕ) (keys : List ℕ) (W : Window) (b : Px) (i cells 
   pub corner : Corner W top b
   pub size : i ≡ exponent W top b
 
--- a block of this key and exponent i, and its first record: the record lies in the block, or around it where its key is below the block's
-pub record Nested (m : ℕ) (keys : List ℕ) (key i first : ℕ) : Type 0 where
-  pub is : SomeRecord m keys first
-  pub inner : key ≤ getD keys first 0 → exponentIn (formOf m (getD keys first 0)) ≤ i
-  pub outer : getD keys first 0 < key → i ≤ exponentIn (formOf m (getD keys first 0))
-
 -- what a step promises: for any cells, what it answers and leaves, and when it skips; and cells that are as stated before the step are so after it
 pub record Step (m top : ℕ) (keys : List ℕ) (W : Window) (b : Px) (cells : List ℕ) (answer : Stepped) (border : List ℕ) : Type 0 where
   pub is : afterStep answer border ≡ stepOf m top keys W b cells
   pub skips : (answer ≡ Skipped) ↔ (b .0 < getD cells (b .1 - W .c0) 0)
   pub stays : (before after : List Px) → maximal W top ≡ before ++ b ∷ after
-      → Stated W (Handed m keys (handedBy m top keys W before)) cells → Stated W (Handed m keys (handedBy m top keys W (before ++ b ∷ []))) border
+      → Stated W (Covered m top keys W before) cells → Stated W (Covered m top keys W (before ++ b ∷ [])) border

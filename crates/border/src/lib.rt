@@ -4,25 +4,24 @@ use map::Run;
 use window::Next;
 use window::Window;
 ghost use mathlib.Core.Path.{_≡_};
-ghost use Prim.Native.Nat.{max, _-_, _≤_};
-ghost use lib.ListN.{length, getD};
+ghost use Prim.Native.Nat.{_-_, _≤_};
+ghost use lib.ListN.{length};
 ghost use Rattle.answers.specs.Rows.{verdict};
-ghost use Rattle.key.specs.Form.{formOf};
 ghost use Rattle.key.specs.Spread.{spreads};
-ghost use Rattle.map.specs.Spans.{exponent};
 ghost use Rattle.window.specs.Window.{In, Inside};
 ghost use Rattle.border.specs.Cells.{filled, raised, closed, entered};
-ghost use Rattle.border.specs.Step.{Usable, Ready, Nested, Step};
+ghost use Rattle.border.specs.Step.{Usable, Ready, Step};
 ghost use Rattle.border.specs.Found.{walk, Reached, Finds};
 ghost use Rattle.border.specs.Open.{Passed, useRows, after, openOf};
 
-// What a step answers: the block was skipped, or opened, by its key, with so many records from the first on; that closed so many columns.
+// What a step answers: the block was skipped, or opened, by its key, with so many records from the first on, which reach so far; that closed so many columns.
 pub enum Stepped {
     Skipped,
     Opened {
         key: u32,
         first: u32,
         count: u32,
+        reach: u32,
         closed: u16,
     },
 }
@@ -43,6 +42,7 @@ pub enum Found {
         key: u32,
         first: u32,
         count: u32,
+        reach: u32,
         on: Walk,
     },
     End,
@@ -96,17 +96,6 @@ fn raise(window: Window, n: u32, row: u16, col: u16, border: &mut [u16]) -> u16
     to - from
 }
 
-// Of a block of this key and exponent i and its first record, the exponent of the larger. Only a record around the block is decoded.
-fn reach(m: u32, keys: &[u32], key: u32, first: u32, i: u32) -> u32
-    requires { ⌜ (m ≤ 12) × Nested m (now keys) key i first ⌝ }
-    ensures { λ r. ⌜ r ≡ max i (exponent (formOf m (getD (now (keys .entry)) first 0))) ⌝ }
-{
-    if key <= keys[first as usize] {
-        return i;
-    }
-    map::exponent_of(m, keys, first)
-}
-
 // One maximal block. What was handed out before is known by the border alone: the block is skipped when the cell of its corner's column is over its corner's row. Only a block that
 // is opened needs its key.
 pub fn step(
@@ -129,12 +118,12 @@ pub fn step(
     }
     let key = key::block_key(table, m, i, row, col);
     let run = map::records_of(table, m, keys, key, i);
-    let n = reach(m, keys, key, run.first, i);
-    let closed = raise(window, n, row, col, border);
+    let closed = raise(window, run.reach, row, col, border);
     Stepped::Opened {
         key,
         first: run.first,
         count: run.count,
+        reach: run.reach,
         closed,
     }
 }
@@ -200,6 +189,7 @@ pub fn next_opening(
             key,
             first,
             count,
+            reach,
             closed,
         } = stepped {
             return Found::Opening {
@@ -209,6 +199,7 @@ pub fn next_opening(
                 key,
                 first,
                 count,
+                reach,
                 on: walk_from(row, after, left - closed),
             };
         }
