@@ -4,7 +4,7 @@ use mathlib.Core.Path.{_≡_, refl}
 use mathlib.Core.List.{List, [], _∷_, _++_}
 use Prim.Native.Nat.{ℕ}
 use lib.ListN.{length, take, drop, replicate}
-use Rattle.lists.specs.Lists.{upFrom, any, keep, before, howMany}
+use Rattle.lists.specs.Lists.{upFrom, any, keep, before, howMany, greatest}
 use Rattle.answers.specs.declared.Verdict.the-variants as verdict-of
 use Rattle.answers.specs.Rows.{answer, verdict}
 use Rattle.answers.specs.Sizes.{wrongCount, sizeRows}
@@ -15,12 +15,12 @@ use Rattle.key.specs.Key.{pixelKey, blockKey}
 use Rattle.key.specs.Form.{from, formOf}
 use Rattle.window.specs.declared.Window.{Window}
 use Rattle.window.specs.Window.{window, beyond, outside, windowRows}
-use Rattle.window.specs.Blocks.{floor, lies, fits, greatest, exponent, corner, across, rows, isCorner, maximal}
+use Rattle.window.specs.Blocks.{floor, lies, fits, exponent, corner, across, rows, isCorner, maximal}
 use Rattle.window.specs.Decompose.{keyOf, keysOf}
 use Rattle.map.specs.declared.Checked.the-variants as checked
 use Rattle.map.specs.Spans as spans
-use Rattle.map.specs.Check.{recordRows, mapRows, checkOf}
-use Rattle.map.specs.Records.{recordOf}
+use Rattle.map.specs.Check.{late, rowsFrom, mapRows, checkOf}
+use Rattle.map.specs.Records.{recordOf, exponentOf}
 use Rattle.map.specs.Runs.{runOf}
 use Rattle.border.specs.Openings.{indices, within, isHanded, opening, openFrom, openings, handsOut}
 use Rattle.border.specs.Found.{made}
@@ -67,7 +67,7 @@ pub record Table : Type 0 where
   pub p12-accepted : verdict (useRows 2 keys 7 (window 2 0 2 1) 1) ≡ verdict-of.Passed
 
 pub table : Table
-unfolding answer wrongCount sizeRows overwrite upFrom spreadTo spread place pixelKey blockKey from formOf beyond outside windowRows keep floor lies fits greatest exponent corner across rows isCorner maximal keyOf keysOf spans.malformed spans.exponent spans.start spans.end spans.holds spans.overlap recordRows mapRows checkOf before howMany recordOf runOf any indices within isHanded opening openFrom openings handsOut useRows spent hasClass total totals around inside selected allSelected selection usedFor reportOf selectOf bytes bytesOf header fileOf
+unfolding answer wrongCount sizeRows overwrite upFrom spreadTo spread place pixelKey blockKey from formOf beyond outside windowRows keep floor lies fits greatest exponent corner across rows isCorner maximal keyOf keysOf spans.malformed spans.exponent spans.start spans.end spans.holds spans.overlap late rowsFrom mapRows checkOf before howMany recordOf exponentOf runOf any indices within isHanded opening openFrom openings handsOut useRows spent hasClass total totals around inside selected allSelected selection usedFor reportOf selectOf bytes bytesOf header fileOf
 table = record {
   p1-length = refl;
   p1-header = refl;

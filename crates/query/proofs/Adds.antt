@@ -9,6 +9,7 @@ use Rattle.lists.specs.Lists.{upFrom}
 use Rattle.lists.proofs.Laws.{ordered-part}
 use Rattle.window.specs.declared.Window.{Window}
 use Rattle.window.specs.Window.{Px}
+use Rattle.map.specs.Sound.{Follow}
 use Rattle.border.specs.declared.Walk.{Walk}
 use Rattle.border.specs.declared.Found.the-variants as found
 use Rattle.border.specs.Openings.{Opening}
@@ -32,9 +33,9 @@ module _ {m : ℕ} {keys : List ℕ} (classes : List ℕ) {W : Window} where
   unfolding gathered
   totalling-first F = record { done = []; finding = F; is = rw hands-none }
 
-  module _ {room : ℕ} (U : Usable m m keys W room) {border₀ border cells : List ℕ} {at : Walk} (T : Totalling m keys classes W border₀ border cells at) where
-    module _ {row col i key first count : ℕ} {on : Walk} {border′ : List ℕ} (f : Finds m m keys W at border (found.Opening row col i key first count on) border′) where
-      pub totalling-hands : {n : ℕ} → length keys ≡ n → Hands m keys n W (row, col) key i first count
+  module _ {room : ℕ} (U : Usable m m keys W room) (whole : Follow m 0 keys) {border₀ border cells : List ℕ} {at : Walk} (T : Totalling m keys classes W border₀ border cells at) where
+    module _ {row col i key first count far : ℕ} {on : Walk} {border′ : List ℕ} (f : Finds m m keys W at border (found.Opening row col i key first count far on) border′) where
+      pub totalling-hands : {n : ℕ} → length keys ≡ n → Hands m keys n W (row, col) key i first count far
       totalling-hands e =
           let o = finds-opens U (T .finding) f in
           let x = finds-exponent f in
@@ -42,6 +43,7 @@ module _ {m : ℕ} {keys : List ℕ} (classes : List ℕ) {W : Window} where
             top = m;
             cells = room;
             given = U;
+            whole = whole;
             corner = o .corner;
             named = x .1;
             size = x .0;
@@ -67,4 +69,4 @@ module _ {m : ℕ} {keys : List ℕ} (classes : List ℕ) {W : Window} where
       }
 
     pub totalling-last : {border′ : List ℕ} → Finds m m keys W at border found.End border′ → cells ≡ totals m keys classes W
-    totalling-last f = T .is ∙ rw (← finding-last (T .finding) f .0) (openings-gathered (U .sound) (U .inside) (U .cap) classes)
+    totalling-last f = T .is ∙ rw (← finding-last (T .finding) f .0) (openings-gathered whole (U .inside) (U .cap) classes)

@@ -2,7 +2,7 @@
 -- that lies in the window is whole.
 -- Assumes nothing.
 use mathlib.Core.Path.{_≡_, refl, sym, ap, ap₂, _∙_}
-use mathlib.Core.Logic.{_↔_, _≢_}
+use mathlib.Core.Logic.{_↔_}
 use mathlib.Core.Bool.{Bool, true, false, cond, _&&_}
 use mathlib.Core.List.{List, List·Memᴰ}
 use Prim.Native.Nat.{ℕ, zero, suc, _+_, _*_, _^_, _≤_, _<_}
@@ -10,31 +10,30 @@ use native.Mathlib.Nat.{mul-le-mul}
 use native.Mathlib.Decide.{decLe, decLt}
 use native.Mathlib.Omega.{arith}
 use lib.Dec.{eqb}
-use lib.ListN.{getD}
-use lib.Pow.{pow-add}
+use lib.ListN.{length, getD}
 use borrow.Author.Tests.{eqb-true, eq-eqb}
 use Rattle.lists.specs.Lists.{upFrom, howMany}
 use Rattle.lists.proofs.Tests.{never, both, agree}
 use Rattle.lists.proofs.Laws.{up-none, up-next, many-empty, many-next, many-same}
 use Rattle.key.specs.Picture.{place}
 use Rattle.key.specs.Form.{formOf}
-use Rattle.key.specs.Blocks.{Among}
-use Rattle.key.proofs.Laws.{pow-most, four}
+use Rattle.key.specs.Blocks.{Names, Among}
+use Rattle.key.proofs.Laws.{pow-least, pow-most, size-le}
 use Rattle.window.specs.declared.Window.{Window}
 use Rattle.window.specs.Window.{Px, In, Inside}
 use Rattle.window.specs.Blocks
 use Rattle.window.specs.Blocks.{floor, Same, Fits}
 use Rattle.window.specs.Decompose.{keyOf}
-use Rattle.window.proofs.Laws.{floor-le, floor-lt, floor-eq, same-div, fits-same, fits-down, exponent-fits, corner→same, pixel-in, key-named, rows-count}
+use Rattle.window.proofs.Laws.{floor-le, floor-lt, floor-eq, same-div, fits-same, fits-down, exponent-fits, corner→same, pixel-in, key-named, rows-count, side-square}
 use Rattle.map.specs.declared.Run.{Run}
 use Rattle.map.specs.Spans.{exponent}
-use Rattle.map.specs.Sound.{Follow}
-use Rattle.map.specs.Records.{pixelRecord, pixelExponent}
-use Rattle.map.specs.Runs.{runOf, Meets}
-use Rattle.map.proofs.Laws.{tiling, record-at, block-records, inner-inside, exponent-record, exponent-is}
+use Rattle.map.specs.Sound.{Spaced}
+use Rattle.map.specs.Records.{Holder, pixelRecord, pixelExponent}
+use Rattle.map.specs.Runs.{runOf}
+use Rattle.map.proofs.Laws.{tiles, record-at, record-of, exponent-record, tile-record, record-tile, reach-within, reach-beyond, exponent-is}
 use Rattle.border.specs.Openings.{met}
 use Rattle.border.specs.Step.{Corner}
-use Rattle.border.proofs.Laws.{met-in, size-le, met-pixels, met-first}
+use Rattle.border.proofs.Laws.{met-in, met-pixels}
 use Rattle.query.specs.Classes.{pixels}
 use Rattle.query.specs.Gather.{area, shared, clipped}
 use Rattle.query.proofs.Totals.{in-pixels}
@@ -85,60 +84,58 @@ block-count W e p = rows-count (around (p .0)) (around (p .1)) (W .r0) (W .c0) (
     along : (y a n : ℕ) → howMany (around y) (upFrom a n) ≡ shared a n (floor e y) (2 ^ e)
     along y = up-count (around y) (λ x. floor-among e x y)
 
-module _ {m : ℕ} {keys : List ℕ} (F : Follow m 0 keys) {W : Window} (I : Inside m W) where
-  -- the window's part of p's record is its part of p's block of that record's exponent
-  pub area-around : {p : Px} → In W p → area m keys W (pixelRecord m keys (p .0) (p .1)) ≡ clipped W (pixelExponent m keys (p .0) (p .1)) p
+module _ {m : ℕ} {keys : List ℕ} (F : Spaced m 0 keys) {W : Window} (I : Inside m W) where
+  -- the window's part of p's record, if it has one, is its part of p's block of that record's exponent
+  pub area-around : {p : Px} → In W p → pixelRecord m keys (p .0) (p .1) < length keys → area m keys W (pixelRecord m keys (p .0) (p .1)) ≡ clipped W (pixelExponent m keys (p .0) (p .1)) p
   unfolding area
-  area-around {p} v = many-same (pixels W) (λ q l. agree _ _ (same q (in-pixels W .0 l))) ∙ block-count W (pixelExponent m keys (p .0) (p .1)) p
+  area-around {p} v l = many-same (pixels W) (λ q k. agree _ _ (same q (in-pixels W .0 k))) ∙ block-count W (pixelExponent m keys (p .0) (p .1)) p
     where
       same : (q : Px) → In W q → (eqb (pixelRecord m keys (q .0) (q .1)) (pixelRecord m keys (p .0) (p .1)) ≡ true) ↔ (inBlock (pixelExponent m keys (p .0) (p .1)) p q ≡ true)
       same q u =
-          let one = tiling F .law (pixel-in I v) (pixel-in I u) in
+          let one = tiles F .law (pixel-in I v) (pixel-in I u) in
+          let own = tile-record m keys (place (p .0) (p .1)) l in
+          let other = record-tile m keys (place (q .0) (q .1)) l in
           let block = in-block (pixelExponent m keys (p .0) (p .1)) p q in
-          (λ t. block .1 (same-div .1 (one .0 (sym (eqb-true _ _ t)))), λ t. eq-eqb _ _ (sym (one .1 (same-div .0 (block .0 t)))))
+          (λ t. block .1 (same-div .1 (one .0 (own ∙ sym (other .0 (eqb-true _ _ t))))), λ t. eq-eqb _ _ (other .1 (sym (one .1 (same-div .0 (block .0 t))) ∙ own)))
 
   -- the same by the record's number
-  pub area-at : {p : Px} {n : ℕ} → In W p → pixelRecord m keys (p .0) (p .1) ≡ n → area m keys W n ≡ clipped W (exponent (formOf m (getD keys n 0))) p
-  area-at {p} v e = rw (← e, ← exponent-record m keys (place (p .0) (p .1))) (area-around v)
+  pub area-at : {p : Px} {n : ℕ} → In W p → pixelRecord m keys (p .0) (p .1) ≡ n → n < length keys → area m keys W n ≡ clipped W (exponent (formOf m (getD keys n 0))) p
+  area-at {p} {n} v e l =
+      let h : pixelRecord m keys (p .0) (p .1) < length keys = rw e l in
+      rw (← e, ← exponent-record m keys (place (p .0) (p .1)) h) (area-around v h)
 
 -- ---- the records of a maximal block
 
 -- of a block that lies in the window nothing is cut off
 clipped-whole : {W : Window} {e : ℕ} {p : Px} → Fits W e p → clipped W e p ≡ 4 ^ e
 unfolding clipped shared
-clipped-whole {W} {e} {p} f =
-    ap₂ _*_ (omega arith) (omega arith) ∙ sym (pow-add 2 e e) ∙ ap (λ (k : ℕ). 2 ^ k) (omega arith) ∙ four e
+clipped-whole {W} {e} {p} f = ap₂ _*_ (omega arith) (omega arith) ∙ side-square e
 
-module _ {m top : ℕ} {keys : List ℕ} (F : Follow m 0 keys) {W : Window} (I : Inside m W) (small : top ≤ m) {b : Px} (C : Corner W top b) {n : ℕ}
-    (l : List·Memᴰ n (met m keys (keyOf m top W b))) where
+module _ {m top : ℕ} {keys : List ℕ} (F : Spaced m 0 keys) {W : Window} (I : Inside m W) (small : top ≤ m) {b : Px} (C : Corner W top b) where
   abbrev found : Run
   found = runOf m keys (keyOf m top W b)
 
-  meets : Meets m keys (Blocks.exponent W top b) (place (b .0) (b .1)) (found .first) (found .count)
-  meets = block-records F (key-named I small (C .inside) (C .own))
+  named : Names m (keyOf m top W b) (Blocks.exponent W top b) (place (b .0) (b .1))
+  named = key-named I small (C .inside) (C .own)
 
-  among : Among (found .first) (found .count) n
-  among = met-in m keys (keyOf m top W b) n .0 l
-
-  -- one of several lies in the block
-  met-smaller : found .count ≢ 1 → exponent (formOf m (getD keys n 0)) ≤ Blocks.exponent W top b
-  met-smaller d =
-      let r = record-at F n (omega (arith, among, meets .room)) in
-      rw (exponent-is (r .is .names)) (size-le (omega (arith, inner-inside F (key-named I small (C .inside) (C .own)) meets d among (r .is))))
-
-  -- and so in the window
-  pub area-inside : found .count ≢ 1 → area m keys W n ≡ 4 ^ exponent (formOf m (getD keys n 0))
-  area-inside d =
-      let o = met-pixels F I small C n .0 l in
+  -- where they reach no further than it, each lies in it, and so in the window
+  pub area-inside : found .reach ≡ Blocks.exponent W top b → {n : ℕ} → List·Memᴰ n (met m keys (keyOf m top W b)) → area m keys W n ≡ 4 ^ exponent (formOf m (getD keys n 0))
+  area-inside e {n} l =
+      let q = met-pixels F I small C n .0 l in
+      let o = q .0 in
+      let r = record-at F n (q .1) in
+      let h = reach-within F named e (met-in m keys (keyOf m top W b) n .0 l) (r .is) in
+      let smaller : exponent (formOf m (getD keys n 0)) ≤ Blocks.exponent W top b = rw (exponent-is (r .is .names)) (size-le _ _ .1 (omega arith)) in
       let s = corner→same W top (C .inside) (o .inside) (C .own ∙ sym (o .block)) in
-      area-at F I (o .inside) (o .is) ∙ clipped-whole (fits-down (met-smaller d) (fits-same s (exponent-fits W top (C .inside))))
+      area-at F I (o .inside) (record-tile m keys _ (q .1) .1 (o .is)) (q .1) ∙ clipped-whole (fits-down smaller (fits-same s (exponent-fits W top (C .inside))))
 
-  -- a single one is that of the corner
-  pub met-corner : found .count ≡ 1 → n ≡ pixelRecord m keys (b .0) (b .1)
-  met-corner e = omega (arith, among, met-first F I small C)
-
-  pub area-corner : found .count ≡ 1 → area m keys W n ≡ clipped W (exponent (formOf m (getD keys n 0))) b
-  area-corner e = area-at F I (C .inside) (sym (met-corner e))
+  -- one that reaches further is that of the corner
+  pub area-corner : Blocks.exponent W top b < found .reach → area m keys W (found .first) ≡ clipped W (found .reach) b
+  area-corner l =
+      let A = reach-beyond F named l in
+      let h : Among (A .start) (4 ^ found .reach) (place (b .0) (b .1)) = omega (arith, A .around, pow-least 3 (Blocks.exponent W top b)) in
+      let H : Holder m keys (place (b .0) (b .1)) = record { index = found .first; exponent = found .reach; start = A .start; is = A .is; has = h } in
+      area-at F I (C .inside) (record-of F H) (A .is .within) ∙ ap (λ (e : ℕ). clipped W e b) (exponent-is (A .is .names))
 
 -- ---- what a program needs of it
 

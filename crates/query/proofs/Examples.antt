@@ -4,7 +4,7 @@ use mathlib.Core.Path.{_≡_, refl}
 use mathlib.Core.List.{List, [], _∷_}
 use Prim.Native.Nat.{ℕ}
 use lib.ListN.{take, replicate}
-use Rattle.lists.specs.Lists.{upFrom, any, keep, before, howMany}
+use Rattle.lists.specs.Lists.{upFrom, any, keep, before, howMany, greatest}
 use Rattle.answers.specs.Rows.{answer}
 use Rattle.answers.specs.Sizes.{wrongCount, sizeRows}
 use Rattle.answers.specs.Cells.{overwrite}
@@ -14,10 +14,10 @@ use Rattle.key.specs.Key.{pixelKey, blockKey}
 use Rattle.key.specs.Form.{from, formOf}
 use Rattle.window.specs.declared.Window.{Window}
 use Rattle.window.specs.Window.{window, beyond, outside, windowRows}
-use Rattle.window.specs.Blocks.{floor, lies, fits, greatest, exponent, corner, across, rows, isCorner, maximal}
+use Rattle.window.specs.Blocks.{floor, lies, fits, exponent, corner, across, rows, isCorner, maximal}
 use Rattle.window.specs.Decompose.{keyOf, keysOf}
 use Rattle.map.specs.Spans as spans
-use Rattle.map.specs.Check.{recordRows, mapRows}
+use Rattle.map.specs.Check.{late, rowsFrom, mapRows}
 use Rattle.map.specs.Records.{recordOf}
 use Rattle.border.specs.Openings.{within}
 use Rattle.border.specs.Open.{useRows, spent, after, usedFor}
@@ -63,7 +63,7 @@ pub record Examples : Type 0 where
   pub other : selected 2 keys classes 1 13 ≡ []
 
 pub examples : Examples
-unfolding answer wrongCount sizeRows overwrite upFrom spreadTo spread place pixelKey blockKey from formOf beyond outside windowRows keep floor lies fits greatest exponent corner across rows isCorner maximal keyOf keysOf spans.malformed spans.exponent spans.start spans.end spans.holds spans.overlap recordRows mapRows before howMany recordOf any within useRows spent hasClass exists total totals around inside selected allSelected selection existing existOf usedFor reportOf selectOf
+unfolding answer wrongCount sizeRows overwrite upFrom spreadTo spread place pixelKey blockKey from formOf beyond outside windowRows keep floor lies fits greatest exponent corner across rows isCorner maximal keyOf keysOf spans.malformed spans.exponent spans.start spans.end spans.holds spans.overlap late rowsFrom mapRows before howMany recordOf any within useRows spent hasClass exists total totals around inside selected allSelected selection existing existOf usedFor reportOf selectOf
 examples = record {
   yes = refl;
   no = refl;

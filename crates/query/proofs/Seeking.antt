@@ -13,6 +13,7 @@ use Rattle.border.specs.declared.Walk.{Walk}
 use Rattle.border.specs.declared.Found.the-variants as found
 use Rattle.border.specs.Openings.{Opening, openings}
 use Rattle.border.specs.Promises.{allHands}
+use Rattle.map.specs.Sound.{Follow}
 use Rattle.border.specs.Step.{Usable}
 use Rattle.border.specs.Found.{made, madeFrom, walk, spot, Finds}
 use Rattle.border.proofs.Finding.{Finding, finding-next, finding-last}
@@ -52,11 +53,11 @@ module _ {m : ℕ} {keys : List ℕ} (classes : List ℕ) {W : Window} (class : 
   pub seeking-first : {border : List ℕ} → Finding m m keys W border border (walk (W .r0) (W .c0) (W .w)) [] → Seeking m keys classes W class border border (walk (W .r0) (W .c0) (W .w))
   seeking-first F = record { done = []; finding = F; none = any-no-opening (classed classes class) }
 
-  module _ {n : ℕ} (U : Usable m m keys W n) {border₀ border : List ℕ} {at : Walk} (S : Seeking m keys classes W class border₀ border at) where
+  module _ {n : ℕ} (U : Usable m m keys W n) (F : Follow m 0 keys) {border₀ border : List ℕ} {at : Walk} (S : Seeking m keys classes W class border₀ border at) where
     whole : exists m keys classes W class ≡ any (classed classes class) (allHands (openings m m keys W))
-    whole = exists-hands (U .sound) (U .inside) (U .cap) classes class
+    whole = exists-hands F (U .inside) (U .cap) classes class
 
-    module _ {row col i key first count : ℕ} {on : Walk} {border′ : List ℕ} (f : Finds m m keys W at border (found.Opening row col i key first count on) border′) where
+    module _ {row col i key first count far : ℕ} {on : Walk} {border′ : List ℕ} (f : Finds m m keys W at border (found.Opening row col i key first count far on) border′) where
       pub seeking-next : any (classed classes class) (upFrom first count) ≡ false → Seeking m keys classes W class border₀ border′ on
       seeking-next e = record {
         done = S .done ++ (made key first count ∷ []);

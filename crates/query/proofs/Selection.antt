@@ -1,208 +1,35 @@
--- What is selected from a window: block by block, no key twice, no more keys than maximal blocks and records, and blocks that hold exactly the window's pixels of the class.
--- Each selected key is that of a block which lies in a record of the class and in a maximal block; and maximal blocks share no pixel.
+-- What is selected from a window: no key twice, no more keys than maximal blocks and records, and blocks that hold exactly the window's pixels of the class. Maximal blocks share no
+-- pixel.
 -- Assumes nothing.
-use mathlib.Core.Path.{_≡_, refl, sym, ap, _∙_, subst}
+use mathlib.Core.Path.{_≡_, refl, sym, _∙_, subst}
 use mathlib.Core.Logic.{_↔_, _⊎_, inl, inr, _≢_}
 use mathlib.Core.Bool.{true}
-use mathlib.Core.List.{List, [], _∷_, _++_, append-assoc, append-nil, map, map-append, List·Memᴰ, List·Memᴰ·head, List·Memᴰ·tail, List·Memᴰ·not-nil, List·Memᴰ·eq-of-singleton, List·Memᴰ·append-cases, Memᴰ·append-left, Memᴰ·append-right, Memᴰ·cast, Memᴰ·map, Memᴰ·of-map}
-use Prim.Native.Nat.{ℕ, _+_, _*_, _^_, _≤_, _<_}
-use native.Mathlib.Decide.{decLt}
+use mathlib.Core.List.{List, _∷_, _++_, map, List·Memᴰ, List·Memᴰ·head, List·Memᴰ·tail, Memᴰ·append-left, Memᴰ·append-right, Memᴰ·cast, Memᴰ·map, Memᴰ·of-map}
+use Prim.Native.Nat.{ℕ, _+_, _*_, _/_, _^_, _≤_, _<_}
 use native.Mathlib.Omega.{arith}
 use lib.ListN.{length, getD, length-map, length-append}
-use Rattle.lists.specs.Lists.{upFrom, keep, Ordered, none, more}
-use Rattle.lists.proofs.Laws.{ordered-append, distinct-map, pigeon, up-in, up-distinct, keep-in, keep-true, in-keep, ordered-keep, getD-in}
+use Rattle.lists.specs.Lists.{Ordered, none, more}
+use Rattle.lists.proofs.Laws.{ordered-append, pigeon, getD-in}
 use Rattle.key.specs.Form.{formOf}
 use Rattle.key.specs.Picture.{place, PixelAt}
-use Rattle.key.specs.Blocks.{Names, Among, Inside as Covers, Stand, within as lies-in, around as stands-around, after, before}
-use Rattle.key.proofs.Laws.{one-block, block-lies, blocks-stand, place-onto, pow-least}
+use Rattle.key.specs.Blocks.{Names, Among}
+use Rattle.key.proofs.Laws.{one-block, block-lies, place-onto, pow-least}
 use Rattle.window.specs.declared.Window.{Window}
 use Rattle.window.specs.Window.{Px, In, Inside}
 use Rattle.window.specs.Blocks.{exponent, maximal, Before}
 use Rattle.window.specs.Decompose.{keyOf}
-use Rattle.window.proofs.Laws.{blocks-few, before-irrefl, →listed, listed-ordered, block-of, block-one, keys-of, key-named, pixel-in, maximal-most}
-use Rattle.map.specs.Sound.{Follow}
+use Rattle.window.proofs.Laws.{blocks-few, blocks-capped, before-irrefl, →listed, listed-ordered, block-of, block-one, key-named, pixel-in, maximal-most}
+use Rattle.map.specs.Sound.{Follow, Spaced}
 use Rattle.map.specs.Spans.{holds}
-use Rattle.map.specs.Records.{Record, Holder, pixelRecord}
-use Rattle.map.proofs.Laws.{record-at, one-holder, keys-rise, record-of, pixel-holder, holds-is}
+use Rattle.map.specs.Records.{Holder, pixelRecord}
+use Rattle.map.proofs.Laws.{spaced, record-of, pixel-holder, holds-is}
 use Rattle.border.specs.Step.{Corner}
 use Rattle.border.proofs.Laws.{spans, listed-corner}
-use Rattle.query.specs.Select.{inside, selected, allSelected, selection}
-use Rattle.query.proofs.Picked.{around-is, inside-is, Choice, whole, parts, choice}
+use Rattle.query.specs.Select.{selected, selection}
+use Rattle.query.proofs.Blockwise.{all-none, all-cons, all-in, in-all, selectedBy, selection-is}
+use Rattle.query.proofs.Selected.{Part, selected-part, selected-place, selected-one, selected-once}
 
--- ---- block by block
-
-module _ (m : ℕ) (keys classes : List ℕ) (class : ℕ) where
-  pub all-none : allSelected m keys classes class [] ≡ []
-  unfolding allSelected
-  all-none = refl
-
-  pub all-cons : (k : ℕ) (ks : List ℕ) → allSelected m keys classes class (k ∷ ks) ≡ selected m keys classes class k ++ allSelected m keys classes class ks
-  unfolding allSelected
-  all-cons k ks = refl
-
-  pub all-append : (ks ks′ : List ℕ) → allSelected m keys classes class (ks ++ ks′) ≡ allSelected m keys classes class ks ++ allSelected m keys classes class ks′
-  unfolding allSelected
-  all-append [] ks′ = refl
-  all-append (k ∷ ks) ks′ = rw (all-append ks ks′) (sym (append-assoc (selected m keys classes class k) (allSelected m keys classes class ks) (allSelected m keys classes class ks′)))
-
-  -- from which block
-  all-in : (ks : List ℕ) {x : ℕ} → List·Memᴰ x (allSelected m keys classes class ks) → (k : ℕ) × List·Memᴰ k ks × List·Memᴰ x (selected m keys classes class k)
-  unfolding allSelected
-  all-in [] l = absurd (List·Memᴰ·not-nil l)
-  all-in (k ∷ ks) {x} l = go (all-in ks) (List·Memᴰ·append-cases (selected m keys classes class k) l)
-    where
-      go : (List·Memᴰ x (allSelected m keys classes class ks) → (j : ℕ) × List·Memᴰ j ks × List·Memᴰ x (selected m keys classes class j))
-          → List·Memᴰ x (selected m keys classes class k) ⊎ List·Memᴰ x (allSelected m keys classes class ks)
-          → (j : ℕ) × List·Memᴰ j (k ∷ ks) × List·Memᴰ x (selected m keys classes class j)
-      go ih (inl n) = (k, List·Memᴰ·head refl, n)
-      go ih (inr n) = let t = ih n in (t .0, List·Memᴰ·tail (t .1), t .2)
-
-  in-all : {ks : List ℕ} {k x : ℕ} → List·Memᴰ k ks → List·Memᴰ x (selected m keys classes class k) → List·Memᴰ x (allSelected m keys classes class ks)
-  unfolding allSelected
-  in-all {x = x} (List·Memᴰ·head {xs = ks} e) n = Memᴰ·append-left (allSelected m keys classes class ks) (rw e at n)
-  in-all (List·Memᴰ·tail {x = j} l) n = Memᴰ·append-right (selected m keys classes class j) (in-all l n)
-
-  module _ (top : ℕ) (W : Window) where
-    abbrev pub selectedBy : List Px → List ℕ
-    selectedBy bs = allSelected m keys classes class (map (keyOf m top W) bs)
-
-    pub selection-is : selection m top keys classes W class ≡ selectedBy (maximal W top)
-    unfolding selection
-    selection-is = rw (keys-of m top W)
-
-    -- one block more
-    pub selected-snoc : (past : List Px) (b : Px) → selectedBy (past ++ (b ∷ [])) ≡ selectedBy past ++ selected m keys classes class (keyOf m top W b)
-    selected-snoc past b =
-        rw (map-append (keyOf m top W) past (b ∷ []), all-append (map (keyOf m top W) past) (keyOf m top W b ∷ []), all-cons (keyOf m top W b) [], all-none)
-        (ap (λ (l : List ℕ). selectedBy past ++ l) (append-nil (selected m keys classes class (keyOf m top W b))))
-
-    -- what is past and what one block gives are of the whole
-    pub selected-room : (past : List Px) (b : Px) (rest : List Px) → maximal W top ≡ past ++ b ∷ rest
-        → length (selectedBy past) + length (selected m keys classes class (keyOf m top W b)) ≤ length (selection m top keys classes W class)
-    selected-room past b rest e =
-        rw (selection-is, e, map-append (keyOf m top W) past (b ∷ rest), all-append (map (keyOf m top W) past) (keyOf m top W b ∷ map (keyOf m top W) rest), all-cons (keyOf m top W b) (map (keyOf m top W) rest))
-        (simp length-append (omega arith))
-
--- ---- what a selected key is
-
--- key x, selected from the block of `key`, whose exponent is i and whose span starts at s: it names a block that lies in a record of the class and in that block
-pub record Part (m : ℕ) (keys classes : List ℕ) (class key i s x : ℕ) : Type 0 where
-  pub index : ℕ
-  pub record-exponent : ℕ
-  pub record-start : ℕ
-  pub is : Record m keys index record-exponent record-start
-  pub has : getD classes index 0 ≡ class
-  pub exponent : ℕ
-  pub start : ℕ
-  pub names : Names m x exponent start
-  pub in-record : Covers record-start (4 ^ record-exponent) start (4 ^ exponent)
-  pub in-block : Covers s (4 ^ i) start (4 ^ exponent)
-  pub own : (x ≡ key) ⊎ (x ≡ getD keys index 0)
-
-module _ {m : ℕ} {keys : List ℕ} (F : Follow m 0 keys) (classes : List ℕ) (class : ℕ) {key i s : ℕ} (B : Names m key i s) where
-  selected-part : {x : ℕ} → List·Memᴰ x (selected m keys classes class key) → Part m keys classes class key i s x
-  selected-part {x} l = go (choice m keys classes class key)
-    where
-      go : Choice m keys classes class key → Part m keys classes class key i s x
-      go (whole {n = n} h e d) =
-          let R = record-at F n h in
-          let a = around-is classes class B (R .is) .0 e in
-          let o : x ≡ key = List·Memᴰ·eq-of-singleton (rw d at l) in
-          record {
-            index = n;
-            record-exponent = R .exponent;
-            record-start = R .start;
-            is = R .is;
-            has = a .0;
-            exponent = i;
-            start = s;
-            names = rw o B;
-            in-record = a .1;
-            in-block = omega arith;
-            own = inl o;
-          }
-      go (parts h d) =
-          let t = Memᴰ·of-map (λ (n : ℕ). getD keys n 0) (keep (inside m keys classes class key) (upFrom 0 (length keys))) (rw d at l) in
-          let k = up-in 0 (length keys) (t .0) .0 (keep-in (inside m keys classes class key) (upFrom 0 (length keys)) (t .1)) in
-          let R = record-at F (t .0) (omega arith) in
-          let a = inside-is classes class B (R .is) .0 (keep-true (inside m keys classes class key) (upFrom 0 (length keys)) (t .1)) in
-          record {
-            index = t .0;
-            record-exponent = R .exponent;
-            record-start = R .start;
-            is = R .is;
-            has = a .0;
-            exponent = R .exponent;
-            start = R .start;
-            names = subst (λ (y : ℕ). Names m y (R .exponent) (R .start)) (t .2) (R .is .names);
-            in-record = omega arith;
-            in-block = a .1;
-            own = inr (sym (t .2));
-          }
-
-  -- where the block and a record of the class share a place, some selected key's block has it
-  selected-place : {q : ℕ} (H : Holder m keys q) → getD classes (H .index) 0 ≡ class → Among s (4 ^ i) q
-      → (x : ℕ) × List·Memᴰ x (selected m keys classes class key) × (holds q (formOf m x) ≡ true)
-  selected-place {q} H e h = go (choice m keys classes class key)
-    where
-      go : Choice m keys classes class key → (x : ℕ) × List·Memᴰ x (selected m keys classes class key) × (holds q (formOf m x) ≡ true)
-      go (whole k a d) = (key, rw d (List·Memᴰ·head refl), holds-is q B .1 h)
-      go (parts f d) = (getD keys (H .index) 0, rw d (Memᴰ·map (λ (n : ℕ). getD keys n 0) listed), holds-is q (H .is .names) .1 (H .has))
-        where
-          stands : {a b : ℕ} → Stand a i s b (H .exponent) (H .start) → Covers s (4 ^ i) (H .start) (4 ^ H .exponent)
-          stands (lies-in c k) = c
-          stands (stands-around g c k z) = absurd (f (H .index) (H .is .within) (around-is classes class B (H .is) .1 (e, c)))
-          stands (after c k) = absurd (omega (arith, H .has))
-          stands (before c k) = absurd (omega (arith, H .has))
-
-          listed : List·Memᴰ (H .index) (keep (inside m keys classes class key) (upFrom 0 (length keys)))
-          listed =
-              in-keep (inside m keys classes class key) (up-in 0 (length keys) (H .index) .1 (omega (arith, H .is .within)))
-              (inside-is classes class B (H .is) .1 (e, stands (blocks-stand B (H .is .names))))
-
-  -- and one only
-  selected-one : (q : ℕ) {x y : ℕ} → List·Memᴰ x (selected m keys classes class key) → List·Memᴰ y (selected m keys classes class key) → holds q (formOf m x) ≡ true → holds q (formOf m y) ≡ true
-      → x ≡ y
-  selected-one q {x} {y} l n h k = go (choice m keys classes class key)
-    where
-      -- a record inside the block, by its key
-      found : {z : ℕ} → (t : ℕ) × List·Memᴰ t (keep (inside m keys classes class key) (upFrom 0 (length keys))) × (getD keys t 0 ≡ z) → holds q (formOf m z) ≡ true → Holder m keys q
-      found t e =
-          let k = up-in 0 (length keys) (t .0) .0 (keep-in (inside m keys classes class key) (upFrom 0 (length keys)) (t .1)) in
-          let R = record-at F (t .0) (omega arith) in
-          record { index = t .0; exponent = R .exponent; start = R .start; is = R .is; has = holds-is q (R .is .names) .0 (rw (t .2) e) }
-
-      go : Choice m keys classes class key → x ≡ y
-      go (whole j a d) = List·Memᴰ·eq-of-singleton (rw d at l) ∙ sym (List·Memᴰ·eq-of-singleton (rw d at n))
-      go (parts f d) =
-          let t = Memᴰ·of-map (λ (n : ℕ). getD keys n 0) (keep (inside m keys classes class key) (upFrom 0 (length keys))) (rw d at l) in
-          let u = Memᴰ·of-map (λ (n : ℕ). getD keys n 0) (keep (inside m keys classes class key) (upFrom 0 (length keys))) (rw d at n) in
-          let H = found t h in
-          let K = found u k in
-          sym (t .2) ∙ ap (λ (n : ℕ). getD keys n 0) (one-holder F (H .is) (K .is) (H .has) (K .has)) ∙ u .2
-
-  -- from one block no key twice
-  selected-once : Ordered _≢_ (selected m keys classes class key)
-  selected-once = go (choice m keys classes class key)
-    where
-      keys-one : (a b : ℕ) → a < length keys → b < length keys → getD keys a 0 ≡ getD keys b 0 → a ≡ b
-      keys-one a b l h e = pick (decLt a b) (decLt b a)
-        where
-          pick : Dec (a < b) → Dec (b < a) → a ≡ b
-          pick (yes g) d = absurd (omega (arith, keys-rise F .rise a b g h))
-          pick (no g) (yes k) = absurd (omega (arith, keys-rise F .rise b a k l))
-          pick (no g) (no k) = omega (arith, g, k)
-
-      below : (n : ℕ) → List·Memᴰ n (keep (inside m keys classes class key) (upFrom 0 (length keys))) → n < length keys
-      below n l = omega (arith, up-in 0 (length keys) n .0 (keep-in (inside m keys classes class key) (upFrom 0 (length keys)) l))
-
-      go : Choice m keys classes class key → Ordered _≢_ (selected m keys classes class key)
-      go (whole k a d) = rw d (more (λ y l. absurd (List·Memᴰ·not-nil l)) none)
-      go (parts f d) = rw d (distinct-map (λ (n : ℕ). getD keys n 0) (ordered-keep (inside m keys classes class key) (up-distinct 0 (length keys))) (λ a b l n e. keys-one a b (below a l) (below b n) e))
-
--- ---- the blocks of a window
-
-module _ {m top : ℕ} {keys : List ℕ} (F : Follow m 0 keys) {W : Window} (I : Inside m W) (small : top ≤ m) where
+module _ {m top : ℕ} {keys : List ℕ} (F : Spaced m 0 keys) {W : Window} (I : Inside m W) (small : top ≤ m) where
   named : {b : Px} → Corner W top b → Names m (keyOf m top W b) (exponent W top b) (place (b .0) (b .1))
   named C = key-named I small (C .inside) (C .own)
 
@@ -213,7 +40,9 @@ module _ {m top : ℕ} {keys : List ℕ} (F : Follow m 0 keys) {W : Window} (I :
       go : PixelAt m q → b ≡ b′
       go a =
           let p : Px = (a .row, a .col) in
-          block-one W top (→listed W top (C .inside) (C .own)) (→listed W top (C′ .inside) (C′ .own)) (spans F I small C {p = p} (a .pixel) .0 (rw (a .is) h)) (spans F I small C′ {p = p} (a .pixel) .0 (rw (a .is) h′))
+          let of = spans F I small C {p = p} (a .pixel) .0 (rw (a .is) h) in
+          let of′ = spans F I small C′ {p = p} (a .pixel) .0 (rw (a .is) h′) in
+          block-one W top (→listed W top (C .inside) (C .own)) (→listed W top (C′ .inside) (C′ .own)) of of′
 
   module _ (classes : List ℕ) (class : ℕ) where
     -- each key comes from a maximal block
@@ -276,28 +105,24 @@ module _ {m top : ℕ} {keys : List ℕ} (F : Follow m 0 keys) {W : Window} (I :
 
     -- ---- the pixels of the class
 
-    -- a pixel of the window has the class exactly when some selected key's block holds it
-    pub selection-pixels : {p : Px} → In W p → (getD classes (pixelRecord m keys (p .0) (p .1)) 0 ≡ class)
-        ↔ ((x : ℕ) × List·Memᴰ x (selection m top keys classes W class) × (holds (place (p .0) (p .1)) (formOf m x) ≡ true))
-    selection-pixels {p} v = (to, back)
-      where
-        H : Holder m keys (place (p .0) (p .1))
-        H = pixel-holder F (pixel-in I v)
+    -- where a selected key's block holds a pixel of the window, the pixel's record has the class
+    pub selection-has : (p : Px) {x : ℕ} → List·Memᴰ x (selection m top keys classes W class) → holds (place (p .0) (p .1)) (formOf m x) ≡ true
+        → getD classes (pixelRecord m keys (p .0) (p .1)) 0 ≡ class
+    selection-has p l e =
+        let f = from (maximal W top) (rw (selection-is m keys classes class top W) at l) in
+        let P = selected-part F classes class (named (listed-corner (f .listed))) (f .gives) in
+        let h = holds-is (place (p .0) (p .1)) (P .names) .0 e in
+        let K : Holder m keys (place (p .0) (p .1)) = record { index = P .index; exponent = P .record-exponent; start = P .record-start; is = P .is; has = omega (arith, P .in-record) } in
+        rw (record-of F K) (P .has)
 
-        to : getD classes (pixelRecord m keys (p .0) (p .1)) 0 ≡ class → (x : ℕ) × List·Memᴰ x (selection m top keys classes W class) × (holds (place (p .0) (p .1)) (formOf m x) ≡ true)
-        to e =
-            let b = block-of W top v in
-            let C = listed-corner (b .1) in
-            let t = selected-place F classes class (named C) H (rw (record-of F H) at e) (spans F I small C {p = p} (pixel-in I v) .1 (b .2)) in
-            (t .0, rw (selection-is m keys classes class top W) (in-all m keys classes class (Memᴰ·map (keyOf m top W) (b .1)) (t .1)), t .2)
-
-        back : (x : ℕ) × List·Memᴰ x (selection m top keys classes W class) × (holds (place (p .0) (p .1)) (formOf m x) ≡ true) → getD classes (pixelRecord m keys (p .0) (p .1)) 0 ≡ class
-        back t =
-            let f = from (maximal W top) (rw (selection-is m keys classes class top W) at (t .1)) in
-            let P = selected-part F classes class (named (listed-corner (f .listed))) (f .gives) in
-            let h = holds-is (place (p .0) (p .1)) (P .names) .0 (t .2) in
-            let K : Holder m keys (place (p .0) (p .1)) = record { index = P .index; exponent = P .record-exponent; start = P .record-start; is = P .is; has = omega (arith, P .in-record) } in
-            rw (record-of F K) (P .has)
+    -- and where a record has the class, some selected key's block holds each of its pixels in the window
+    pub selection-holds : {p : Px} → In W p → (H : Holder m keys (place (p .0) (p .1))) → getD classes (H .index) 0 ≡ class
+        → (x : ℕ) × List·Memᴰ x (selection m top keys classes W class) × (holds (place (p .0) (p .1)) (formOf m x) ≡ true)
+    selection-holds {p} v H e =
+        let b = block-of W top v in
+        let C = listed-corner (b .1) in
+        let t = selected-place F classes class (named C) H e (spans F I small C {p = p} (pixel-in I v) .1 (b .2)) in
+        (t .0, rw (selection-is m keys classes class top W) (in-all m keys classes class (Memᴰ·map (keyOf m top W) (b .1)) (t .1)), t .2)
 
     -- and no two of these blocks share a place
     pub selection-one : (q : ℕ) {x y : ℕ} → List·Memᴰ x (selection m top keys classes W class) → List·Memᴰ y (selection m top keys classes W class) → holds q (formOf m x) ≡ true
@@ -312,7 +137,20 @@ module _ {m top : ℕ} {keys : List ℕ} (F : Follow m 0 keys) {W : Window} (I :
         let c = one-corner {q = q} C D (omega (arith, holds-is q (P .names) .0 h, P .in-block)) (omega (arith, holds-is q (Q .names) .0 k, Q .in-block)) in
         selected-one F classes class (named C) q (f .gives) (rw c (g .gives)) h k
 
--- there are fewer keys than 4 (w + h) and the records together
-pub selection-few : {m : ℕ} {keys : List ℕ} → Follow m 0 keys → {W : Window} → Inside m W → (classes : List ℕ) (class : ℕ)
+-- there are fewer keys than 4 (w + h), as many as there is room for tiles, and the records together
+pub selection-capped : {m top : ℕ} {keys : List ℕ} → Spaced m 0 keys → {W : Window} → Inside m W → top ≤ m → (classes : List ℕ) (class : ℕ)
+    → length (selection m top keys classes W class) < 4 * (W .w + W .h) + W .w * W .h / 4 ^ top + length keys
+selection-capped {m} {top} F {W} I small classes class = omega (arith, selection-most {top = top} F I small classes class, blocks-capped W top I)
+
+-- and without a cap fewer than 4 (w + h) and the records
+pub selection-few : {m : ℕ} {keys : List ℕ} → Spaced m 0 keys → {W : Window} → Inside m W → (classes : List ℕ) (class : ℕ)
     → length (selection m m keys classes W class) < 4 * (W .w + W .h) + length keys
 selection-few {m} F {W} I classes class = omega (arith, selection-most {top = m} F I (omega arith) classes class, blocks-few W m I)
+
+-- in a whole map a pixel of the window has the class exactly when some selected key's block holds it
+pub selection-pixels : {m top : ℕ} {keys : List ℕ} → Follow m 0 keys → {W : Window} → Inside m W → top ≤ m → (classes : List ℕ) (class : ℕ) {p : Px} → In W p
+    → (getD classes (pixelRecord m keys (p .0) (p .1)) 0 ≡ class)
+    ↔ ((x : ℕ) × List·Memᴰ x (selection m top keys classes W class) × (holds (place (p .0) (p .1)) (formOf m x) ≡ true))
+selection-pixels F I small classes class {p} v =
+    let H = pixel-holder F (pixel-in I v) in
+    (λ e. selection-holds (spaced F) I small classes class v H (rw (record-of (spaced F) H) at e), λ t. selection-has (spaced F) I small classes class p (t .1) (t .2))

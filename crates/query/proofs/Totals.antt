@@ -17,10 +17,11 @@ use Rattle.window.specs.declared.Window.{Window}
 use Rattle.window.specs.Window.{Px, In, Inside}
 use Rattle.window.proofs.Laws.{rows-in, in-rows, rows-length}
 use Rattle.map.specs.Sound.{Follow}
+use Rattle.map.proofs.Laws.{spaced}
 use Rattle.map.specs.Records.{pixelRecord}
 use Rattle.border.specs.Openings.{openings}
 use Rattle.border.specs.Promises.{allHands}
-use Rattle.border.proofs.Laws.{in-hands, hands-all, records-once}
+use Rattle.border.proofs.Laws.{in-hands, hands-whole, records-once}
 use Rattle.query.specs.Classes.{classed, pixels, hasClass, total, totals}
 use Rattle.query.specs.Gather.{area, added, gathered}
 
@@ -149,5 +150,5 @@ module _ (m : ℕ) (keys classes : List ℕ) (W : Window) where
 pub openings-gathered : {m top : ℕ} {keys : List ℕ} → Follow m 0 keys → {W : Window} → Inside m W → top ≤ m → (classes : List ℕ)
     → gathered m keys classes W (allHands (openings m top keys W)) (replicate 256 0) ≡ totals m keys classes W
 openings-gathered {m} {top} {keys} F {W} I small classes =
-    gathered-all m keys classes W (records-once F I small)
-    (λ p v. in-hands (openings m top keys W) _ .1 (hands-all F I small _ .0 (record { at = p; inside = v; is = refl })))
+    gathered-all m keys classes W (records-once (spaced F) I small)
+    (λ p v. in-hands (openings m top keys W) _ .1 (hands-whole F I small _ .0 (record { at = p; inside = v; is = refl })))

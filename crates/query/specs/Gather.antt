@@ -11,6 +11,7 @@ use Rattle.window.specs.declared.Window.{Window}
 use Rattle.window.specs.Window.{Px}
 use Rattle.window.specs.Blocks.{floor, exponent}
 use Rattle.window.specs.Decompose.{keyOf}
+use Rattle.map.specs.Sound.{Follow}
 use Rattle.map.specs.Records.{pixelRecord}
 use Rattle.map.specs.Runs.{run, runOf}
 use Rattle.border.specs.Step.{Usable, Corner}
@@ -38,23 +39,23 @@ module _ (m : ℕ) (keys classes : List ℕ) (W : Window) where
   gathered [] cells = cells
   gathered (n ∷ ns) cells = gathered ns (added n cells)
 
--- the block of this key and exponent, with corner b, is opened with the `count` records from `first` on, and they all have a class
-pub record Hands (m : ℕ) (keys : List ℕ) (classes : ℕ) (W : Window) (b : Px) (key i first count : ℕ) : Type 0 where
+-- in a whole map, the block of this key and exponent, with corner b, is opened with the `count` records from `first` on, which reach so far, and they all have a class
+pub record Hands (m : ℕ) (keys : List ℕ) (classes : ℕ) (W : Window) (b : Px) (key i first count far : ℕ) : Type 0 where
   pub top : ℕ
   pub cells : ℕ
   pub given : Usable m top keys W cells
+  pub whole : Follow m 0 keys
   pub corner : Corner W top b
   pub named : key ≡ keyOf m top W b
   pub size : i ≡ exponent W top b
-  pub found : runOf m keys key ≡ run first count
+  pub found : runOf m keys key ≡ run first count far
   pub room : first + count ≤ classes
   pub few : classes ≤ 65536
 
--- and they are several
+-- and they reach no further than the block: they fill it
 pub record Fills (m : ℕ) (keys : List ℕ) (classes : ℕ) (W : Window) (key i first count : ℕ) : Type 0 where
   pub corner : Px
-  pub hands : Hands m keys classes W corner key i first count
-  pub several : count ≢ 1
+  pub hands : Hands m keys classes W corner key i first count i
 
 -- the totals are those of records that do not come again among the `count` from `first` on
 pub record Gathering (m : ℕ) (keys classes : List ℕ) (W : Window) (first count : ℕ) (cells : List ℕ) : Type 0 where

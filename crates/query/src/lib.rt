@@ -12,11 +12,12 @@ ghost use Rattle.answers.specs.Cells.{overwrite, Listed};
 ghost use Rattle.key.specs.Spread.{spreads};
 ghost use Rattle.key.specs.Along.{onesTable, Finds};
 ghost use Rattle.window.specs.Window.{In, Inside};
+ghost use Rattle.map.specs.Sound.{Follow};
 ghost use Rattle.border.specs.Step.{Usable};
 ghost use Rattle.border.specs.Open.{spent, after};
 ghost use Rattle.query.specs.Classes.{classed, totals};
 ghost use Rattle.query.specs.Gather.{shared, clipped, gathered, Hands, Fills, Gathering};
-ghost use Rattle.query.specs.Select.{pickedRun, picked, selection};
+ghost use Rattle.query.specs.Select.{pickedRun, pickedAround, picked, Overlapped, selection};
 ghost use Rattle.query.specs.Query.{afterExist, existing, existOf, roomFor, reportOf, selectOf};
 
 // What exist answers.
@@ -48,7 +49,7 @@ fn has_class(classes: &[u8], class: u8, first: u32, count: u32) -> bool
     false
 }
 
-// Goes from opening to opening until a record has the class.
+// Goes from opening to opening until a record has the class. In a whole map, that of each pixel is handed out.
 fn seek(
     table: &[u32; 256],
     m: u32,
@@ -58,7 +59,7 @@ fn seek(
     class: u8,
     border: &mut [u16],
 ) -> Existence
-    requires { ⌜ (now table ≡ spreads) × Usable m m (now keys) window (length (now border)) × (length (now keys) ≡ length (now classes)) ⌝ }
+    requires { ⌜ (now table ≡ spreads) × Usable m m (now keys) window (length (now border)) × (length (now keys) ≡ length (now classes)) × Follow m 0 (now keys) ⌝ }
     ensures { λ r. ⌜ afterExist r (now (border .exit)) ≡ existing m (now (keys .entry)) (now (classes .entry)) window class (now (border .entry)) ⌝ }
 {
     let w = window.w as usize;
@@ -157,7 +158,8 @@ fn gather_run(
     }
 }
 
-// Adds the parts of the records that an opening hands out to the totals of their classes. A single one contains the block and may stick out of the window, several lie in it.
+// Adds the parts of the records that an opening hands out to the totals of their classes. One that reaches beyond the block contains it and may stick out of the window, and
+// otherwise they fill the block.
 fn gather(
     ones: &[u32; 13],
     digits: &[u8; 16],
@@ -171,14 +173,14 @@ fn gather(
     exponent: u32,
     first: u32,
     count: u32,
+    reach: u32,
     totals: &mut [u32; 256],
 )
-    requires { ⌜ (now ones ≡ onesTable) × Finds (now digits) × Hands m (now keys) (length (now classes)) window (row, col) key exponent first count × Gathering m (now keys) (now classes) window first count (now totals) ⌝ }
+    requires { ⌜ (now ones ≡ onesTable) × Finds (now digits) × Hands m (now keys) (length (now classes)) window (row, col) key exponent first count reach × Gathering m (now keys) (now classes) window first count (now totals) ⌝ }
     ensures { λ r. ⌜ now (totals .exit) ≡ gathered m (now (keys .entry)) (now (classes .entry)) window (upFrom first count) (now (totals .entry)) ⌝ }
 {
-    if count == 1 {
-        let e = map::exponent_of(m, keys, first);
-        let area = clipped(window, e, row, col);
+    if exponent < reach {
+        let area = clipped(window, reach, row, col);
         totals[classes[first as usize] as usize] += area;
         return;
     }
@@ -197,7 +199,7 @@ fn gather(
     );
 }
 
-// Gathers the totals of all classes from opening to opening.
+// Gathers the totals of all classes from opening to opening. In a whole map, those are the totals of all pixels.
 fn add_up(
     table: &[u32; 256],
     ones: &[u32; 13],
@@ -209,7 +211,7 @@ fn add_up(
     border: &mut [u16],
     counts: &mut [u32; 256],
 )
-    requires { ⌜ (now table ≡ spreads) × (now ones ≡ onesTable) × Finds (now digits) × Usable m m (now keys) window (length (now border)) × (length (now keys) ≡ length (now classes)) × (now counts ≡ replicate 256 0) ⌝ }
+    requires { ⌜ (now table ≡ spreads) × (now ones ≡ onesTable) × Finds (now digits) × Usable m m (now keys) window (length (now border)) × (length (now keys) ≡ length (now classes)) × (now counts ≡ replicate 256 0) × Follow m 0 (now keys) ⌝ }
     ensures { λ r. ⌜ (now (counts .exit) ≡ totals m (now (keys .entry)) (now (classes .entry)) window) × (now (border .exit) ≡ spent window (now (border .entry))) ⌝ }
 {
     border::fill(border, 0, window.w as usize, window.r0);
@@ -223,6 +225,7 @@ fn add_up(
             key,
             first,
             count,
+            reach,
             on,
         } = found
         else {
@@ -241,6 +244,7 @@ fn add_up(
             exponent,
             first,
             count,
+            reach,
             counts,
         );
         at = on;
@@ -303,13 +307,12 @@ pub fn report(
 }
 
 // Lists the key of record i behind n others if the record has the class. How many there are then.
-fn pick_record(keys: &[u32], classes: &[u8], class: u8, i: u32, out: &mut [u32], n: u32) -> u32
+fn pick_record(keys: &[u32], classes: &[u8], class: u8, i: usize, out: &mut [u32], n: u32) -> u32
     requires { ⌜ (i < length (now keys)) × (length (now keys) ≡ length (now classes)) × (n < 4294967295) ⌝ }
     ensures { λ r. ⌜ Listed n (pickedRun (now (keys .entry)) (now (classes .entry)) class i 1) (now (out .entry)) r (now (out .exit)) ⌝ }
 {
-    let at = i as usize;
-    if classes[at] == class {
-        answers::put(out, n, keys[at]);
+    if classes[i] == class {
+        answers::put(out, n, keys[i]);
         return n + 1;
     }
     n
@@ -328,8 +331,8 @@ fn pick_run(
     requires { ⌜ (first + count ≤ length (now keys)) × (length (now keys) ≤ 65536) × (length (now keys) ≡ length (now classes)) × (n + count ≤ 4294967295) ⌝ }
     ensures { λ r. ⌜ Listed n (pickedRun (now (keys .entry)) (now (classes .entry)) class first count) (now (out .entry)) r (now (out .exit)) ⌝ }
 {
-    let end = first + count;
-    let mut i = first;
+    let mut i = first as usize;
+    let end = i + (count as usize);
     let mut k = n;
     while i < end {
         k = pick_record(keys, classes, class, i, out, k);
@@ -338,22 +341,40 @@ fn pick_run(
     k
 }
 
-// Of a maximal block and the records that overlap it: lists its own key if it lies in a record of the class, else the keys of the records inside it that have the class.
-fn pick(keys: &[u32], classes: &[u8], class: u8, key: u32, run: Run, out: &mut [u32], n: u32) -> u32
-    requires { ⌜ (1 ≤ run .count) × (run .first + run .count ≤ length (now keys)) × (length (now keys) ≤ 65536) × (length (now keys) ≡ length (now classes)) × (n + run .count ≤ 4294967295) ⌝ }
-    ensures { λ r. ⌜ Listed n (picked (now (keys .entry)) (now (classes .entry)) class key (run .first) (run .count)) (now (out .entry)) r (now (out .exit)) ⌝ }
+// Of a maximal block in a record: lists the block's own key if the record has the class.
+fn pick_around(classes: &[u8], class: u8, key: u32, first: u32, out: &mut [u32], n: u32) -> u32
+    requires { ⌜ (first < length (now classes)) × (n < 4294967295) ⌝ }
+    ensures { λ r. ⌜ Listed n (pickedAround (now (classes .entry)) class key first) (now (out .entry)) r (now (out .exit)) ⌝ }
 {
-    if run.count == 1 {
-        if classes[run.first as usize] == class {
-            answers::put(out, n, key);
-            return n + 1;
-        }
-        return n;
+    if classes[first as usize] == class {
+        answers::put(out, n, key);
+        return n + 1;
+    }
+    n
+}
+
+// Of a maximal block and the records that overlap it: lists its own key if it lies in a record of the class, else the keys of the records inside it that have the class.
+fn pick(
+    keys: &[u32],
+    classes: &[u8],
+    class: u8,
+    key: u32,
+    exponent: u32,
+    run: Run,
+    out: &mut [u32],
+    n: u32,
+) -> u32
+    requires { ⌜ Overlapped (now keys) exponent run × (length (now keys) ≤ 65536) × (length (now keys) ≡ length (now classes)) × (n + run .count ≤ 4294967295) ⌝ }
+    ensures { λ r. ⌜ Listed n (picked (now (keys .entry)) (now (classes .entry)) class key exponent run) (now (out .entry)) r (now (out .exit)) ⌝ }
+{
+    if exponent < run.reach {
+        return pick_around(classes, class, key, run.first, out, n);
     }
     pick_run(keys, classes, class, run.first, run.count, out, n)
 }
 
-// Goes through the maximal blocks and lists what each has. How many keys there are; those are written for which there is room. A block in the record found last is not searched for.
+// Goes through the maximal blocks and lists what each has. How many keys there are; those are written for which there is room. A block in one of the two records found last is not
+// searched for.
 fn pick_all(
     table: &[u32; 256],
     m: u32,
@@ -369,7 +390,7 @@ fn pick_all(
     let mut r = window.r0;
     let mut c = window.c0;
     let mut n: u32 = 0;
-    let mut near: u32 = 0;
+    let mut seen = map::first_seen(table, m, keys);
     loop {
         let next = window::next_block(window, m, r, c);
         let Next::Block {
@@ -381,12 +402,20 @@ fn pick_all(
         else {
             return n;
         };
-        let key = key::block_key(table, m, exponent, row, col);
-        let run = map::records_near(table, m, keys, key, exponent, near);
-        near = run.first;
-        n = pick(keys, classes, class, key, run, out, n);
         r = row;
         c = after;
+        let key = key::block_key(table, m, exponent, row, col);
+        if map::lies_in(seen.near, key) {
+            n = pick_around(classes, class, key, seen.near.first, out, n);
+            continue;
+        }
+        if map::lies_in(seen.other, key) {
+            seen = map::exchanged(seen);
+            n = pick_around(classes, class, key, seen.near.first, out, n);
+            continue;
+        }
+        seen = map::look_up(table, m, keys, key, exponent, seen);
+        n = pick(keys, classes, class, key, exponent, seen.run, out, n);
     }
 }
 

@@ -3,7 +3,7 @@
 use mathlib.Core.Path.{_≡_, refl}
 use mathlib.Core.List.{List, [], _∷_, _++_}
 use Prim.Native.Nat.{ℕ}
-use Rattle.lists.specs.Lists.{upFrom, any, keep, before, howMany}
+use Rattle.lists.specs.Lists.{upFrom, any, keep, before, howMany, greatest}
 use Rattle.answers.specs.Rows.{answer}
 use Rattle.answers.specs.Sizes.{wrongCount, sizeRows}
 use Rattle.key.specs.Spread.{spreadTo, spread}
@@ -11,11 +11,11 @@ use Rattle.key.specs.Picture.{place}
 use Rattle.key.specs.Key.{pixelKey, blockKey}
 use Rattle.key.specs.Form.{from, formOf}
 use Rattle.window.specs.Window.{window, beyond, outside, windowRows}
-use Rattle.window.specs.Blocks.{floor, lies, fits, greatest, exponent, corner, across, rows, isCorner, maximal}
+use Rattle.window.specs.Blocks.{floor, lies, fits, exponent, corner, across, rows, isCorner, maximal}
 use Rattle.window.specs.Decompose.{keyOf, keysOf}
 use Rattle.map.specs.Spans as spans
-use Rattle.map.specs.Check.{recordRows, mapRows}
-use Rattle.map.specs.Records.{recordOf}
+use Rattle.map.specs.Check.{late, rowsFrom, mapRows}
+use Rattle.map.specs.Records.{recordOf, exponentOf}
 use Rattle.map.specs.Runs.{runOf}
 use Rattle.border.specs.Openings.{indices, within, isHanded, opening, openFrom, openings, handsOut, cellsOf}
 use Rattle.border.specs.Open.{useRows}
@@ -48,5 +48,5 @@ pub record Examples : Type 0 where
   pub p12 : answerOf 2 keys classes (window 2 0 3 1) ≡ lineOf 87 (2 ∷ 0 ∷ 3 ∷ 1 ∷ []) ++ lineOf 82 (6 ∷ 0 ∷ [])
 
 pub examples : Examples
-unfolding answer wrongCount sizeRows upFrom spreadTo spread place pixelKey blockKey from formOf beyond outside windowRows keep floor lies fits greatest exponent corner across rows isCorner maximal keyOf keysOf spans.malformed spans.exponent spans.start spans.end spans.holds spans.overlap recordRows mapRows before howMany recordOf runOf any indices within isHanded opening openFrom openings handsOut cellsOf useRows hasClass total totals digits digitsOf spaced lineOf openingLines classLine classLines foundLines foundBy resultOf answerOf
+unfolding answer wrongCount sizeRows upFrom spreadTo spread place pixelKey blockKey from formOf beyond outside windowRows keep floor lies fits greatest exponent corner across rows isCorner maximal keyOf keysOf spans.malformed spans.exponent spans.start spans.end spans.holds spans.overlap late rowsFrom mapRows before howMany recordOf exponentOf runOf any indices within isHanded opening openFrom openings handsOut cellsOf useRows hasClass total totals digits digitsOf spaced lineOf openingLines classLine classLines foundLines foundBy resultOf answerOf
 examples = record { p1-window = refl; p1 = refl; p12 = refl }

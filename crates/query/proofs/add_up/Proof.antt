@@ -65,7 +65,7 @@ same-length c = let at = last c in finding-last (at .loop .inv .finding) (none c
 returns : tie.Need-returns Inv-loop μ-loop
 returns c =
     let at = last c in
-    (totalling-last _ (first at .pre .3) (at .loop .inv) (none c), finding-last (at .loop .inv .finding) (none c) .1 ∙ fresh-spent _ (first at .pre .3) (fresh at .fill .ensures))
+    (totalling-last _ (first at .pre .3) (first at .pre .6) (at .loop .inv) (none c), finding-last (at .loop .inv .finding) (none c) .1 ∙ fresh-spent _ (first at .pre .3) (fresh at .fill .ensures))
 
 -- the arm of an opening
 module _ (c : tie.After-known-told Inv-loop μ-loop) where
@@ -74,7 +74,8 @@ module _ (c : tie.After-known-told Inv-loop μ-loop) where
 
   found : Finds (first turn .args .m) (first turn .args .m) (first turn .args .keys .now) (first turn .args .window) (turn .loop .at) (turn .loop .border)
       (Opening (c .before .found .given .0 .0) (c .before .found .given .0 .1 .0) (c .before .found .given .0 .1 .1 .0) (c .before .found .given .0 .1 .1 .1 .0)
-      (c .before .found .given .0 .1 .1 .1 .1 .0) (c .before .found .given .0 .1 .1 .1 .1 .1 .0) (c .before .found .given .0 .1 .1 .1 .1 .1 .1 .0))
+      (c .before .found .given .0 .1 .1 .1 .1 .0) (c .before .found .given .0 .1 .1 .1 .1 .1 .0) (c .before .found .given .0 .1 .1 .1 .1 .1 .1 .0)
+      (c .before .found .given .0 .1 .1 .1 .1 .1 .1 .1 .0))
       (c .before .before .before .before .before .next-opening .last .1 .1 .1 .1 .1 .1 .0)
   found = rw (c .before .found .given .1) at (c .before .before .before .before .before .next-opening .ensures)
 
@@ -82,13 +83,15 @@ gather-requires : tie.Need-gather-requires Inv-loop μ-loop
 gather-requires c κs =
     let of = c .before in
     let at = first (turn of) in
-    (at .pre .1, at .pre .2, totalling-hands _ (at .pre .3) (turn of .loop .inv) (found of) (at .pre .4), totalling-once _ (at .pre .3) (turn of .loop .inv) (found of))
+    (at .pre .1, at .pre .2, totalling-hands _ (at .pre .3) (at .pre .6) (turn of .loop .inv) (found of) (at .pre .4), totalling-once _ (at .pre .3) (at .pre .6) (turn of .loop .inv) (found of))
 
 loop-less : tie.Need-loop-less Inv-loop μ-loop
 loop-less c = finds-less (found (c .before .before))
 
 loop-again : tie.Need-loop-again Inv-loop μ-loop
-loop-again c = totalling-next _ (first (turn (c .before .before)) .pre .3) (turn (c .before .before) .loop .inv) (found (c .before .before)) (c .gather .ensures)
+loop-again c =
+    let at = turn (c .before .before) in
+    totalling-next _ (first at .pre .3) (first at .pre .6) (at .loop .inv) (found (c .before .before)) (c .gather .ensures)
 
 pub add-up-spec : {M : Type 1} → statement M
 add-up-spec =

@@ -6,7 +6,7 @@ use borrow.Author.Needs.{needs}
 use Rattle.answers.specs.declared.Verdict.the-variants.{Passed}
 use Rattle.answers.specs.Rows.{verdict}
 use Rattle.border.specs.Open.{useRows}
-use Rattle.border.proofs.Laws.{use-known, use-same}
+use Rattle.border.proofs.Laws.{use-known, use-same, use-whole}
 use Rattle.query.proofs.Tables.{exist-refused, exist-done}
 use Rattle.query.proofs.exist.Statement.{statement}
 use Rattle.query.proofs.exist.Tie as tie
@@ -27,11 +27,15 @@ spread-table-requires : tie.Need-spread-table-requires
 spread-table-requires c κs = search needs
 
 -- where refusals 1 to 7 do not hold
-passed : (c : tie.After-enum-told) → verdict (useRows (c .before .before .before .before .before .before .args .m) (c .before .before .before .before .before .before .args .keys .now) (length (c .before .before .before .before .before .before .args .classes .now)) (c .before .before .before .before .before .before .args .window) (length (c .before .before .before .before .before .before .args .border .now))) ≡ Passed
+passed : (c : tie.After-enum-told)
+    → let a = c .before .before .before .before .before .before .args in
+    verdict (useRows (a .m) (a .keys .now) (length (a .classes .now)) (a .window) (length (a .border .now))) ≡ Passed
 passed c = sym (c .before .before .usable .ensures) ∙ c .enum-told .given .1
 
 seek-requires : tie.Need-seek-requires
-seek-requires c κs = (c .before .before .spread-table .ensures, use-known _ _ _ _ _ (passed (c .before .before .before)), use-same _ _ _ _ _ (passed (c .before .before .before)))
+seek-requires c κs =
+    let ok = passed (c .before .before .before) in
+    (c .before .before .spread-table .ensures, use-known _ _ _ _ _ ok, use-same _ _ _ _ _ ok, use-whole _ _ _ _ _ ok)
 
 same-length : tie.Need-same-length
 same-length c = search needs

@@ -13,7 +13,7 @@ use Rattle.window.specs.declared.Window.{Window}
 use Rattle.window.proofs.Laws.{inside-12}
 use Rattle.map.proofs.Laws.{Inner}
 use Rattle.query.specs.Gather.{area, Fills, Gathering}
-use Rattle.query.proofs.Parts.{hands-record, fills-small, fills-first, fills-key, fills-begins, fills-area, fills-next}
+use Rattle.query.proofs.Parts.{fills-small, fills-first, fills-key, fills-within, fills-begins, fills-area, fills-next}
 use Rattle.query.proofs.Gathers.{Adding, adding-first, adding-most, adding-next, adding-last}
 use Rattle.query.proofs.gather_run.Statement.{statement}
 use Rattle.query.proofs.gather_run.Tie as tie
@@ -62,7 +62,7 @@ module _ (c : tie.In-loop Inv-loop μ-loop) where
   among = omega (arith, adding .low, c .loop-test)
 
 shared-slice-read-inner : tie.Need-shared-slice-read-inner Inv-loop μ-loop
-shared-slice-read-inner c = hands-record (start (c .before) .pre .2 .hands) (among (c .before)) .is .within
+shared-slice-read-inner c = fills-within (start (c .before) .pre .2) (among (c .before))
 
 sub-inner : tie.Need-sub-inner Inv-loop μ-loop
 sub-inner c = omega (arith, fills-key (start (c .before) .pre .2) (among (c .before)))

@@ -9,7 +9,7 @@ use Rattle.answers.specs.Rows.{verdict}
 use Rattle.window.proofs.Laws.{inside-12, pixels-most}
 use Rattle.border.specs.Step.{Usable}
 use Rattle.border.specs.Open.{useRows}
-use Rattle.border.proofs.Laws.{use-known, use-same}
+use Rattle.border.proofs.Laws.{use-known, use-same, use-whole}
 use Rattle.border.proofs.Finding.{filled-spent}
 use Rattle.query.proofs.Totals.{totals-length}
 use Rattle.query.proofs.Tables.{report-refused, report-short, report-done}
@@ -71,7 +71,8 @@ add-up-requires : tie.Need-add-up-requires
 add-up-requires c κs =
     let told = roomy (c .before) .before in
     let tables = c .before .before .before .before .before in
-    (tables .before .before .spread-table .ensures, tables .before .ones-table .ensures, tables .digits-table .ensures, known told, use-same _ _ _ _ _ (passed told), refl)
+    let ok = passed told in
+    (tables .before .before .spread-table .ensures, tables .before .ones-table .ensures, tables .digits-table .ensures, known told, use-same _ _ _ _ _ ok, refl, use-whole _ _ _ _ _ ok)
 
 put-totals-requires : tie.Need-put-totals-requires
 put-totals-requires c κs =

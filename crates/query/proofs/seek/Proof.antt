@@ -70,7 +70,7 @@ same-length c = let at = last c in finding-last (at .loop .inv .finding) (none c
 returns : tie.Need-returns Inv-loop μ-loop
 returns c =
     let at = last c in
-    existing-no _ _ _ _ _ _ (seeking-last _ _ (first at .pre .1) (at .loop .inv) (none c))
+    existing-no _ _ _ _ _ _ (seeking-last _ _ (first at .pre .1) (first at .pre .3) (at .loop .inv) (none c))
     (finding-last (at .loop .inv .finding) (none c) .1 ∙ fresh-spent _ (first at .pre .1) (fresh at .fill .ensures))
 
 -- the arm of an opening
@@ -80,7 +80,8 @@ module _ (c : tie.After-known-told Inv-loop μ-loop) where
 
   found : Finds (first turn .args .m) (first turn .args .m) (first turn .args .keys .now) (first turn .args .window) (turn .loop .at) (turn .loop .border)
       (Opening (c .before .found .given .0 .0) (c .before .found .given .0 .1 .0) (c .before .found .given .0 .1 .1 .0) (c .before .found .given .0 .1 .1 .1 .0)
-      (c .before .found .given .0 .1 .1 .1 .1 .0) (c .before .found .given .0 .1 .1 .1 .1 .1 .0) (c .before .found .given .0 .1 .1 .1 .1 .1 .1 .0))
+      (c .before .found .given .0 .1 .1 .1 .1 .0) (c .before .found .given .0 .1 .1 .1 .1 .1 .0) (c .before .found .given .0 .1 .1 .1 .1 .1 .1 .0)
+      (c .before .found .given .0 .1 .1 .1 .1 .1 .1 .1 .0))
       (c .before .before .before .before .before .next-opening .last .1 .1 .1 .1 .1 .1 .0)
   found = rw (c .before .found .given .1) at (c .before .before .before .before .before .next-opening .ensures)
 
@@ -113,7 +114,7 @@ same-length-2 c = spent-now c .1 ∙ fresh-same _ (first (at c) .pre .1) (fresh 
 returns-2 : tie.Need-returns-2 Inv-loop μ-loop
 returns-2 c =
     existing-yes _ _ _ _ _ _
-    (seeking-found _ _ (first (at c) .pre .1) (at c .loop .inv) (found (of c))
+    (seeking-found _ _ (first (at c) .pre .1) (first (at c) .pre .3) (at c .loop .inv) (found (of c))
     (sym (c .before .before .before .before .before .before .has-class .ensures) ∙ c .before .before .before .before .before .if1 .taken))
     (spent-now c .0 ∙ fresh-spent _ (first (at c) .pre .1) (fresh (at c) .fill .ensures))
 
@@ -123,7 +124,7 @@ loop-less c = finds-less (found (c .before .before))
 loop-again : tie.Need-loop-again Inv-loop μ-loop
 loop-again c =
     let of = c .before .before in
-    seeking-next _ _ (first (turn of) .pre .1) (turn of .loop .inv) (found of) (sym (c .before .has-class .ensures) ∙ c .if1 .left)
+    seeking-next _ _ (first (turn of) .pre .1) (first (turn of) .pre .3) (turn of .loop .inv) (found of) (sym (c .before .has-class .ensures) ∙ c .if1 .left)
 
 pub seek-spec : {M : Type 1} → statement M
 seek-spec =
