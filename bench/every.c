@@ -15,7 +15,7 @@ lutniorad_answer every_open(uint32_t m, const uint32_t *keys, size_t n_keys, con
         return verdict;
     while (next_block(at, m, row, col, &b)) {
         uint32_t key = block_key(m, b.exponent, b.row, b.col);
-        run records = records_of(keys, n_keys, key, b.exponent);
+        run records = records_of(m, keys, n_keys, key, b.exponent);
         put_opening(out, n_out, blocks++, key, records);
         fetched += records.count;
         row = b.row;

@@ -10,7 +10,7 @@ lutniorad_answer fastest_check(uint32_t m, const uint32_t *keys, size_t n_keys, 
 {
     lutniorad_answer verdict = sized(m, n_keys, n_classes);
     if (verdict.refusal == 0 && !is_sound(m, keys, classes, n_keys))
-        return sound_records(m, keys, n_keys);
+        return sound_records(m, keys, n_keys, true);
     return verdict;
 }
 

@@ -180,7 +180,7 @@ static lutniorad_answer ready(uint32_t m, const uint32_t *keys, size_t n_keys, c
     if (verdict.refusal != 0 || (!outside(m, at) && at.w <= cells))
         return verdict;
     if (!is_sound(m, keys, classes, n_keys))
-        return sound_records(m, keys, n_keys);
+        return sound_records(m, keys, n_keys, true);
     return outside(m, at) ? refused(6, 0) : refused(7, at.w);
 }
 
@@ -233,7 +233,7 @@ lutniorad_answer fastest_open(uint32_t m, const uint32_t *keys, size_t n_keys, c
         return verdict;
     begin_blocks(&on, &blocks);
     if (!go(&on))
-        return sound_records(m, keys, n_keys);
+        return sound_records(m, keys, n_keys, true);
     fill(border, 0, w, on.south);
     if (n_out < 3 * (size_t)blocks.n)
         return refused(8, 3 * blocks.n);
@@ -252,7 +252,7 @@ lutniorad_answer fastest_exist(uint32_t m, const uint32_t *keys, size_t n_keys, 
         return verdict;
     on.class = class;
     if (!go(&on))
-        return sound_records(m, keys, n_keys);
+        return sound_records(m, keys, n_keys, true);
     fill(border, 0, w, on.south);
     return answered(on.found, 0);
 }
@@ -269,7 +269,7 @@ lutniorad_answer fastest_report(uint32_t m, const uint32_t *keys, size_t n_keys,
         return verdict;
     on.totals = totals;
     if (!go(&on))
-        return sound_records(m, keys, n_keys);
+        return sound_records(m, keys, n_keys, true);
     fill(border, 0, w, on.south);
     if (n_out < 256)
         return refused(8, 256);
@@ -336,7 +336,7 @@ lutniorad_answer fastest_select(uint32_t m, const uint32_t *keys, size_t n_keys,
     on.class = class;
     begin_blocks(&on, &blocks);
     if (!go(&on))
-        return sound_records(m, keys, n_keys);
+        return sound_records(m, keys, n_keys, true);
     fill(border, 0, w, on.south);
     sort(&blocks, h, sorted);
     if (n_out < 4 * ((size_t)w + h) + n_keys) {

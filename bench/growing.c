@@ -46,7 +46,7 @@ lutniorad_answer growing_open(uint32_t m, const uint32_t *keys, size_t n_keys, c
     while (next_block(at, m, row, col, &b)) {
         uint32_t key = block_key(m, b.exponent, b.row, b.col);
         if (!lies_in_fetched(key)) {
-            run records = records_of(keys, n_keys, key, b.exponent);
+            run records = records_of(m, keys, n_keys, key, b.exponent);
             fetch(m, keys, records);
             put_opening(out, n_out, openings++, key, records);
         }

@@ -21,9 +21,12 @@ typedef struct {
     uint32_t row, col, exponent, after;
 } block;
 
-/* So many records of a map, from the first on. */
+/*
+ * So many records of a map, from the first on, which overlap a block; and the exponent of the larger of the block and
+ * the record of its first place.
+ */
 typedef struct {
-    uint32_t first, count;
+    uint32_t first, count, reach;
 } run;
 
 static inline lutniorad_answer answered(uint32_t first, uint32_t second)
@@ -163,28 +166,69 @@ static inline spot advance(uint32_t key, uint32_t i, uint32_t start)
     return next;
 }
 
-/* ---- Maps ---- */
-
-/* Why a record is refused that does not start at the place reached. */
-static inline lutniorad_answer misfit(uint32_t m, uint32_t at, uint32_t key, uint32_t n)
+/*
+ * How far the block of a key reaches around the block of a larger key and its exponent i: its own exponent where it
+ * contains it, otherwise i.
+ */
+static inline uint32_t reach_over(uint32_t m, uint32_t own, uint32_t key, uint32_t i)
 {
-    uint32_t exponent, start;
-    if (!read_key(m, key, &exponent, &start))
-        return refused(3, n);
-    return refused(start < at ? 4 : 5, n);
+    uint32_t over = key - own, e = i, p = pow5(i);
+    if (own == 0)
+        return m;
+    for (; p <= over; e++)
+        p *= 5;
+    return own % p != 0 ? i : e;
 }
 
-/* Refusals 3 to 5. */
-static inline lutniorad_answer sound_records(uint32_t m, const uint32_t *keys, size_t q)
+/* ---- Maps ---- */
+
+/* How far a walk along the records has come: where it stands, and the next record. */
+typedef struct {
+    spot at;
+    size_t next;
+} gone;
+
+/* Goes from record n on as long as each record starts where the last one's span ended. */
+static inline gone along(uint32_t m, const uint32_t *keys, size_t q, spot from, size_t n)
 {
-    spot at = first_spot(m);
-    for (size_t n = 0; n < q; n++) {
-        uint32_t exponent;
-        if (!exponent_at(m, at, keys[n], &exponent))
-            return misfit(m, at.place, keys[n], (uint32_t)n);
-        at = advance(keys[n], exponent, at.place);
+    gone to = {from, n};
+    uint32_t exponent;
+    while (to.next < q && exponent_at(m, to.at, keys[to.next], &exponent)) {
+        to.at = advance(keys[to.next], exponent, to.at.place);
+        to.next++;
     }
-    return at.place < pixels(m) ? refused(5, (uint32_t)q) : answered((uint32_t)q, 0);
+    return to;
+}
+
+/* Why a record is refused that does not start at the place reached; if it is not, it is a block behind a gap. */
+static inline lutniorad_answer misfit(bool whole, uint32_t m, uint32_t at, uint32_t key, uint32_t n,
+                                      uint32_t *exponent, uint32_t *start)
+{
+    if (!read_key(m, key, exponent, start))
+        return refused(3, n);
+    if (*start < at)
+        return refused(4, n);
+    return whole ? refused(5, n) : answered(n, 0);
+}
+
+/* Behind the last record: refused where the map is to be whole and the picture does not end there. */
+static inline lutniorad_answer ended(bool whole, uint32_t m, uint32_t at, uint32_t q)
+{
+    return whole && at < pixels(m) ? refused(5, q) : answered(q, 0);
+}
+
+/* Refusals 3 to 5. A map that need not be whole may have gaps. */
+static inline lutniorad_answer sound_records(uint32_t m, const uint32_t *keys, size_t q, bool whole)
+{
+    gone to = along(m, keys, q, first_spot(m), 0);
+    while (to.next < q) {
+        uint32_t key = keys[to.next], exponent, start;
+        lutniorad_answer verdict = misfit(whole, m, to.at.place, key, (uint32_t)to.next, &exponent, &start);
+        if (verdict.refusal != 0)
+            return verdict;
+        to = along(m, keys, q, advance(key, exponent, start), to.next + 1);
+    }
+    return ended(whole, m, to.at.place, (uint32_t)q);
 }
 
 /* Refusals 1 and 2. */
@@ -201,32 +245,50 @@ static inline lutniorad_answer sized(uint32_t m, size_t n_keys, size_t n_classes
 static inline lutniorad_answer sound(uint32_t m, const uint32_t *keys, size_t n_keys, size_t n_classes)
 {
     lutniorad_answer verdict = sized(m, n_keys, n_classes);
-    return verdict.refusal != 0 ? verdict : sound_records(m, keys, n_keys);
+    return verdict.refusal != 0 ? verdict : sound_records(m, keys, n_keys, true);
 }
 
-/* How many keys are below x. */
-static inline uint32_t keys_below(const uint32_t *keys, size_t n, uint32_t x)
+/* How many keys are below x, where those before `from` are. */
+static inline size_t keys_below(const uint32_t *keys, size_t q, uint32_t x, size_t from)
 {
-    size_t low = 0, high = n;
+    size_t low = from, high = q;
     while (low < high) {
-        size_t middle = low + (high - low) / 2;
+        size_t middle = (low + high) / 2;
         if (keys[middle] < x)
             low = middle + 1;
         else
             high = middle;
     }
-    return (uint32_t)low;
+    return low;
 }
 
-static inline run records_of(const uint32_t *keys, size_t n, uint32_t key, uint32_t i)
+/* How many records lie in the block of a key and its exponent, from `first` on, the first record that can. */
+static inline size_t records_inside(const uint32_t *keys, size_t q, uint32_t key, uint32_t i, size_t first)
 {
-    uint32_t first = keys_below(keys, n, key), end = key + pow5(i);
-    run inside = {first, 1}, around = {first - 1, 1};
-    if (first == n || end <= keys[first])
-        return around;
-    if (keys[first] != key)
-        inside.count = keys_below(keys + first, n - first, end);
-    return inside;
+    uint32_t end = key + pow5(i);
+    if (first == q)
+        return 0;
+    if (keys[first] == key)
+        return 1;
+    return end <= keys[first] ? 0 : keys_below(keys, q, end, first + 1) - first;
+}
+
+/* The records that overlap a block in which none lies: the one before it in the list, if that is around it, or none. */
+static inline run record_around(uint32_t m, const uint32_t *keys, uint32_t key, uint32_t i, size_t next)
+{
+    run none = {0, 0, i}, around = {(uint32_t)next - 1, 1, i};
+    if (next == 0)
+        return none;
+    around.reach = reach_over(m, keys[next - 1], key, i);
+    return around.reach == i ? none : around;
+}
+
+/* The records that overlap the block of a key and its exponent. */
+static inline run records_of(uint32_t m, const uint32_t *keys, size_t q, uint32_t key, uint32_t i)
+{
+    size_t first = keys_below(keys, q, key, 0), count = records_inside(keys, q, key, i, first);
+    run inside = {(uint32_t)first, (uint32_t)count, i};
+    return count == 0 ? record_around(m, keys, key, i, first) : inside;
 }
 
 /* ---- Windows ---- */

@@ -90,15 +90,6 @@ static uint32_t raise(window at, uint32_t n, uint32_t row, uint32_t col, uint16_
     return south == end ? to - from : 0;
 }
 
-/* Of a block and its first record, the exponent of the larger. */
-static uint32_t larger(work on, opening o)
-{
-    uint32_t exponent = o.at.exponent, start;
-    if (on.keys[o.records.first] < o.key)
-        read_key(on.m, on.keys[o.records.first], &exponent, &start);
-    return exponent;
-}
-
 /* One maximal block: false where it is skipped. */
 static inline bool step(work on, opening *o, uint32_t *done)
 {
@@ -106,8 +97,8 @@ static inline bool step(work on, opening *o, uint32_t *done)
     if (b.row < on.border[b.col - on.at.c0])
         return false;
     o->key = block_key(on.m, b.exponent, b.row, b.col);
-    o->records = records_of(on.keys, on.q, o->key, b.exponent);
-    *done += raise(on.at, larger(on, *o), b.row, b.col, on.border);
+    o->records = records_of(on.m, on.keys, on.q, o->key, b.exponent);
+    *done += raise(on.at, o->records.reach, b.row, b.col, on.border);
     return true;
 }
 
@@ -190,19 +181,17 @@ static uint32_t shared(uint32_t start, uint32_t count, uint32_t n, uint32_t x)
     return to - (from < start ? start : from);
 }
 
-/* A single record contains the block and may stick out of the window. */
-static void add_part(work on, const uint8_t *classes, opening o, uint32_t *totals)
+/* How many pixels the window shares with the block of side 2^n around one of its pixels. */
+static uint32_t clipped(window at, uint32_t n, uint32_t row, uint32_t col)
 {
-    uint32_t e = 0, start, first = o.records.first;
-    read_key(on.m, on.keys[first], &e, &start);
-    totals[classes[first]] += shared(on.at.r0, on.at.h, e, o.at.row) * shared(on.at.c0, on.at.w, e, o.at.col);
+    return shared(at.r0, at.h, n, row) * shared(at.c0, at.w, n, col);
 }
 
 /*
- * Several lie in it, and are gone through as the check does: the block, whose key is `corner` and whose exponent is i,
- * is a picture of its own. Not inlined, or else gcc runs out of registers.
+ * Records that fill a block are gone through as the check does: the block, whose key is `corner` and whose exponent is
+ * i, is a picture of its own. Not inlined, or else gcc runs out of registers.
  */
-__attribute__((noinline)) static void add_inside(const uint32_t *keys, const uint8_t *classes, size_t count,
+__attribute__((noinline)) static void gather_run(const uint32_t *keys, const uint8_t *classes, size_t count,
                                                  uint32_t corner, uint32_t i, uint32_t *totals)
 {
     spot at = first_spot(i);
@@ -213,17 +202,23 @@ __attribute__((noinline)) static void add_inside(const uint32_t *keys, const uin
     }
 }
 
+/* A record that reaches beyond the block contains it and may stick out of the window; otherwise they fill it. */
+static void gather(work on, const uint8_t *classes, opening o, uint32_t *totals)
+{
+    uint32_t first = o.records.first, reach = o.records.reach;
+    if (o.at.exponent < reach)
+        totals[classes[first]] += clipped(on.at, reach, o.at.row, o.at.col);
+    else
+        gather_run(on.keys + first, classes + first, o.records.count, o.key, o.at.exponent, totals);
+}
+
 static void report_totals(work on, const uint8_t *classes, uint32_t *out)
 {
     place p = begin(on);
     opening o;
     uint32_t totals[256] = {0};
     while (next_opening(on, &p, &o))
-        if (o.records.count == 1)
-            add_part(on, classes, o, totals);
-        else
-            add_inside(on.keys + o.records.first, classes + o.records.first, o.records.count, o.key, o.at.exponent,
-                       totals);
+        gather(on, classes, o, totals);
     for (int i = 0; i < 256; i++)
         out[i] = totals[i];
 }
@@ -244,34 +239,97 @@ lutniorad_answer plain_report(uint32_t m, const uint32_t *keys, size_t n_keys, c
     return answered((uint32_t)h * w, 0);
 }
 
-/* Does the block of a key lie in this record? */
-static inline bool lies_in(work on, uint32_t record, uint32_t key, uint32_t i)
+/* A record around a block, by its number, its key and the end of its keys. None where the keys end where they begin. */
+typedef struct {
+    uint32_t first, from, end;
+} known;
+
+/* The records that overlap a block, and the last two records that were found around one. */
+typedef struct {
+    run records;
+    known near, other;
+} seen;
+
+/* Nothing, unless one record is the whole picture. */
+static seen first_seen(work on)
 {
-    return on.keys[record] <= key && (record + 1 == on.q || key + pow5(i) <= on.keys[record + 1]);
+    seen none = {{0, 0, 0}, {0, 0, 0}, {0, 0, 0}};
+    if (on.q == 1 && on.keys[0] == 0)
+        none.near.end = pow5(on.m);
+    return none;
 }
 
-/* Lists the keys of one block behind n others; returns how many there are then. */
-static inline uint32_t list_block(work on, const uint8_t *classes, uint32_t key, run records, uint8_t class,
-                                  uint32_t *out, size_t n_out, uint32_t n)
+/* Does the block of a key lie in this record? */
+static inline bool lies_in(known record, uint32_t key)
+{
+    return key < record.end && record.from < key;
+}
+
+/* The other record is the nearer now. */
+static inline seen exchanged(seen last)
+{
+    seen next = {last.records, last.other, last.near};
+    return next;
+}
+
+/* The records of a block. A record around it is kept, and with it the nearer one so far. */
+static inline seen look_up(work on, uint32_t key, uint32_t i, seen last)
+{
+    last.records = records_of(on.m, on.keys, on.q, key, i);
+    if (i < last.records.reach) {
+        uint32_t from = on.keys[last.records.first];
+        known around = {last.records.first, from, from + pow5(last.records.reach)};
+        last.other = last.near;
+        last.near = around;
+    }
+    return last;
+}
+
+/* Lists the keys of the records in a block behind n others; returns how many there are then. */
+static inline uint32_t pick_run(work on, const uint8_t *classes, run records, uint8_t class, uint32_t *out,
+                                size_t n_out, uint32_t n)
 {
     for (uint32_t i = records.first; i < records.first + records.count; i++)
         if (classes[i] == class)
-            put_key(out, n_out, n++, records.count == 1 ? key : on.keys[i]);
+            put_key(out, n_out, n++, on.keys[i]);
     return n;
 }
 
-static uint32_t list_pass(work on, const uint8_t *classes, uint8_t class, uint32_t *out, size_t n_out)
+/* The block's own key, where it lies in a record. */
+static inline uint32_t pick_around(const uint8_t *classes, uint32_t key, uint32_t record, uint8_t class, uint32_t *out,
+                                   size_t n_out, uint32_t n)
+{
+    if (classes[record] == class)
+        put_key(out, n_out, n++, key);
+    return n;
+}
+
+/* Of a block of exponent i and its records. */
+static inline uint32_t pick(work on, const uint8_t *classes, uint32_t key, uint32_t i, run records, uint8_t class,
+                            uint32_t *out, size_t n_out, uint32_t n)
+{
+    if (i < records.reach)
+        return pick_around(classes, key, records.first, class, out, n_out, n);
+    return pick_run(on, classes, records, class, out, n_out, n);
+}
+
+/* A block in one of the two records found last is not searched for. */
+static uint32_t pick_all(work on, const uint8_t *classes, uint8_t class, uint32_t *out, size_t n_out)
 {
     block b;
-    run records = {0, 1};
+    seen last = first_seen(on);
     uint32_t row = on.at.r0, col = on.at.c0, n = 0;
     while (next_block(on.at, on.m, row, col, &b)) {
         uint32_t key = block_key(on.m, b.exponent, b.row, b.col);
-        if (lies_in(on, records.first, key, b.exponent))
-            records.count = 1;
-        else
-            records = records_of(on.keys, on.q, key, b.exponent);
-        n = list_block(on, classes, key, records, class, out, n_out, n);
+        if (lies_in(last.near, key))
+            n = pick_around(classes, key, last.near.first, class, out, n_out, n);
+        else if (lies_in(last.other, key)) {
+            last = exchanged(last);
+            n = pick_around(classes, key, last.near.first, class, out, n_out, n);
+        } else {
+            last = look_up(on, key, b.exponent, last);
+            n = pick(on, classes, key, b.exponent, last.records, class, out, n_out, n);
+        }
         row = b.row;
         col = b.after;
     }
@@ -289,9 +347,9 @@ lutniorad_answer plain_select(uint32_t m, const uint32_t *keys, size_t n_keys, c
         return verdict;
     fill(border, 0, w, (uint32_t)r0 + h);
     if (n_out < 4 * ((size_t)w + h) + n_keys) {
-        needed = list_pass(on, classes, class, out, 0);
+        needed = pick_all(on, classes, class, out, 0);
         if (n_out < needed)
             return refused(8, needed);
     }
-    return answered(list_pass(on, classes, class, out, n_out), 0);
+    return answered(pick_all(on, classes, class, out, n_out), 0);
 }
