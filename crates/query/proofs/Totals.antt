@@ -12,7 +12,8 @@ use lib.Seq.{getD-set-same, getD-set-other, ext-getD}
 use borrow.Author.Tests.{eqb-true, eqb-false, eq-eqb}
 use Rattle.lists.specs.Lists.{upFrom, sum, any, keep, Ordered, howMany}
 use Rattle.lists.proofs.Tests.{agree}
-use Rattle.lists.proofs.Laws.{ordered-part, up-in, up-length, up-distinct, table-entry, keep-empty, keep-taken, keep-passed, keep-true, in-keep, ordered-keep, any-has, has-any, many-same, many-all, many-most, sum-none, sum-next, each-once}
+use Rattle.lists.proofs.Laws.{ordered-part, up-in, up-length, up-distinct, table-entry, keep-empty, keep-taken, keep-passed, keep-true, in-keep, ordered-keep}
+use Rattle.lists.proofs.Laws.{any-has, has-any, many-same, many-all, many-most, sum-none, sum-next, each-once}
 use Rattle.window.specs.declared.Window.{Window}
 use Rattle.window.specs.Window.{Px, In, Inside}
 use Rattle.window.proofs.Laws.{rows-in, in-rows, rows-length}
@@ -110,7 +111,9 @@ module _ (m : ℕ) (keys classes : List ℕ) (W : Window) where
       → getD (gathered m keys classes W ns (replicate 256 0)) k 0 ≡ howMany (λ p. any (eqb (pixelRecord m keys (p .0) (p .1))) (ofClass k ns)) (pixels W)
   unfolding area
   gathered-counts {ns} o {k} l =
-      omega (arith, gathered-at ns (replicate 256 0) {k = k} (omega (arith, length-replicate {A = ℕ} 256 0)), getD-replicate {A = ℕ} 256 k 0 0 l, each-once (λ p. pixelRecord m keys (p .0) (p .1)) (pixels W) (ordered-keep (classed classes k) o))
+      let start = gathered-at ns (replicate 256 0) {k = k} (omega (arith, length-replicate {A = ℕ} 256 0)) in
+      let once = each-once (λ p. pixelRecord m keys (p .0) (p .1)) (pixels W) (ordered-keep (classed classes k) o) in
+      omega (arith, start, getD-replicate {A = ℕ} 256 k 0 0 l, once)
 
   -- ---- no sum passes the number of pixels
 

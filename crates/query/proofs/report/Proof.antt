@@ -52,7 +52,9 @@ same-length : tie.Need-same-length
 same-length c = search needs
 
 returns-2 : tie.Need-returns-2
-returns-2 c = report-short _ _ _ _ _ _ (passed (c .before .before .before .before .before .before .before)) (c .before .before .fill .ensures ∙ filled-spent _ _ (known (c .before .before .before .before .before .before .before) .wide)) (omega (arith, c .before .before .before .before .before .before .if1 .taken))
+returns-2 c =
+    let told = c .before .before .before .before .before .before .before in
+    report-short _ _ _ _ _ _ (passed told) (c .before .before .fill .ensures ∙ filled-spent _ _ (known told .wide)) (omega (arith, c .before .before .before .before .before .before .if1 .taken))
 
 spread-table-requires : tie.Need-spread-table-requires
 spread-table-requires c κs = search needs
