@@ -113,7 +113,8 @@ module _ {W : Window} (n : ℕ) {b : Px} (cells : List ℕ) (v : In W b) (l : W 
           let all = many-all {f = now} (upFrom (W .c0 + a) (e - a)) (λ c k. test k ∙ lt-ltb _ _ h) in
           rw (lt-ltb (south W n b) (W .r0 + W .h) h) (omega (arith, all, up-length (W .c0 + a) (e - a)))
       go (no h) =
-          let none = many-same {f = now} {g = λ c. false} (upFrom (W .c0 + a) (e - a)) (λ c k. test k ∙ le-ltb (south W n b) (W .r0 + W .h) (omega arith)) ∙ many-none (upFrom (W .c0 + a) (e - a)) in
+          let all = upFrom (W .c0 + a) (e - a) in
+          let none = many-same {f = now} {g = λ c. false} all (λ c k. test k ∙ le-ltb (south W n b) (W .r0 + W .h) (omega arith)) ∙ many-none all in
           rw (le-ltb (south W n b) (W .r0 + W .h) (omega arith)) (omega (arith, none))
 
   pub left-raised : columnsLeft W (raised W n b cells) + closed W n b ≡ columnsLeft W cells

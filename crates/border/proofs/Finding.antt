@@ -64,7 +64,7 @@ module _ {m top : ℕ} {keys : List ℕ} {W : Window} (cells : List ℕ) {border
     kept = kept-none;
     all = openings-are m top keys W ∙ rw (← walked .all) (sym (A .openings));
     left =
-        let t = ends (leftOver m top keys W border (maximal W top)) (λ p v. all-covered (U .sound) (U .inside) (U .cap) v) (omega (arith, fresh-usable .wide, A .kept .same)) (A .stated) in
+        let t = ends (leftOver m top keys W border (maximal W top)) (λ p v. all-covered (U .spaced) (U .inside) (U .cap) v) (omega (arith, fresh-usable .wide, A .kept .same)) (A .stated) in
         let l : length (replicate (W .w) (W .r0 + W .h)) ≡ W .w = length-replicate (W .w) (W .r0 + W .h) in
         rw (← walked .all) (sym (take-append-drop (W .w) _) ∙ rw (t, A .kept .beyond) (rw l at (overwrite-part (replicate (W .w) (W .r0 + W .h)) border)));
   }
@@ -85,7 +85,8 @@ module _ {m top : ℕ} {keys : List ℕ} {W : Window} {border₀ border : List �
     finding-usable U = rw (F .kept .same) U
 
     -- cells that are filled to the end are spent, however far the walk is
-    pub finding-spent : {after : List ℕ} → Usable m top keys W (length border₀) → after ≡ filled 0 (W .w) (W .r0 + W .h) border → (after ≡ spent W border₀) × (length after ≡ length border₀)
+    pub finding-spent : {after : List ℕ} → Usable m top keys W (length border₀) → after ≡ filled 0 (W .w) (W .r0 + W .h) border
+        → (after ≡ spent W border₀) × (length after ≡ length border₀)
     finding-spent U e =
         let l = finding-usable U .wide in
         (e ∙ filled-spent W border l ∙ spent-kept (F .kept), rw e (filled-length 0 (W .w) (W .r0 + W .h) border (omega arith) l) ∙ F .kept .same)
@@ -99,7 +100,8 @@ module _ {m top : ℕ} {keys : List ℕ} {W : Window} {border₀ border : List �
       left = sym l ∙ F .left;
     }
 
-    pub finding-last : {border′ : List ℕ} → Finds m top keys W at border found.End border′ → (openings m top keys W ≡ done) × (border′ ≡ spent W border₀) × Kept W border₀ border′
+    pub finding-last : {border′ : List ℕ} → Finds m top keys W at border found.End border′
+        → (openings m top keys W ≡ done) × (border′ ≡ spent W border₀) × Kept W border₀ border′
     finding-last (finds.end k e l) = (F .all ∙ rw (e, append-nil), sym l ∙ F .left, kept-more (F .kept) k)
 
 -- the block with corner b is opened with the `count` records from `first` on, which reach so far
@@ -117,10 +119,10 @@ module _ {m top : ℕ} {keys : List ℕ} {W : Window} {at : Walk} {cells border 
       let listed : List·Memᴰ (made key first count) (openings m top keys W) = rw (F .all, e) (Memᴰ·append-right done (List·Memᴰ·head {xs = madeFrom m top keys W border (spot on)} refl)) in
       let t = opening-block m top keys W listed in
       let d : keyOf m top W (t .0) ≡ keyOf m top W (row, col) = sym (ap (λ (o : Opening). o .key) (t .2)) ∙ n in
-      let far-own = far-is (U .sound) (U .inside) (U .cap) K in
+      let far-own = far-is (U .spaced) (U .inside) (U .cap) K in
       let r : runOf m keys (keyOf m top W (row, col)) ≡ runs.run first count far =
       rw (f ∙ sym far-own, ← d) (ap (λ (o : Opening). runs.run (o .first) (o .count) (runOf m keys (keyOf m top W (t .0)) .reach)) (sym (t .2))) in
-      record { corner = K; run = r; room = rw r at (met-room (U .sound) (U .inside) (U .cap) K) }
+      record { corner = K; run = r; room = rw r at (met-room (U .spaced) (U .inside) (U .cap) K) }
 
   pub finds-exponent : Finds m top keys W at cells (found.Opening row col i key first count far on) border → (i ≡ exponent W top (row, col)) × (key ≡ keyOf m top W (row, col))
   finds-exponent (finds.opening K x n f R k e l) = (x, n)

@@ -40,8 +40,8 @@ module _ {m top : ℕ} {keys : List ℕ} {W : Window} where
 
       told : (b .0 < getD cells (b .1 - W .c0) 0) ↔ (isHanded m keys handed key ≡ true)
       told =
-          let a = skip-iff (U .inside) (tiles (U .sound)) (own-corner past b rest split) (stated-out (U .sound) (U .inside) (U .cap) past b rest split st) in
-          let z = skip-test (U .sound) (U .inside) (U .cap) past b rest split in
+          let a = skip-iff (U .inside) (tiles (U .spaced)) (own-corner past b rest split) (stated-out (U .spaced) (U .inside) (U .cap) past b rest split st) in
+          let z = skip-test (U .spaced) (U .inside) (U .cap) past b rest split in
           (λ l. z .1 (a .0 l), λ e. a .1 (z .0 e))
 
       go : Dec (b .0 < getD cells (b .1 - W .c0) 0) → madeBy answer ≡ openFrom m keys handed (key ∷ [])

@@ -109,14 +109,14 @@ unfolding shutBy
 step-left {m} {top} {keys} {W} {b} {cells} {border} {answer} past rest U K split st S = go (decLt (b .0) (getD cells (b .1 - W .c0) 0))
   where
     o : Stated W (Out W top (pixelTile m keys) b) cells
-    o = stated-out (U .sound) (U .inside) (U .cap) past b rest split st
+    o = stated-out (U .spaced) (U .inside) (U .cap) past b rest split st
 
     go : Dec (b .0 < getD cells (b .1 - W .c0) 0) → columnsLeft W border + shutBy answer ≡ columnsLeft W cells
     go (yes l) = ap (λ (x : AfterStep). columnsLeft W (x .border) + shutBy (x .answer)) (S .is ∙ high-is m top keys W b cells l) ∙ add-zero (columnsLeft W cells)
     go (no h) =
-        let fresh : ¬ Out W top (pixelTile m keys) b b = λ z. h (skip-iff (U .inside) (tiles (U .sound)) K o .1 z) in
+        let fresh : ¬ Out W top (pixelTile m keys) b b = λ z. h (skip-iff (U .inside) (tiles (U .spaced)) K o .1 z) in
         ap (λ (x : AfterStep). columnsLeft W (x .border) + shutBy (x .answer)) (S .is ∙ low-is m top keys W b cells (omega (arith, h)))
-        ∙ left-raised (reach W top (pixelExponent m keys) b) cells (K .inside) (U .wide) (λ c x y e. omega (arith, fresh-high (U .inside) (tiles (U .sound)) K fresh o x y e, K .inside))
+        ∙ left-raised (reach W top (pixelExponent m keys) b) cells (K .inside) (U .wide) (λ c x y e. omega (arith, fresh-high (U .inside) (tiles (U .spaced)) K fresh o x y e, K .inside))
 
 -- a step, as it is made
 pub stepped-on : {m top : ℕ} {keys : List ℕ} {W : Window} {b : Px} (cells : List ℕ) → Usable m top keys W (length cells) → Corner W top b

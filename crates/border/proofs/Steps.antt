@@ -38,7 +38,7 @@ module _ {m top : ℕ} {keys : List ℕ} {W : Window} {b : Px} {i room : ℕ} (K
   step-name e = e ∙ key-at m top W b (K .size)
 
   pub step-block : {key : ℕ} → key ≡ keyOf m top W b → BlockOf m key i
-  step-block name = rw (name, K .size) (block-key (K .given .sound) (K .given .inside) (K .given .cap) (K .corner))
+  step-block name = rw (name, K .size) (block-key (K .given .spaced) (K .given .inside) (K .given .cap) (K .corner))
 
   module _ {key : ℕ} {run : Run} (name : key ≡ keyOf m top W b) (e : run ≡ runOf m keys key) where
     abbrev own : Run
@@ -48,10 +48,10 @@ module _ {m top : ℕ} {keys : List ℕ} {W : Window} {b : Px} {i room : ℕ} (K
     found = e ∙ ap (runOf m keys) name
 
     pub step-reach : run .reach ≡ reach W top (pixelExponent m keys) b
-    step-reach = rw found (far-is (K .given .sound) (K .given .inside) (K .given .cap) (K .corner))
+    step-reach = rw found (far-is (K .given .spaced) (K .given .inside) (K .given .cap) (K .corner))
 
   pub step-small : reach W top (pixelExponent m keys) b ≤ m
-  step-small = omega (arith, K .given .cap, exponent-le W top b, tiles (K .given .sound) .small (pixel-in (K .given .inside) (K .corner .inside)))
+  step-small = omega (arith, K .given .cap, exponent-le W top b, tiles (K .given .spaced) .small (pixel-in (K .given .inside) (K .corner .inside)))
 
   -- ---- what it does
 
@@ -62,12 +62,13 @@ module _ {m top : ℕ} {keys : List ℕ} {W : Window} {b : Px} {i room : ℕ} (K
       is = rw (lt-ltb (b .0) (getD cells (b .1 - W .c0) 0) l);
       skips = (λ e. l, λ h. refl);
       stays = λ before after split st.
-          let o = stated-out (K .given .sound) (K .given .inside) (K .given .cap) before b after split st in
-          let now = skips (K .given .inside) (tiles (K .given .sound)) (K .corner) (skip-iff (K .given .inside) (tiles (K .given .sound)) (K .corner) o .0 l) o in
-          stated-now (K .given .sound) (K .given .inside) (K .given .cap) before b after split now;
+          let o = stated-out (K .given .spaced) (K .given .inside) (K .given .cap) before b after split st in
+          let now = skips (K .given .inside) (tiles (K .given .spaced)) (K .corner) (skip-iff (K .given .inside) (tiles (K .given .spaced)) (K .corner) o .0 l) o in
+          stated-now (K .given .spaced) (K .given .inside) (K .given .cap) before b after split now;
     }
 
-    pub step-opened : {key : ℕ} {run : Run} {shut : ℕ} {after : List ℕ} → getD cells (b .1 - W .c0) 0 ≤ b .0 → W .w ≤ length cells → key ≡ keyOf m top W b → run ≡ runOf m keys key
+    pub step-opened : {key : ℕ} {run : Run} {shut : ℕ} {after : List ℕ} → getD cells (b .1 - W .c0) 0 ≤ b .0 → W .w ≤ length cells
+        → key ≡ keyOf m top W b → run ≡ runOf m keys key
         → shut ≡ closed W (run .reach) b → after ≡ raised W (run .reach) b cells → Step m top keys W b cells (Opened key (run .first) (run .count) (run .reach) shut) after
     unfolding stepOf
     step-opened l wide name e x f =
@@ -78,8 +79,8 @@ module _ {m top : ℕ} {keys : List ℕ} {W : Window} {b : Px} {i room : ℕ} (K
           is = rw (le-ltb (b .0) (getD cells (b .1 - W .c0) 0) l, up, shuts, d, found name e, name);
           skips = (λ z. absurd (opened-not-skipped z), λ h. absurd (omega arith));
           stays = λ before after split st.
-              let o = stated-out (K .given .sound) (K .given .inside) (K .given .cap) before b after split st in
-              let fresh : ¬ Out W top (pixelTile m keys) b b = λ z. omega (arith, skip-iff (K .given .inside) (tiles (K .given .sound)) (K .corner) o .1 z) in
-              let now = raises (K .given .inside) (tiles (K .given .sound)) (K .corner) fresh wide o in
-              rw up (stated-now (K .given .sound) (K .given .inside) (K .given .cap) before b after split now);
+              let o = stated-out (K .given .spaced) (K .given .inside) (K .given .cap) before b after split st in
+              let fresh : ¬ Out W top (pixelTile m keys) b b = λ z. omega (arith, skip-iff (K .given .inside) (tiles (K .given .spaced)) (K .corner) o .1 z) in
+              let now = raises (K .given .inside) (tiles (K .given .spaced)) (K .corner) fresh wide o in
+              rw up (stated-now (K .given .spaced) (K .given .inside) (K .given .cap) before b after split now);
         }

@@ -63,7 +63,7 @@ module _ (m : ℕ) (keys : List ℕ) (classes : ℕ) (W : Window) (cells : ℕ) 
         small = s .sizes .small;
         cap = omega arith;
         few = s .sizes .most;
-        sound = spaced (s .records);
+        spaced = spaced (s .records);
         inside = window-inside m W (b .0);
         wide = ltb-false cells (W .w) (passed-row (ltb cells (W .w)) 7 (W .w) [] .0 (b .1) .0);
       }
@@ -80,7 +80,8 @@ module _ (m : ℕ) (keys : List ℕ) (classes : ℕ) (W : Window) (cells : ℕ) 
 -- ---- refusal 8, and an accepted call
 
 module _ {A : Type 0} (refuse : ℕ → ℕ → A) (done : A) (cells : List ℕ) (m : ℕ) (keys : List ℕ) (classes : ℕ) (W : Window) (border out : List ℕ) where
-  pub used-refused : {n p : ℕ} → verdict (useRows m keys classes W (length border)) ≡ verdict-of.Refused n p → usedFor refuse done cells m keys classes W border out ≡ after (refuse n p) border out
+  pub used-refused : {n p : ℕ} → verdict (useRows m keys classes W (length border)) ≡ verdict-of.Refused n p
+      → usedFor refuse done cells m keys classes W border out ≡ after (refuse n p) border out
   unfolding usedFor
   used-refused e = on-refused _ (useRows m keys classes W (length border)) _ e
 
@@ -116,7 +117,8 @@ module _ {A : Type 0} (refuse : ℕ → ℕ → A) (done : A) (cells : List ℕ)
     pub leaves : spent W border ≡ border′
     pub writes : overwrite cells out ≡ out′
 
-  pub used-told : {a : A} {border′ out′ : List ℕ} → ((n p : ℕ) → refuse n p ≡ a → ⊥) → usedFor refuse done cells m keys classes W border out ≡ after a border′ out′ → Told a border′ out′
+  pub used-told : {a : A} {border′ out′ : List ℕ} → ((n p : ℕ) → refuse n p ≡ a → ⊥)
+      → usedFor refuse done cells m keys classes W border out ≡ after a border′ out′ → Told a border′ out′
   unfolding usedFor
   used-told other e =
       let x = Answers.accepted (λ n p. after (refuse n p) border out) (useRows m keys classes W (length border)) _ (λ n p q. other n p (ap (λ (t : After A). t .answer) q)) e in
@@ -158,7 +160,8 @@ unfolding fitting
 passed-none p = p .written ∙ sym (overwrite-part [] [])
 
 -- a pass keeps the lengths of both slices
-pub passed-same : {m top : ℕ} {keys : List ℕ} {W : Window} {border₀ out₀ border out : List ℕ} {totals : Totals} → Passed m top keys W border₀ out₀ totals border out → W .w ≤ length border₀
+pub passed-same : {m top : ℕ} {keys : List ℕ} {W : Window} {border₀ out₀ border out : List ℕ} {totals : Totals}
+    → Passed m top keys W border₀ out₀ totals border out → W .w ≤ length border₀
     → (length border ≡ length border₀) × (length out ≡ length out₀)
 unfolding spent fitting
 passed-same {m} {top} {keys} {W} {border₀} {out₀} p wide =

@@ -48,7 +48,7 @@ pub record Usable (m top : ℕ) (keys : List ℕ) (W : Window) (cells : ℕ) : T
   pub small : m ≤ 12
   pub cap : top ≤ m
   pub few : length keys ≤ 65536
-  pub sound : Spaced m 0 keys
+  pub spaced : Spaced m 0 keys
   pub inside : Inside m W
   pub wide : W .w ≤ cells
 

@@ -71,7 +71,8 @@ unfolding keep
 keep-map f g [] = refl
 keep-map {B = B} f g (x ∷ l) = go (f (g x)) (keep-map f g l)
   where
-    go : (b : Bool) → keep f (map g l) ≡ map g (keep (λ y. f (g y)) l) → cond b (g x ∷ keep f (map g l)) (keep f (map g l)) ≡ map g (cond b (x ∷ keep (λ y. f (g y)) l) (keep (λ y. f (g y)) l))
+    go : (b : Bool) → keep f (map g l) ≡ map g (keep (λ y. f (g y)) l)
+        → cond b (g x ∷ keep f (map g l)) (keep f (map g l)) ≡ map g (cond b (x ∷ keep (λ y. f (g y)) l) (keep (λ y. f (g y)) l))
     go true ih = ap (λ (ys : List B). g x ∷ ys) ih
     go false ih = ih
 

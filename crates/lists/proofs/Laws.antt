@@ -7,3 +7,4 @@ pub use Rattle.lists.proofs.Any.{any-none, any-next, any-has, has-any, 
 pub use Rattle.lists.proofs.Counts.{many-empty, many-next, many-same, many-none, many-all, many-most, many-some, many-append, sum-none, sum-next, each-once}
 pub use Rattle.lists.proofs.Stretches.{Stretch, stretch-of, stretch-begins, stretch-counts, before-none}
 pub use Rattle.lists.proofs.Greatest.{greatest-le, greatest-holds, greatest-over}
+pub use Rattle.lists.proofs.Multiples.{down-le, down-lt, down-eq, down-zero, down-nested, down-up}

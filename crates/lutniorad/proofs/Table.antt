@@ -67,7 +67,10 @@ pub record Table : Type 0 where
   pub p12-accepted : verdict (useRows 2 keys 7 (window 2 0 2 1) 1) ≡ verdict-of.Passed
 
 pub table : Table
-unfolding answer wrongCount sizeRows overwrite upFrom spreadTo spread place pixelKey blockKey from formOf beyond outside windowRows keep floor lies fits greatest exponent corner across rows isCorner maximal keyOf keysOf spans.malformed spans.exponent spans.start spans.end spans.holds spans.overlap late rowsFrom mapRows checkOf before howMany recordOf exponentOf runOf any indices within isHanded opening openFrom openings handsOut useRows spent hasClass total totals around inside selected allSelected selection usedFor reportOf selectOf bytes bytesOf header fileOf
+unfolding answer wrongCount sizeRows overwrite upFrom spreadTo spread place pixelKey blockKey from formOf beyond outside windowRows keep floor lies
+    fits greatest exponent corner across rows isCorner maximal keyOf keysOf spans.malformed spans.exponent spans.start spans.end spans.holds spans.overlap
+    late rowsFrom mapRows checkOf before howMany recordOf exponentOf runOf any indices within isHanded opening openFrom openings handsOut useRows spent
+    hasClass total totals around inside selected allSelected selection usedFor reportOf selectOf bytes bytesOf header fileOf
 table = record {
   p1-length = refl;
   p1-header = refl;

@@ -14,7 +14,7 @@ use Rattle.map.specs.Records.{Record, SomeRecord, Holder, Free}
 use Rattle.map.specs.Runs.{Rising}
 
 module _ {m : ℕ} where
-  -- a whole map is one without gaps
+  -- what leaves no gap rises without overlap
   pub spaced : {at : ℕ} {keys : List ℕ} → Follow m at keys → Spaced m at keys
   spaced (full e) = ended
   spaced {at} (next b q F) = later {at = at} {s = at} (omega arith) b q (spaced F)
@@ -41,15 +41,15 @@ module _ {m : ℕ} where
       }
 
   -- no record starts before the first place
-  late : {at : ℕ} {keys : List ℕ} → Spaced m at keys → (n : ℕ) {i s : ℕ} → Record m keys n i s → at ≤ s
-  late ended n r = absurd (omega (arith, r .within))
-  late (later h b q F) zero r = omega (arith, one-block b (r .names) .1)
-  late (later h b q F) (suc n) r = omega (arith, late F n (behind r))
+  not-before : {at : ℕ} {keys : List ℕ} → Spaced m at keys → (n : ℕ) {i s : ℕ} → Record m keys n i s → at ≤ s
+  not-before ended n r = absurd (omega (arith, r .within))
+  not-before (later h b q F) zero r = omega (arith, one-block b (r .names) .1)
+  not-before (later h b q F) (suc n) r = omega (arith, not-before F n (behind r))
 
   pub apart : {at : ℕ} {keys : List ℕ} → Spaced m at keys → (a b : ℕ) {i s j t : ℕ} → Record m keys a i s → Record m keys b j t → a < b → s + 4 ^ i ≤ t
   apart F a zero r u l = absurd (omega arith)
   apart ended a (suc b) r u l = absurd (omega (arith, u .within))
-  apart (later h c q F) zero (suc b) r u l = let o = one-block (r .names) c in rw (o .0, o .1, ← q) (late F b (behind u))
+  apart (later h c q F) zero (suc b) r u l = let o = one-block (r .names) c in rw (o .0, o .1, ← q) (not-before F b (behind u))
   apart (later h c q F) (suc a) (suc b) r u l = apart F a b (behind r) (behind u) (omega arith)
 
   -- the first record starts at the first place, and each next one where the last span ended
@@ -89,7 +89,8 @@ module _ {m : ℕ} where
       go (yes l) (no u) ih = behind-first ih (λ z. omega arith)
 
   -- keys rise, by as much as the earlier block has keys
-  pub keys-apart : {at : ℕ} {keys : List ℕ} → Spaced m at keys → (a b : ℕ) {i s j t : ℕ} → Record m keys a i s → Record m keys b j t → a < b → getD keys a 0 + 5 ^ i ≤ getD keys b 0
+  pub keys-apart : {at : ℕ} {keys : List ℕ} → Spaced m at keys → (a b : ℕ) {i s j t : ℕ} → Record m keys a i s → Record m keys b j t
+      → a < b → getD keys a 0 + 5 ^ i ≤ getD keys b 0
   keys-apart F a b r u l = ordered (r .names) (u .names) .0 (apart F a b r u l)
 
   pub keys-rise : {at : ℕ} {keys : List ℕ} → Spaced m at keys → Rising keys

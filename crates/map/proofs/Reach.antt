@@ -56,7 +56,8 @@ module _ {m : ℕ} {keys : List ℕ} (F : Spaced m 0 keys) {key i s : ℕ} (b : 
           record { start = y; one = c; is = rw f u; around = rw f h }
 
 -- each block in a record is smaller, and overlaps it alone
-pub known-record : {m : ℕ} {keys : List ℕ} → Spaced m 0 keys → {n j t from end : ℕ} → Record m keys n j t → from ≡ getD keys n 0 → end ≡ from + 5 ^ j → Known m keys (near n from end)
+pub known-record : {m : ℕ} {keys : List ℕ} → Spaced m 0 keys → {n j t from end : ℕ} → Record m keys n j t
+    → from ≡ getD keys n 0 → end ≡ from + 5 ^ j → Known m keys (near n from end)
 known-record {m} {keys} F {n} {j} {t} {from} {end} R e f = record {
   first = λ x i c h. ap (λ (r : Run). r .first) (inner c h .0);
   reach = λ x i c h. omega (arith, inner c h .1, ap (λ (r : Run). r .reach) (inner c h .0));

@@ -217,20 +217,12 @@ fn record_around(table: &[u32; 256], m: u32, keys: &[u32], key: u32, i: u32, nex
     ensures { λ r. ⌜ r ≡ runOf m (now (keys .entry)) key ⌝ }
 {
     if next == 0 {
-        return Run {
-            first: 0,
-            count: 0,
-            reach: i,
-        };
+        return inside(0, 0, i);
     }
     let first = next - 1;
     let reach = key::reach_over(table, m, keys[first], key, i);
     if reach == i {
-        return Run {
-            first: 0,
-            count: 0,
-            reach: i,
-        };
+        return inside(0, 0, reach);
     }
     alone(first as u32, reach)
 }

@@ -8,7 +8,6 @@ use lib.ListN.{length, replicate}
 use Rattle.lists.specs.Lists.{upFrom}
 use Rattle.lists.proofs.Laws.{ordered-part}
 use Rattle.window.specs.declared.Window.{Window}
-use Rattle.window.specs.Window.{Px}
 use Rattle.map.specs.Sound.{Follow}
 use Rattle.border.specs.declared.Walk.{Walk}
 use Rattle.border.specs.declared.Found.the-variants as found
@@ -29,7 +28,8 @@ pub record Totalling (m : ℕ) (keys classes : List ℕ) (W : Window) (border₀
   pub is : cells ≡ gathered m keys classes W (allHands done) (replicate 256 0)
 
 module _ {m : ℕ} {keys : List ℕ} (classes : List ℕ) {W : Window} where
-  pub totalling-first : {border : List ℕ} → Finding m m keys W border border (walk (W .r0) (W .c0) (W .w)) [] → Totalling m keys classes W border border (replicate 256 0) (walk (W .r0) (W .c0) (W .w))
+  pub totalling-first : {border : List ℕ} → Finding m m keys W border border (walk (W .r0) (W .c0) (W .w)) []
+      → Totalling m keys classes W border border (replicate 256 0) (walk (W .r0) (W .c0) (W .w))
   unfolding gathered
   totalling-first F = record { done = []; finding = F; is = rw hands-none }
 
@@ -58,7 +58,7 @@ module _ {m : ℕ} {keys : List ℕ} (classes : List ℕ) {W : Window} where
       pub totalling-once : Gathering m keys classes W first count cells
       totalling-once =
           let os = T .done ++ (made key first count ∷ []) in
-          let all = rw (finding-next (T .finding) f .all, hands-append os (madeFrom m m keys W border′ (spot on))) at (records-once (U .sound) (U .inside) (U .cap)) in
+          let all = rw (finding-next (T .finding) f .all, hands-append os (madeFrom m m keys W border′ (spot on))) at (records-once (U .spaced) (U .inside) (U .cap)) in
           record { past = allHands (T .done); is = T .is; once = rw now-done at (ordered-part (allHands os) _ all) }
 
       pub totalling-next : {cells′ : List ℕ} → cells′ ≡ gathered m keys classes W (upFrom first count) cells → Totalling m keys classes W border₀ border′ cells′ on

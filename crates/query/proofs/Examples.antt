@@ -63,7 +63,10 @@ pub record Examples : Type 0 where
   pub other : selected 2 keys classes 1 13 ≡ []
 
 pub examples : Examples
-unfolding answer wrongCount sizeRows overwrite upFrom spreadTo spread place pixelKey blockKey from formOf beyond outside windowRows keep floor lies fits greatest exponent corner across rows isCorner maximal keyOf keysOf spans.malformed spans.exponent spans.start spans.end spans.holds spans.overlap late rowsFrom mapRows before howMany recordOf any within useRows spent hasClass exists total totals around inside selected allSelected selection existing existOf usedFor reportOf selectOf
+unfolding answer wrongCount sizeRows overwrite upFrom spreadTo spread place pixelKey blockKey from formOf beyond outside windowRows keep floor lies
+    fits greatest exponent corner across rows isCorner maximal keyOf keysOf spans.malformed spans.exponent spans.start spans.end spans.holds spans.overlap
+    late rowsFrom mapRows before howMany recordOf any within useRows spent hasClass exists total totals around inside selected allSelected selection
+    existing existOf usedFor reportOf selectOf
 examples = record {
   yes = refl;
   no = refl;

@@ -31,7 +31,7 @@ module _ {m : ℕ} {keys : List ℕ} {classes : ℕ} {W : Window} {b : Px} {key 
   -- one that reaches further
   module _ (l : i < far) where
     alone : Alone m keys key i (place (b .0) (b .1))
-    alone = reach-beyond (H .given .sound) named (rw (H .found) l)
+    alone = reach-beyond (H .given .spaced) named (rw (H .found) l)
 
     pub hands-one : count ≡ 1
     hands-one = rw (H .found) at (alone .one)
@@ -41,12 +41,12 @@ module _ {m : ℕ} {keys : List ℕ} {classes : ℕ} {W : Window} {b : Px} {key 
 
     pub hands-single : area m keys W first ≡ clipped W far b
     hands-single =
-        rw (← H .named, H .found) at (area-corner (H .given .sound) (H .given .inside) (H .given .cap) (H .corner) (rw (← H .named, H .found, ← H .size) l))
+        rw (← H .named, H .found) at (area-corner (H .given .spaced) (H .given .inside) (H .given .cap) (H .corner) (rw (← H .named, H .found, ← H .size) l))
 
   -- otherwise they fill the block
   pub hands-fill : far ≤ i → Fills m keys classes W key i first count
   hands-fill l =
-      let e : far ≡ i = omega (arith, ap (λ (r : Run). r .reach) (H .found), reach-least (H .given .sound) named) in
+      let e : far ≡ i = omega (arith, ap (λ (r : Run). r .reach) (H .found), reach-least (H .given .spaced) named) in
       record { corner = b; hands = rw e at H }
 
 module _ {m : ℕ} {keys : List ℕ} {classes : ℕ} {W : Window} {key i first count : ℕ} (L : Fills m keys classes W key i first count) where
@@ -71,7 +71,7 @@ module _ {m : ℕ} {keys : List ℕ} {classes : ℕ} {W : Window} {key i first c
     fills-key = inner-key (hands .whole) (named hands) short (run-in a) .least
 
     pub fills-within : n < length keys
-    fills-within = omega (arith, block-records (hands .given .sound) (named hands) .room, run-in a)
+    fills-within = omega (arith, block-records (hands .given .spaced) (named hands) .room, run-in a)
 
     -- where record n starts, it is a block of its own exponent
     module _ {p : ℕ} (I : Inner m keys key (first + count) n p) where
@@ -93,7 +93,7 @@ module _ {m : ℕ} {keys : List ℕ} {classes : ℕ} {W : Window} {key i first c
         fills-area q =
             let G = hands .given in
             let listed : List·Memᴰ n (met m keys (keyOf m (hands .top) W (L .corner))) = rw (← hands .named) (met-in m keys key n .1 (run-in a)) in
-            q ∙ same ∙ sym (area-inside (G .sound) (G .inside) (G .cap) (hands .corner) (rw (← hands .named) (short ∙ hands .size)) listed)
+            q ∙ same ∙ sym (area-inside (G .spaced) (G .inside) (G .cap) (hands .corner) (rw (← hands .named) (short ∙ hands .size)) listed)
 
         pub fills-next : {end : ℕ} → end ≡ p + 4 ^ e → Inner m keys key (first + count) (n + 1) end
         fills-next {end} q =

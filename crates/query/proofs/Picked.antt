@@ -8,7 +8,7 @@ use Prim.Native.Nat.{ℕ, _^_, _≤_, _<_}
 use native.Mathlib.Decide.{decLt, ℕ-discrete}
 use native.Mathlib.Omega.{arith}
 use lib.ListN.{length, getD}
-use borrow.Author.Tests.{eqb-true, eq-eqb, ne-eqb, lt-ltb, le-ltb}
+use borrow.Author.Tests.{eqb-true, eq-eqb, lt-ltb, le-ltb}
 use Rattle.lists.specs.Lists.{upFrom, keep}
 use Rattle.lists.proofs.Tests.{refuted, agree}
 use Rattle.lists.proofs.Laws.{up-in, keep-none, keep-same, keep-run}
@@ -28,19 +28,10 @@ use Rattle.map.proofs.Laws.{record-at, block-records, found-around, Alone, reac
 use Rattle.border.specs.Step.{Corner}
 use Rattle.query.specs.Classes.{classed}
 use Rattle.query.specs.Select.{inside, around, selected, pickedRun, pickedAround, picked}
-use Rattle.query.proofs.Picking.{picks}
+use Rattle.query.proofs.Picking.{around-has, around-not, picks-one}
 use Rattle.query.proofs.Choices.{around-is, inside-is, selected-whole, selected-parts, Choice, whole, parts as parts-of, choice}
 
 -- ---- what is picked, by cases
-
-module _ (classes : List ℕ) (class key n : ℕ) where
-  pub around-has : getD classes n 0 ≡ class → pickedAround classes class key n ≡ key ∷ []
-  unfolding pickedAround
-  around-has d = rw (eq-eqb (getD classes n 0) class d)
-
-  pub around-not : ¬ (getD classes n 0 ≡ class) → pickedAround classes class key n ≡ []
-  unfolding pickedAround
-  around-not d = rw (ne-eqb (getD classes n 0) class d)
 
 module _ (keys classes : List ℕ) (class key i : ℕ) (run : Run) where
   pub picked-around : i < run .reach → picked keys classes class key i run ≡ pickedAround classes class key (run .first)
@@ -126,7 +117,7 @@ module _ {m : ℕ} {keys : List ℕ} (F : Spaced m 0 keys) (classes : List ℕ) 
         let d : z .0 ≡ i = sym (ap (λ (r : Run). r .reach) (z .5)) ∙ e in
         let same : z .1 ≡ s = omega (arith, z .4, ap (λ (x : ℕ). 4 ^ x) d) in
         let k : getD keys n 0 ≡ key = one-key (rw (d, same) at (z .2 .names)) B in
-        rw (z .5) (picks keys classes class n (z .3) ∙ rw k)
+        rw (z .5) (picks-one keys classes class n ∙ around-has classes class (getD keys n 0) n (z .3) ∙ rw k)
 
     within : selected m keys classes class key ≡ pickedRun keys classes class (run .first) (run .count)
     within = go (choice m keys classes class key)

@@ -8,7 +8,6 @@ use native.Mathlib.Omega.{arith}
 use Rattle.lists.specs.Lists.{upFrom, any}
 use Rattle.lists.proofs.Laws.{any-none, any-next}
 use Rattle.window.specs.declared.Window.{Window}
-use Rattle.window.specs.Window.{Px}
 use Rattle.border.specs.declared.Walk.{Walk}
 use Rattle.border.specs.declared.Found.the-variants as found
 use Rattle.border.specs.Openings.{Opening, openings}

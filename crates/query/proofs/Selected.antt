@@ -96,8 +96,8 @@ module _ {m : ℕ} {keys : List ℕ} (F : Spaced m 0 keys) (classes : List ℕ) 
               (inside-is classes class B (H .is) .1 (e, stands (blocks-stand B (H .is .names))))
 
   -- and one only
-  pub selected-one : (q : ℕ) {x y : ℕ} → List·Memᴰ x (selected m keys classes class key) → List·Memᴰ y (selected m keys classes class key) → holds q (formOf m x) ≡ true → holds q (formOf m y) ≡ true
-      → x ≡ y
+  pub selected-one : (q : ℕ) {x y : ℕ} → List·Memᴰ x (selected m keys classes class key) → List·Memᴰ y (selected m keys classes class key)
+      → holds q (formOf m x) ≡ true → holds q (formOf m y) ≡ true → x ≡ y
   selected-one q {x} {y} l n h k = go (choice m keys classes class key)
     where
       -- a record inside the block, by its key

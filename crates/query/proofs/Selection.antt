@@ -4,7 +4,7 @@
 use mathlib.Core.Path.{_≡_, refl, sym, _∙_, subst}
 use mathlib.Core.Logic.{_↔_, _⊎_, inl, inr, _≢_}
 use mathlib.Core.Bool.{true}
-use mathlib.Core.List.{List, _∷_, _++_, map, List·Memᴰ, List·Memᴰ·head, List·Memᴰ·tail, Memᴰ·append-left, Memᴰ·append-right, Memᴰ·cast, Memᴰ·map, Memᴰ·of-map}
+use mathlib.Core.List.{List, _++_, map, List·Memᴰ, List·Memᴰ·head, List·Memᴰ·tail, Memᴰ·append-left, Memᴰ·append-right, Memᴰ·cast, Memᴰ·map, Memᴰ·of-map}
 use Prim.Native.Nat.{ℕ, _+_, _*_, _/_, _^_, _≤_, _<_}
 use native.Mathlib.Omega.{arith}
 use lib.ListN.{length, getD, length-map, length-append}
@@ -34,7 +34,8 @@ module _ {m top : ℕ} {keys : List ℕ} (F : Spaced m 0 keys) {W : Window} (I :
   named C = key-named I small (C .inside) (C .own)
 
   -- maximal blocks that share a place are one
-  one-corner : {b b′ : Px} {q : ℕ} → Corner W top b → Corner W top b′ → Among (place (b .0) (b .1)) (4 ^ exponent W top b) q → Among (place (b′ .0) (b′ .1)) (4 ^ exponent W top b′) q → b ≡ b′
+  one-corner : {b b′ : Px} {q : ℕ} → Corner W top b → Corner W top b′
+      → Among (place (b .0) (b .1)) (4 ^ exponent W top b) q → Among (place (b′ .0) (b′ .1)) (4 ^ exponent W top b′) q → b ≡ b′
   one-corner {b} {b′} {q} C C′ h h′ = go (place-onto m q (omega (arith, block-lies (named C) .span)))
     where
       go : PixelAt m q → b ≡ b′

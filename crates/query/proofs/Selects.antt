@@ -51,7 +51,7 @@ module _ {m : ℕ} {keys : List ℕ} (classes : List ℕ) {W : Window} (class : 
       pub selecting-most : n ≤ 16842752
       selecting-most =
           let a = selected-room m keys classes class m W (S .past) (r, c) _ (walked-split (S .walked) g) in
-          let z = selection-fits (U .sound) (U .inside) (U .cap) classes class (inside-12 (U .small) (U .inside)) (U .few) in
+          let z = selection-fits (U .spaced) (U .inside) (U .cap) classes class (inside-12 (U .small) (U .inside)) (U .few) in
           omega (arith, S .listing .count)
 
       module _ {key : ℕ} (e : key ≡ blockKey m i r c) where
@@ -59,7 +59,7 @@ module _ {m : ℕ} {keys : List ℕ} (classes : List ℕ) {W : Window} (class : 
         name = e ∙ key-at m m W (r, c) (goes-exponent g)
 
         pub selecting-block : BlockOf m key i
-        selecting-block = rw (name, goes-exponent g) (block-key (U .sound) (U .inside) (U .cap) K)
+        selecting-block = rw (name, goes-exponent g) (block-key (U .spaced) (U .inside) (U .cap) K)
 
         module _ {own : Run} (f : own ≡ runOf m keys key) where
           found : own ≡ runOf m keys (keyOf m m W (r, c))
@@ -67,16 +67,16 @@ module _ {m : ℕ} {keys : List ℕ} (classes : List ℕ) {W : Window} (class : 
 
           -- where it reaches further, it is a record around the block
           around : i < own .reach → Alone m keys key i (selecting-block .start)
-          around l = reach-beyond (U .sound) (selecting-block .names) (rw f at l)
+          around l = reach-beyond (U .spaced) (selecting-block .names) (rw f at l)
 
           pub selecting-run : Overlapped keys i own
-          selecting-run = record { some = λ l. omega (arith, ap (λ (x : Run). x .count) f, around l .one); room = rw found (met-room (U .sound) (U .inside) (U .cap) K) }
+          selecting-run = record { some = λ l. omega (arith, ap (λ (x : Run). x .count) f, around l .one); room = rw found (met-room (U .spaced) (U .inside) (U .cap) K) }
 
           pub selecting-next : {out′ : List ℕ} {n′ : ℕ} {after : Seen} → Listed n (picked keys classes class key i own) out n′ out′
               → Known m keys (after .near) × Known m keys (after .other) → Selecting m keys classes W class out₀ out′ (r, d) n′ after
           selecting-next L k =
               let p : picked keys classes class key i own ≡ selected m keys classes class (keyOf m m W (r, c)) =
-              rw (name, found, goes-exponent g) (sym (block-selected (U .sound) (U .inside) (U .cap) K classes class)) in
+              rw (name, found, goes-exponent g) (sym (block-selected (U .spaced) (U .inside) (U .cap) K classes class)) in
               record {
                 past = S .past ++ ((r, c) ∷ []);
                 walked = walked-next (S .walked) g;

@@ -306,19 +306,19 @@ pub fn report(
     }
 }
 
-// Lists the key of record i behind n others if the record has the class. How many there are then.
-fn pick_record(keys: &[u32], classes: &[u8], class: u8, i: usize, out: &mut [u32], n: u32) -> u32
-    requires { ⌜ (i < length (now keys)) × (length (now keys) ≡ length (now classes)) × (n < 4294967295) ⌝ }
-    ensures { λ r. ⌜ Listed n (pickedRun (now (keys .entry)) (now (classes .entry)) class i 1) (now (out .entry)) r (now (out .exit)) ⌝ }
+// Of a block that lies in a record, lists the block's key behind n others if the record has the class. How many there are then.
+fn pick_around(classes: &[u8], class: u8, key: u32, around: usize, out: &mut [u32], n: u32) -> u32
+    requires { ⌜ (around < length (now classes)) × (n < 4294967295) ⌝ }
+    ensures { λ r. ⌜ Listed n (pickedAround (now (classes .entry)) class key around) (now (out .entry)) r (now (out .exit)) ⌝ }
 {
-    if classes[i] == class {
-        answers::put(out, n, keys[i]);
+    if classes[around] == class {
+        answers::put(out, n, key);
         return n + 1;
     }
     n
 }
 
-// Lists the keys of the records of a run that have the class.
+// Lists the keys of the records of a run that have the class: each lies in itself.
 fn pick_run(
     keys: &[u32],
     classes: &[u8],
@@ -335,22 +335,10 @@ fn pick_run(
     let end = i + (count as usize);
     let mut k = n;
     while i < end {
-        k = pick_record(keys, classes, class, i, out, k);
+        k = pick_around(classes, class, keys[i], i, out, k);
         i += 1;
     }
     k
-}
-
-// Of a maximal block in a record: lists the block's own key if the record has the class.
-fn pick_around(classes: &[u8], class: u8, key: u32, first: u32, out: &mut [u32], n: u32) -> u32
-    requires { ⌜ (first < length (now classes)) × (n < 4294967295) ⌝ }
-    ensures { λ r. ⌜ Listed n (pickedAround (now (classes .entry)) class key first) (now (out .entry)) r (now (out .exit)) ⌝ }
-{
-    if classes[first as usize] == class {
-        answers::put(out, n, key);
-        return n + 1;
-    }
-    n
 }
 
 // Of a maximal block and the records that overlap it: lists its own key if it lies in a record of the class, else the keys of the records inside it that have the class.
@@ -368,7 +356,7 @@ fn pick(
     ensures { λ r. ⌜ Listed n (picked (now (keys .entry)) (now (classes .entry)) class key exponent run) (now (out .entry)) r (now (out .exit)) ⌝ }
 {
     if exponent < run.reach {
-        return pick_around(classes, class, key, run.first, out, n);
+        return pick_around(classes, class, key, run.first as usize, out, n);
     }
     pick_run(keys, classes, class, run.first, run.count, out, n)
 }
@@ -406,12 +394,12 @@ fn pick_all(
         c = after;
         let key = key::block_key(table, m, exponent, row, col);
         if map::lies_in(seen.near, key) {
-            n = pick_around(classes, class, key, seen.near.first, out, n);
+            n = pick_around(classes, class, key, seen.near.first as usize, out, n);
             continue;
         }
         if map::lies_in(seen.other, key) {
             seen = map::exchanged(seen);
-            n = pick_around(classes, class, key, seen.near.first, out, n);
+            n = pick_around(classes, class, key, seen.near.first as usize, out, n);
             continue;
         }
         seen = map::look_up(table, m, keys, key, exponent, seen);

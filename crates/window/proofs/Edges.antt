@@ -9,7 +9,7 @@ use native.Mathlib.Nat.{pow-succ'}
 use native.Mathlib.Decide.{decLe}
 use lib.Pow.{pow-pos}
 use Rattle.window.specs.Blocks.{floor}
-use Rattle.window.proofs.Dyadic.{floor-eq, floor-add, aligned-down, nested, Nested}
+use Rattle.window.proofs.Dyadic.{floor-eq, floor-add, aligned-down, nested}
 
 -- ---- aligned numbers
 
@@ -72,7 +72,7 @@ module _ {a n c w i y x : ℕ} (u : On i a n y) (v : On i c w x) where
       q : 2 ^ suc i ≡ 2 * 2 ^ i
       q = pow-succ' 2 i
 
-      r : Nested i (suc i) y
+      r : (floor (suc i) y ≤ floor i y) × (floor i y + 2 ^ i ≤ floor (suc i) y + 2 ^ suc i)
       r = nested i (suc i) y (omega arith)
 
       go : Dec (a ≤ floor (suc i) y) → Dec (floor (suc i) y + 2 ^ suc i ≤ a + n) → (k : ℕ) × Stands a n c w i y x k

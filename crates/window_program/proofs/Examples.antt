@@ -48,5 +48,8 @@ pub record Examples : Type 0 where
   pub p12 : answerOf 2 keys classes (window 2 0 3 1) ≡ lineOf 87 (2 ∷ 0 ∷ 3 ∷ 1 ∷ []) ++ lineOf 82 (6 ∷ 0 ∷ [])
 
 pub examples : Examples
-unfolding answer wrongCount sizeRows upFrom spreadTo spread place pixelKey blockKey from formOf beyond outside windowRows keep floor lies fits greatest exponent corner across rows isCorner maximal keyOf keysOf spans.malformed spans.exponent spans.start spans.end spans.holds spans.overlap late rowsFrom mapRows before howMany recordOf exponentOf runOf any indices within isHanded opening openFrom openings handsOut cellsOf useRows hasClass total totals digits digitsOf spaced lineOf openingLines classLine classLines foundLines foundBy resultOf answerOf
+unfolding answer wrongCount sizeRows upFrom spreadTo spread place pixelKey blockKey from formOf beyond outside windowRows keep floor lies fits
+    greatest exponent corner across rows isCorner maximal keyOf keysOf spans.malformed spans.exponent spans.start spans.end spans.holds spans.overlap late
+    rowsFrom mapRows before howMany recordOf exponentOf runOf any indices within isHanded opening openFrom openings handsOut cellsOf useRows hasClass
+    total totals digits digitsOf spaced lineOf openingLines classLine classLines foundLines foundBy resultOf answerOf
 examples = record { p1-window = refl; p1 = refl; p12 = refl }

@@ -1,6 +1,5 @@
 -- `map::along` meets its contract. The invariant is `Goes`, but for its end, and the measure the number of records left.
 -- Assumes nothing.
-use mathlib.Core.Path.{_≡_, refl}
 use mathlib.Core.Bool.{Bool}
 use Prim.Native.Nat.{_-_, _≤_}
 use native.Mathlib.Omega.{arith}

@@ -11,10 +11,13 @@ use Rattle.map.proofs.Found.{found-around, found-none}
 use Rattle.map.proofs.record_around.Statement.{statement}
 use Rattle.map.proofs.record_around.Tie as tie
 
+inside-requires : tie.Need-inside-requires
+inside-requires c κs = search needs
+
 returns : tie.Need-returns
 returns c =
-    let p = c .before .before .pre in
-    sym (found-none (p .3) (p .4 .names) (p .5) (p .6) refl (λ j t l r. absurd (omega (arith, c .if1 .taken))))
+    let p = c .before .before .before .pre in
+    c .inside .ensures ∙ sym (found-none (p .3) (p .4 .names) (p .5) (p .6) refl (λ j t l r. absurd (omega (arith, c .before .if1 .taken))))
 
 sub-first : tie.Need-sub-first
 sub-first c = search needs
@@ -50,10 +53,15 @@ reach-over-requires c κs =
       },
     )
 
+inside-requires-2 : tie.Need-inside-requires-2
+inside-requires-2 c κs = search needs
+
 returns-2 : tie.Need-returns-2
 returns-2 c =
-    let p = start (c .before .before .before) .pre in
-    sym (found-none (p .3) (p .4 .names) (p .5) (p .6) refl (λ j t l u. reaches-before (c .before .reach-over .ensures) (c .if2 .taken) (u .names)))
+    let e = c .before in
+    let p = start (e .before .before .before) .pre in
+    let none = found-none (p .3) (p .4 .names) (p .5) (p .6) refl (λ j t l u. reaches-before (e .before .reach-over .ensures) (e .if2 .taken) (u .names)) in
+    c .inside2 .ensures ∙ rw (e .if2 .taken) (sym none)
 
 cast-alone : tie.Need-cast-alone
 cast-alone c = search needs
@@ -73,11 +81,13 @@ pub record-around-spec : {M : Type 1} → statement M
 record-around-spec =
     tie.close
     (tie.spec
+    inside-requires
     returns
     sub-first
     mul-reach-over
     shared-slice-read-reach-over
     reach-over-requires
+    inside-requires-2
     returns-2
     cast-alone
     alone-requires

@@ -68,7 +68,7 @@ ready c =
     let e = entry (c .before) in
     ⊎-elim
     (λ w. let same = listed-nothing {xs = chosen (c .before)} (w .2 .ensures) (lent (c .before)) in (w .6 ∙ same, omega (arith, w .2 .ensures .count, w .5 .left, ap length same)))
-    (λ w. (w .1, omega (arith, selection-few (e .pre .1 .sound) (e .pre .1 .inside) (e .args .classes .now) (e .args .class), w .0 .left)))
+    (λ w. (w .1, omega (arith, selection-few (e .pre .1 .spaced) (e .pre .1 .inside) (e .args .classes .now) (e .args .class), w .0 .left)))
     (c .if1 .came)
 
 pick-all-requires-2 : tie.Need-pick-all-requires-2

@@ -21,7 +21,7 @@ abbrev μ-loop : tie.MeasureT-loop
 μ-loop table m keys classes window class out₀ r₀ c₀ n₀ seen₀ out r c n seen = length (blocksFrom window m (r, c))
 
 first-seen-requires : tie.Need-first-seen-requires Inv-loop μ-loop
-first-seen-requires c κs = let p = c .before .before .before .pre in (p .0, p .1 .small, p .1 .sound)
+first-seen-requires c κs = let p = c .before .before .before .pre in (p .0, p .1 .small, p .1 .spaced)
 
 loop-holds : tie.Need-loop-holds Inv-loop μ-loop
 loop-holds c = selecting-first _ _ (c .before .before .before .before .pre .1) _ (c .first-seen .ensures)
@@ -72,20 +72,23 @@ module _ (c : tie.Then1 Inv-loop μ-loop) where
   inside : LiesIn (turn of .loop .seen .near) (c .before .before .block-key .result)
   inside = c .before .lies-in .ensures .0 (c .if1 .taken)
 
+cast-pick-around : tie.Need-cast-pick-around Inv-loop μ-loop
+cast-pick-around c = search needs
+
 pick-around-requires : tie.Need-pick-around-requires Inv-loop μ-loop
 pick-around-requires c κs =
-    let t = c .before in
+    let t = c .before .before in
     let v = turn (of t) .loop .inv in
     let p = start (of t) .pre in
     let within = selecting-within _ _ (p .1) v (goes (of t)) (t .before .before .block-key .ensures) (v .known .0) (inside t) in
     (omega (arith, within, p .2), omega (arith, selecting-most _ _ (p .1) v (goes (of t))))
 
 loop-less : tie.Need-loop-less Inv-loop μ-loop
-loop-less c = goes-less (goes (of (c .before .before .before .before)))
+loop-less c = goes-less (goes (of (c .before .before .before .before .before)))
 
 loop-again : tie.Need-loop-again Inv-loop μ-loop
 loop-again c =
-    let t = c .before .before .before .before in
+    let t = c .before .before .before .before .before in
     let v = turn (of t) .loop .inv in
     selecting-near _ _ (start (of t) .pre .1) v (goes (of t)) (t .before .before .block-key .ensures) (v .known .0) (inside t) (c .before .before .pick-around .ensures) (v .known)
 
@@ -114,20 +117,23 @@ module _ (c : tie.After-exchanged Inv-loop μ-loop) where
       subst (λ (s : Seen). LiesIn (s .near) (c .before .before .before .before .before .block-key .result)) (sym (c .exchanged .ensures))
       (c .before .before .lies-in2 .ensures .0 (c .before .if2 .taken))
 
+cast-pick-around-2 : tie.Need-cast-pick-around-2 Inv-loop μ-loop
+cast-pick-around-2 c = search needs
+
 pick-around-requires-2 : tie.Need-pick-around-requires-2 Inv-loop μ-loop
 pick-around-requires-2 c κs =
-    let x = c .before in
+    let x = c .before .before in
     let v = turn (at x) .loop .inv in
     let p = start (at x) .pre in
     let within = selecting-within _ _ (p .1) v (goes (at x)) (x .before .before .before .before .before .block-key .ensures) (now x .0) (within-other x) in
     (omega (arith, within, p .2), omega (arith, selecting-most _ _ (p .1) v (goes (at x))))
 
 loop-less-2 : tie.Need-loop-less-2 Inv-loop μ-loop
-loop-less-2 c = goes-less (goes (at (c .before .before .before .before)))
+loop-less-2 c = goes-less (goes (at (c .before .before .before .before .before)))
 
 loop-again-2 : tie.Need-loop-again-2 Inv-loop μ-loop
 loop-again-2 c =
-    let x = c .before .before .before .before in
+    let x = c .before .before .before .before .before in
     selecting-near _ _ (start (at x) .pre .1) (turn (at x) .loop .inv) (goes (at x)) (x .before .before .before .before .before .block-key .ensures)
     (now x .0) (within-other x) (c .before .before .pick-around2 .ensures) (now x)
 
@@ -140,7 +146,7 @@ look-up-requires c κs =
     let v = turn (past c) .loop .inv in
     let p = start (past c) .pre in
     let block = selecting-block _ _ (p .1) v (goes (past c)) (c .before .before .before .before .block-key .ensures) in
-    (p .0, p .1 .small, p .1 .few, p .1 .sound, block, v .known .0, v .known .1)
+    (p .0, p .1 .small, p .1 .few, p .1 .spaced, block, v .known .0, v .known .1)
 
 pick-requires : tie.Need-pick-requires Inv-loop μ-loop
 pick-requires c κs =
@@ -176,11 +182,13 @@ pick-all-spec =
     returns
     block-key-requires
     lies-in-requires
+    cast-pick-around
     pick-around-requires
     loop-less
     loop-again
     lies-in-requires-2
     exchanged-requires
+    cast-pick-around-2
     pick-around-requires-2
     loop-less-2
     loop-again-2

@@ -52,8 +52,12 @@ spread-table-requires c κs = search needs
 
 list-keys-requires : tie.Need-list-keys-requires
 list-keys-requires c κs =
-    let u = known (c .before .before .before .before .before .before .before .before .before) in
-    (c .before .before .spread-table .ensures, record { small = u .small; cap = u .cap; few = u .few; sound = u .sound; inside = u .inside; wide = omega arith }, use-same _ _ _ _ _ (passed (c .before .before .before .before .before .before .before .before .before)))
+    let told = c .before .before .before .before .before .before .before .before .before in
+    let u = known told in (
+      c .before .before .spread-table .ensures,
+      record { small = u .small; cap = u .cap; few = u .few; spaced = u .spaced; inside = u .inside; wide = omega arith },
+      use-same _ _ _ _ _ (passed told),
+    )
 
 same-length : tie.Need-same-length
 same-length c = search needs
@@ -62,7 +66,10 @@ same-length-2 : tie.Need-same-length-2
 same-length-2 c = search needs
 
 returns-2 : tie.Need-returns-2
-returns-2 c = select-listed _ _ _ _ _ _ _ (passed (c .before .before .before .before .before .before .before .before .before .before .before .before)) (c .before .before .before .before .before .before .before .before .fill .ensures ∙ filled-spent _ _ (known (c .before .before .before .before .before .before .before .before .before .before .before .before) .wide)) (c .before .before .list-keys .ensures)
+returns-2 c =
+    let filled = c .before .before .before .before .before .before .before .before in
+    let told = filled .before .before .before .before in
+    select-listed _ _ _ _ _ _ _ (passed told) (filled .fill .ensures ∙ filled-spent _ _ (known told .wide)) (c .before .before .list-keys .ensures)
 
 pub select-spec : {M : Type 1} → statement M
 select-spec =
