@@ -15,7 +15,7 @@ use borrow.Author.Tests.{lt-ltb, le-ltb}
 use Rattle.lists.specs.Lists.{keep}
 use Rattle.lists.proofs.Laws.{up-in, up-length, keep-empty, keep-taken, keep-passed, keep-in, in-keep, keep-map, keep-all}
 use Rattle.border.specs.Openings.{Opening, handsOut, cellsOf}
-use Rattle.border.specs.Promises.{hands, allHands, HandedOut, bringing}
+use Rattle.border.specs.Promises.{hands, openingsIn, allHands, HandedOut, bringing}
 
 pub hands-none : allHands [] ≡ []
 unfolding allHands
@@ -60,6 +60,12 @@ pub cells-length : (os : List Opening) → length (cellsOf os) ≡ 3 * length os
 unfolding cellsOf
 cells-length [] = refl
 cells-length (o ∷ os) = omega (arith, cells-length os)
+
+-- what stands in them is had back
+pub openings-in : (os : List Opening) → openingsIn (cellsOf os) ≡ os
+unfolding openingsIn cellsOf
+openings-in [] = refl
+openings-in (o ∷ os) = rw (openings-in os)
 
 pub count-append : (os os′ : List Opening) → handsOut (os ++ os′) ≡ handsOut os + handsOut os′
 unfolding handsOut

@@ -13,15 +13,17 @@ use Rattle.border.specs.declared.Opened.the-variants.{Done, Refused}
 use Rattle.border.specs.Open.{after, openOf}
 use Rattle.border.specs.Promises.{Answered}
 use Rattle.border.proofs.Hands.{cells-length}
-use Rattle.border.proofs.Tables.{use-known, use-whole, used-told}
+use Rattle.border.proofs.Use.{use-known, use-whole}
+use Rattle.border.proofs.Tables.{used-told}
 pub use Rattle.border.proofs.Overlaps.{within-is, OfPixel, spans, met-inside, met-pixels, met-first, met-room, block-key, far-is}
 pub use Rattle.border.proofs.Fold.{opening-hands, opening-block, met-in}
-pub use Rattle.border.proofs.Hands.{hands-none, hands-one, hands-append, in-hands}
+pub use Rattle.border.proofs.Hands.{hands-none, hands-one, hands-append, hands-count, in-hands, cells-length, openings-in}
 pub use Rattle.border.proofs.Handing.{listed-corner}
 pub use Rattle.border.proofs.Once.{records-out, hands-all, hands-once, records-once}
 pub use Rattle.border.proofs.Fewest.{openings-enough, bringing-enough, fewest, openings-most, records-most, bringing-records, openings-capped, openings-few}
 pub use Rattle.border.proofs.Whole.{covered-whole, stays-whole, hands-some, hands-whole, all-bring, fewest-whole}
-pub use Rattle.border.proofs.Tables.{use-known, use-whole, use-same, used-refused, used-short, used-done, used-by-lengths, Told, used-told}
+pub use Rattle.border.proofs.Use.{use-answerable, numbered-use, use-known, use-whole, use-same}
+pub use Rattle.border.proofs.Tables.{open-is, numbered-used, used-answerable, used-refused, used-short, used-done, used-by-lengths, Told, used-told}
 pub use Rattle.border.proofs.Room.{openings-records, capped-fit, openings-fit, roomy}
 
 -- ---- an accepted call

@@ -15,7 +15,8 @@ use Rattle.border.specs.declared.Opened.{Opened}
 use Rattle.border.specs.declared.Opened.the-variants.{Done, Refused}
 use Rattle.border.specs.Openings.{openings, handsOut, cellsOf}
 use Rattle.border.specs.Open.{useRows, After, after, accepted, openOf}
-use Rattle.border.proofs.Tables.{use-known, use-whole, open-done}
+use Rattle.border.proofs.Use.{use-known, use-whole}
+use Rattle.border.proofs.Tables.{open-done}
 use Rattle.border.proofs.Hands.{cells-length}
 use Rattle.border.proofs.Fewest.{bringing-records}
 use Rattle.border.proofs.Whole.{all-bring}

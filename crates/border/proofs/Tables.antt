@@ -1,7 +1,7 @@
--- The refusals of opening, test by test, and what is known of a call that passes.
+-- Refusal 8, and what a call that uses a map and a window answers and leaves.
 -- Assumes nothing.
-use mathlib.Core.Path.{_≡_, sym, ap, _∙_}
-use mathlib.Core.Bool.{true, false}
+use mathlib.Core.Path.{_≡_, refl, sym, ap, _∙_}
+use mathlib.Core.Logic.{_↔_}
 use mathlib.Core.List.{List, [], _∷_, _++_}
 use Prim.Native.Nat.{ℕ, _+_, _*_, _/_, _≤_, _<_}
 use native.Mathlib.Omega.{arith}
@@ -13,69 +13,18 @@ use Rattle.answers.specs.declared.Verdict.the-variants as verdict-of
 use Rattle.answers.specs.Rows.{row, answer, verdict}
 use Rattle.answers.specs.Cells.{overwrite}
 use Rattle.answers.proofs.Laws as Answers
-use Rattle.answers.proofs.Laws.{answer-none, answer-part, answer-append, row-held, row-clear, on-passed, on-refused, append-passed, append-refused, passed-row, passed-append}
+use Rattle.answers.proofs.Laws.{answer-none, answer-part, answer-append, row-held, row-clear, on-passed, on-refused, passed-row, passed-append}
 use Rattle.answers.proofs.Laws.{overwrite-length, overwrite-part, overwrite-again}
+use Rattle.answers.proofs.Numbered.{Numbered, none, numbered-row, numbered-append}
 use Rattle.window.specs.declared.Window.{Window}
-use Rattle.window.specs.Window.{outside, windowRows}
-use Rattle.window.proofs.Laws.{window-refused, window-passed, window-inside}
-use Rattle.map.specs.Check.{mapRows}
-use Rattle.map.specs.Sound.{Follow}
-use Rattle.map.proofs.Laws.{sound-map, spaced}
 use Rattle.border.specs.declared.Opened.the-variants.{Done, Refused}
 use Rattle.border.specs.declared.Totals.{Totals}
 use Rattle.border.specs.Openings.{openings, handsOut, cellsOf}
 use Rattle.border.specs.Cells.{fitting}
-use Rattle.border.specs.Step.{Usable}
 use Rattle.border.specs.Open.{useRows, spent, Passed, After, after, usedFor, openOf, accepted}
+use Rattle.border.specs.Promises.{Answerable}
+use Rattle.border.proofs.Use.{use-answerable, numbered-use}
 use Rattle.border.proofs.Hands.{cells-length}
-
--- ---- refusals 1 to 7
-
-module _ (m : ℕ) (keys : List ℕ) (classes : ℕ) (W : Window) (cells : ℕ) where
-  pub use-refused : {n p : ℕ} → verdict (mapRows m keys classes) ≡ verdict-of.Refused n p → verdict (useRows m keys classes W cells) ≡ verdict-of.Refused n p
-  unfolding useRows
-  use-refused e = append-refused verdict-of.Refused (mapRows m keys classes) _ _ e
-
-  module _ (e : verdict (mapRows m keys classes) ≡ verdict-of.Passed) where
-    pub use-outside : outside m W ≡ true → verdict (useRows m keys classes W cells) ≡ verdict-of.Refused 6 0
-    unfolding useRows
-    use-outside o = append-passed verdict-of.Refused (mapRows m keys classes) _ _ e ∙ append-refused verdict-of.Refused (windowRows m W) _ _ (window-refused m W o)
-
-    module _ (o : outside m W ≡ false) where
-      behind : verdict (useRows m keys classes W cells) ≡ verdict (row (ltb cells (W .w)) 7 (W .w) ∷ [])
-      unfolding useRows
-      behind = append-passed verdict-of.Refused (mapRows m keys classes) _ _ e ∙ append-passed verdict-of.Refused (windowRows m W) _ _ (window-passed m W o)
-
-      pub use-narrow : cells < W .w → verdict (useRows m keys classes W cells) ≡ verdict-of.Refused 7 (W .w)
-      use-narrow l = behind ∙ row-held verdict-of.Refused 7 (W .w) [] _ (lt-ltb cells (W .w) l)
-
-      pub use-passed : W .w ≤ cells → verdict (useRows m keys classes W cells) ≡ verdict-of.Passed
-      use-passed l = behind ∙ row-clear verdict-of.Refused 7 (W .w) [] _ (le-ltb cells (W .w) l) ∙ answer-none verdict-of.Refused verdict-of.Passed
-
-  -- what a call may take for granted behind them
-  pub use-known : verdict (useRows m keys classes W cells) ≡ verdict-of.Passed → Usable m m keys W cells
-  unfolding useRows
-  use-known e =
-      let a = passed-append (mapRows m keys classes) _ .0 e in
-      let b = passed-append (windowRows m W) _ .0 (a .1) in
-      let s = sound-map m keys classes .0 (a .0) in
-      record {
-        small = s .sizes .small;
-        cap = omega arith;
-        few = s .sizes .most;
-        spaced = spaced (s .records);
-        inside = window-inside m W (b .0);
-        wide = ltb-false cells (W .w) (passed-row (ltb cells (W .w)) 7 (W .w) [] .0 (b .1) .0);
-      }
-
-  -- the map is whole
-  pub use-whole : verdict (useRows m keys classes W cells) ≡ verdict-of.Passed → Follow m 0 keys
-  unfolding useRows
-  use-whole e = sound-map m keys classes .0 (passed-append (mapRows m keys classes) _ .0 e .0) .records
-
-  pub use-same : verdict (useRows m keys classes W cells) ≡ verdict-of.Passed → length keys ≡ classes
-  unfolding useRows
-  use-same e = sound-map m keys classes .0 (passed-append (mapRows m keys classes) _ .0 e .0) .sizes .same
 
 -- ---- refusal 8, and an accepted call
 
@@ -109,6 +58,20 @@ module _ {A : Type 0} (refuse : ℕ → ℕ → A) (done : A) (cells : List ℕ)
       ∙ ap (λ (a : A). answer refuse (useRows m keys classes W (length border)) a) (answer-part (λ (x : After A). x .answer) (λ n p. after (refuse n p) (spent W border) out) eight _)
       ∙ sym (answer-append refuse (useRows m keys classes W (length border)) eight done)
 
+  pub numbered-used : Numbered 8 (useRows m keys classes W (length border) ++ (row (ltb (length out) (length cells)) 8 (length cells) ∷ []))
+  numbered-used = numbered-append (numbered-use m keys classes W (length border) (omega arith)) (numbered-row 8 (omega arith) (omega arith) none)
+
+  -- refusals 1 to 8 pass exactly what is answerable and has room for its cells
+  pub used-answerable : (verdict (useRows m keys classes W (length border) ++ (row (ltb (length out) (length cells)) 8 (length cells) ∷ [])) ≡ verdict-of.Passed)
+      ↔ (Answerable m keys classes W (length border) × (length cells ≤ length out))
+  used-answerable =
+      let both = passed-append (useRows m keys classes W (length border)) (row (ltb (length out) (length cells)) 8 (length cells) ∷ []) in
+      let eight = passed-row (ltb (length out) (length cells)) 8 (length cells) [] in
+      let seven = use-answerable m keys classes W (length border) in (
+        λ e. let t = both .0 e in (seven .0 (t .0), ltb-false (length out) (length cells) (eight .0 (t .1) .0)),
+        λ t. both .1 (seven .1 (t .0), eight .1 (le-ltb (length out) (length cells) (t .1), answer-none _ _)),
+      )
+
   -- an answer that is no refusal: nothing was refused, and `done` and `cells` are what was answered and written
   pub record Told (a : A) (border′ out′ : List ℕ) : Type 0 where
     pub passed : verdict (useRows m keys classes W (length border)) ≡ verdict-of.Passed
@@ -132,6 +95,12 @@ module _ {A : Type 0} (refuse : ℕ → ℕ → A) (done : A) (cells : List ℕ)
       }
 
 module _ (m : ℕ) (keys : List ℕ) (classes : ℕ) (W : Window) (border out : List ℕ) where
+  -- opening is such a use
+  pub open-is : openOf m keys classes W border out
+      ≡ (let os = openings m m keys W in usedFor Refused (Done (length os) (handsOut os)) (cellsOf os) m keys classes W border out)
+  unfolding openOf
+  open-is = refl
+
   pub open-refused : {n p : ℕ} → verdict (useRows m keys classes W (length border)) ≡ verdict-of.Refused n p → openOf m keys classes W border out ≡ after (Refused n p) border out
   unfolding openOf
   open-refused e = used-refused Refused _ _ m keys classes W border out e

@@ -2,16 +2,22 @@
 -- Assumes nothing.
 use mathlib.Core.Path.{_≡_}
 use mathlib.Core.List.{List, [], _∷_, _++_, List·Memᴰ}
-use Prim.Native.Nat.{ℕ, _*_, _<_}
+use Prim.Native.Nat.{ℕ, _*_, _≤_, _<_}
 use lib.Dec.{ltb}
 use lib.ListN.{length, take}
 use Rattle.lists.specs.Lists.{upFrom, keep}
 use Rattle.window.specs.declared.Window.{Window}
 use Rattle.window.specs.Window.{Px, In, Inside}
 use Rattle.window.specs.Decompose.{keyOf, keysOf}
-use Rattle.map.specs.Sound.{Follow}
+use Rattle.map.specs.Sound.{Follow, SoundMap}
 use Rattle.map.specs.Records.{pixelRecord}
 use Rattle.border.specs.Openings.{met, Opening, opening, openings, handsOut, cellsOf}
+
+-- what refusals 1 to 7 pass: a sound map, a window inside the picture, and a border of at least w cells. Of m, the keys, the number of classes, the window and the number of cells
+pub record Answerable (m : ℕ) (keys : List ℕ) (classes : ℕ) (W : Window) (cells : ℕ) : Type 0 where
+  pub sound : SoundMap m keys classes
+  pub inside : Inside m W
+  pub wide : W .w ≤ cells
 
 -- the window has a pixel of record n. Of a pixel in no record `pixelRecord` is the number of records: where the map has gaps, that number may touch the window too
 pub record Touches (m : ℕ) (keys : List ℕ) (W : Window) (n : ℕ) : Type 0 where
@@ -30,6 +36,13 @@ openingAt m top keys W b = opening m keys (keyOf m top W b)
 -- the records that an opening hands out
 abbrev pub hands : Opening → List ℕ
 hands o = upFrom (o .first) (o .count)
+
+-- the openings that stand in cells, three cells to each
+unfoldable pub openingsIn : List ℕ → List Opening
+openingsIn [] = []
+openingsIn (key ∷ []) = []
+openingsIn (key ∷ first ∷ []) = []
+openingsIn (key ∷ first ∷ count ∷ cells) = record { key = key; first = first; count = count } ∷ openingsIn cells
 
 -- and all that a list of openings does, one opening after another
 unfoldable pub allHands : List Opening → List ℕ

@@ -1,6 +1,6 @@
 -- The laws of maps: all that the crates above know of them. Of a map that may have gaps `Spaced` is known, of a whole one `Follow`.
 -- Assumes nothing.
-pub use Rattle.map.proofs.Tables.{sound-map, spaced-records}
+pub use Rattle.map.proofs.Tables.{sound-map, spaced-records, check-is, numbered-map}
 pub use Rattle.map.proofs.Order.{spaced, record-at, apart, keys-apart, keys-rise, holder, find, one-holder}
 pub use Rattle.map.proofs.Holding.{exponent-record, tile-record, record-tile, record-of, record-none, exponent-of, exponent-none, tile-of, tile-none, record-holder, tile-holder, tiles}
 pub use Rattle.map.proofs.Holding.{pixel-holder, tile-whole, tiling}

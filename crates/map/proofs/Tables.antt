@@ -10,15 +10,17 @@ use native.Mathlib.Omega.{arith}
 use lib.ListN.{length}
 use Rattle.answers.specs.declared.Verdict.the-variants.{Passed}
 use Rattle.answers.specs.declared.Verdict.the-variants as refusal
-use Rattle.answers.specs.Rows.{verdict}
+use Rattle.answers.specs.Rows.{answer, verdict}
 use Rattle.answers.specs.Sizes.{sizeRows}
 use Rattle.answers.proofs.Laws.{on-passed, on-refused, append-refused, append-passed, refused-not-passed, passed-append, sized}
+use Rattle.answers.proofs.Numbered.{Numbered, none, numbered-row, numbered-append, numbered-sizes}
 use Rattle.key.specs.declared.Form.{Form}
 use Rattle.key.specs.declared.Form.the-variants.{Block, Malformed}
 use Rattle.key.specs.Form.{formOf}
 use Rattle.key.specs.Blocks.{Names}
 use Rattle.key.proofs.Laws.{one-block, block-lies}
 use Rattle.map.specs.declared.Checked.the-variants.{Sound, Refused}
+use Rattle.map.specs.Spans.{end}
 use Rattle.map.specs.Check.{late, rowsFrom, recordRows, mapRows, checkOf}
 use Rattle.map.specs.Sound.{Follow, full, next, Spaced, ended, later, SoundMap}
 use Rattle.map.proofs.Steps.{late-not, late-never, not-late, step-malformed, step-early, step-late, step-next, step-short, step-full}
@@ -40,7 +42,23 @@ module _ (m : ℕ) (keys : List ℕ) (classes : ℕ) where
   unfolding checkOf
   check-passed e = on-passed Refused _ _ e
 
+  pub check-is : checkOf m keys classes ≡ answer Refused (mapRows m keys classes) (Sound (length keys))
+  unfolding checkOf
+  check-is = refl
+
 -- ---- the records
+
+module _ {most : ℕ} (h : 5 ≤ most) where
+  numbered-records : (whole : Bool) (m n at : ℕ) (keys : List ℕ) → Numbered most (rowsFrom whole m n at keys)
+  unfolding rowsFrom
+  numbered-records whole m n at [] = numbered-row 5 (omega arith) h none
+  numbered-records whole m n at (k ∷ ks) =
+      let rest = numbered-records whole m (suc n) (end (formOf m k)) ks in
+      numbered-row 3 (omega arith) (omega arith) (numbered-row 4 (omega arith) (omega arith) (numbered-row 5 (omega arith) h rest))
+
+  pub numbered-map : (m : ℕ) (keys : List ℕ) (classes : ℕ) → Numbered most (mapRows m keys classes)
+  unfolding mapRows
+  numbered-map m keys classes = numbered-append (numbered-sizes m (length keys) classes (omega arith)) (numbered-records true m 0 0 keys)
 
 -- what the table asks of the records behind `at`: that they follow one another, or that they are spaced
 module _ (whole : Bool) (m : ℕ) (Good : ℕ → List ℕ → Type 0)

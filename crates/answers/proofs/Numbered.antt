@@ -1,0 +1,50 @@
+-- Refusals have numbers from 1 on, so the number 0 tells an answer that is no refusal.
+-- Assumes nothing.
+use mathlib.Core.Path.{_≡_, refl}
+use mathlib.Core.Logic.{_↔_}
+use mathlib.Core.Bool.{Bool, true, false, cond}
+use mathlib.Core.List.{List, [], _∷_, _++_}
+use Prim.Native.Nat.{ℕ, _≤_}
+use native.Mathlib.Omega.{arith}
+use Rattle.answers.specs.declared.Verdict.the-variants.{Passed, Refused}
+use Rattle.answers.specs.Rows.{Row, row, answer, verdict}
+use Rattle.answers.specs.Sizes.{sizeRows}
+use Rattle.answers.proofs.Laws.{refused-not-passed}
+
+-- each row has a number from 1 to `most`
+pub data Numbered (most : ℕ) : List Row → Type 0 where
+  none : Numbered most []
+  more : {r : Row} {rs : List Row} → 1 ≤ r .number → r .number ≤ most → Numbered most rs → Numbered most (r ∷ rs)
+
+module _ {most : ℕ} where
+  pub numbered-row : {b : Bool} (n : ℕ) {p : ℕ} {rs : List Row} → 1 ≤ n → n ≤ most → Numbered most rs → Numbered most (row b n p ∷ rs)
+  numbered-row n l h N = more l h N
+
+  pub numbered-append : {rs ss : List Row} → Numbered most rs → Numbered most ss → Numbered most (rs ++ ss)
+  numbered-append none b = b
+  numbered-append (more l h a) b = more l h (numbered-append a b)
+
+  pub numbered-sizes : (m keys classes : ℕ) → 2 ≤ most → Numbered most (sizeRows m keys classes)
+  unfolding sizeRows
+  numbered-sizes m keys classes h = numbered-row 1 (omega arith) (omega arith) (numbered-row 2 (omega arith) h none)
+
+-- an outcome tells by its number whether it is a refusal
+module _ {A : Type 0} (refuse : ℕ → ℕ → A) (number : A → ℕ) (tells : (n p : ℕ) → number (refuse n p) ≡ n) {most : ℕ} where
+  pub number-zero : {rs : List Row} {a : A} → Numbered most rs → number a ≡ 0 → (number (answer refuse rs a) ≡ 0) ↔ (verdict rs ≡ Passed)
+  unfolding answer
+  number-zero none e = (λ h. refl, λ h. e)
+  number-zero {a = a} (more {r} {rs} l h N) e = go (r .holds) (number-zero N e)
+    where
+      go : (t : Bool) → (number (answer refuse rs a) ≡ 0) ↔ (verdict rs ≡ Passed)
+          → (number (cond t (refuse (r .number) (r .place)) (answer refuse rs a)) ≡ 0) ↔ (cond t (Refused (r .number) (r .place)) (verdict rs) ≡ Passed)
+      go true ih = (λ z. absurd (omega (arith, tells (r .number) (r .place), l, z)), λ z. absurd (refused-not-passed z))
+      go false ih = ih
+
+  pub number-most : {rs : List Row} {a : A} → Numbered most rs → number a ≡ 0 → number (answer refuse rs a) ≤ most
+  unfolding answer
+  number-most none e = omega arith
+  number-most {a = a} (more {r} {rs} l h N) e = go (r .holds) (number-most N e)
+    where
+      go : (t : Bool) → number (answer refuse rs a) ≤ most → number (cond t (refuse (r .number) (r .place)) (answer refuse rs a)) ≤ most
+      go true ih = omega (arith, tells (r .number) (r .place), h)
+      go false ih = ih

@@ -1,0 +1,115 @@
+-- What exist, report and select promise, from the contract of the call alone.
+-- Assumes nothing.
+use mathlib.Core.Path.{_≡_, refl, sym, ap, subst, _∙_}
+use mathlib.Core.Logic.{_↔_}
+use mathlib.Core.Bool.{Bool, true, false}
+use mathlib.Core.List.{List}
+use Prim.Native.Nat.{ℕ, _+_, _*_, _≤_}
+use native.Mathlib.Omega.{arith}
+use lib.ListN.{length, getD, take}
+use lib.Seq.{getD-take}
+use Rattle.lists.specs.Lists.{sum}
+use Rattle.lists.proofs.Tests.{never}
+use Rattle.answers.specs.Cells.{overwrite}
+use Rattle.answers.proofs.Laws.{on-passed, take-overwrite, drop-overwrite}
+use Rattle.window.specs.declared.Window.{Window}
+use Rattle.map.proofs.Laws.{spaced}
+use Rattle.border.specs.Open.{After, spent, usedFor}
+use Rattle.border.specs.Promises.{Answerable}
+use Rattle.border.proofs.Laws.{use-answerable}
+use Rattle.query.specs.declared.Queried.{Queried}
+use Rattle.query.specs.declared.Queried.the-variants.{Done, Refused}
+use Rattle.query.specs.Classes.{exists, totals}
+use Rattle.query.specs.Select.{selection}
+use Rattle.query.proofs.Laws.{exists-means, exist-leaves, report-is, totals-length, totals-at, totals-sum}
+use Rattle.query.proofs.Laws.{select-is, selection-pixels, selection-one, selection-once, selection-few}
+use Rattle.lutniorad.specs.declared.Answer.{Answer}
+use Rattle.lutniorad.specs.Numbers.{values, refused, ofQueried}
+use Rattle.lutniorad.specs.Calls.{Used, Exist, Report, Select}
+use Rattle.lutniorad.specs.Promises.{Seen, ExistPromise, ReportPromise, SelectPromise}
+use Rattle.lutniorad.proofs.Answered.{sayExists, exist-says, exist-answered, used-answered, used-leaves}
+
+-- ---- exist
+
+one-not-zero : values 1 0 ≡ values 0 0 → ⊥
+one-not-zero e = let d : _≡_ {A = ℕ} 1 0 = ap (λ (x : Answer). x .first) e in omega arith
+
+module _ {m : ℕ} {keys classes : List ℕ} {W : Window} {class : ℕ} {border border′ : List ℕ} {r : Answer} (call : Exist m keys classes W class border r border′) (z : r .refusal ≡ 0) where
+  pub exist-promise : ExistPromise m keys classes W class border r border′
+  exist-promise =
+      let passed = use-answerable m keys (length classes) W (length border) .1 (exist-answered call .0 z) in
+      let means = exists-means m keys classes class W in
+      let two = go (exists m keys classes W class) refl means (exist-says call ∙ on-passed refused _ _ passed) in
+      record { yes = two .0; no = two .1; border-after = call .border-after ∙ exist-leaves m keys classes W class border passed }
+    where
+      go : (b : Bool) → exists m keys classes W class ≡ b → (exists m keys classes W class ≡ true) ↔ Seen m keys classes W class → r ≡ sayExists m keys classes W class
+          → ((r ≡ values 1 0) ↔ Seen m keys classes W class) × ((r ≡ values 0 0) ↔ (¬ Seen m keys classes W class))
+      go true e means d =
+          let one : r ≡ values 1 0 = rw e at d in
+          ((λ h. means .0 e, λ s. one), (λ h. absurd (one-not-zero (sym one ∙ h)), λ n. absurd (n (means .0 e))))
+      go false e means d =
+          let zero : r ≡ values 0 0 = rw e at d in
+          let none : ¬ Seen m keys classes W class = λ s. never (sym (means .1 s) ∙ e) in
+          ((λ h. absurd (one-not-zero (sym h ∙ zero)), λ s. absurd (none s)), (λ h. none, λ n. zero))
+
+-- ---- report
+
+module _ (m : ℕ) (keys classes : List ℕ) (W : Window) (border out : List ℕ) {r : Answer} {border′ out′ : List ℕ} (call : Report m keys classes W border out r border′ out′) where
+  abbrev counts : List ℕ
+  counts = totals m keys classes W
+
+  reported : Used ofQueried (usedFor Refused (Done (W .h * W .w)) counts m keys (length classes) W border out) r border′ out′
+  reported = subst (λ (x : After Queried). Used ofQueried x r border′ out′) (report-is m keys classes W border out) call
+
+  -- answered exactly when the map is sound, the window inside, the border has w cells and the slice 256
+  pub report-answered : (r .refusal ≡ 0) ↔ (Answerable m keys (length classes) W (length border) × (256 ≤ length out))
+  report-answered = rw (totals-length m keys classes W) at (used-answered ofQueried Refused (Done (W .h * W .w)) refl refl counts m keys (length classes) W border out reported)
+
+  pub report-promise : r .refusal ≡ 0 → ReportPromise m keys classes W border out r border′ out′
+  report-promise z =
+      let left = used-leaves ofQueried Refused (Done (W .h * W .w)) refl refl counts m keys (length classes) W border out reported z in
+      let n = totals-length m keys classes W in
+      let stand : take 256 out′ ≡ counts = rw (left .2, ← n) (take-overwrite counts out) in
+      record {
+        number = left .0;
+        cells = λ k l. sym (getD-take 256 out′ k 0 l) ∙ ap (λ (xs : List ℕ). getD xs k 0) stand ∙ totals-at m keys classes W k l;
+        together = λ small. ap sum stand ∙ totals-sum m keys classes W small;
+        beyond = rw (left .2, ← n) (drop-overwrite counts out);
+        border-after = left .1;
+      }
+
+-- ---- select
+
+module _ (m : ℕ) (keys classes : List ℕ) (W : Window) (class : ℕ) (border out : List ℕ) {r : Answer} {border′ out′ : List ℕ} (call : Select m keys classes W class border out r border′ out′) where
+  abbrev ks : List ℕ
+  ks = selection m m keys classes W class
+
+  listed : Used ofQueried (usedFor Refused (Done (length ks)) ks m keys (length classes) W border out) r border′ out′
+  listed = subst (λ (x : After Queried). Used ofQueried x r border′ out′) (select-is m keys classes W class border out) call
+
+  -- answered exactly when the map is sound, the window inside, and there is room in the border and for the keys
+  pub select-answered : (r .refusal ≡ 0) ↔ (Answerable m keys (length classes) W (length border) × (length ks ≤ length out))
+  select-answered = used-answered ofQueried Refused (Done (length ks)) refl refl ks m keys (length classes) W border out listed
+
+  module _ (z : r .refusal ≡ 0) where
+    left : (r ≡ values (length ks) 0) × (border′ ≡ spent W border) × (out′ ≡ overwrite ks out)
+    left = used-leaves ofQueried Refused (Done (length ks)) refl refl ks m keys (length classes) W border out listed z
+
+    stand : take (r .first) out′ ≡ ks
+    stand = rw (ap (λ (x : Answer). x .first) (left .0), left .2) (take-overwrite ks out)
+
+    pub select-promise : SelectPromise m keys classes W class border out (take (r .first) out′) r border′ out′
+    select-promise =
+        let A = select-answered .0 z .0 in
+        let F = A .sound .records in
+        let small : m ≤ m = omega arith in
+        rw stand (record {
+          pixels = λ p v. selection-pixels F (A .inside) small classes class v;
+          apart = λ q x y k l h j. selection-one (spaced F) (A .inside) small classes class q k l h j;
+          once = selection-once (spaced F) (A .inside) small classes class;
+          in-order = refl;
+          few = selection-few (spaced F) (A .inside) classes class;
+          number = left .0;
+          cells = left .2;
+          border-after = left .1;
+        })

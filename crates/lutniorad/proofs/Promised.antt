@@ -1,0 +1,118 @@
+-- What decomposing and opening promise, from the contract of the call alone.
+-- Assumes nothing.
+use mathlib.Core.Path.{_≡_, refl, sym, ap, subst, _∙_}
+use mathlib.Core.Logic.{_↔_}
+use mathlib.Core.List.{List, List·Memᴰ, map, map-map, Memᴰ·map, Memᴰ·of-map}
+use Prim.Native.Nat.{ℕ, _+_, _*_, _≤_}
+use native.Mathlib.Omega.{arith}
+use lib.ListN.{length, take, length-map}
+use Rattle.lists.proofs.Laws.{ordered-map, map-same}
+use Rattle.answers.specs.Cells.{overwrite}
+use Rattle.answers.proofs.Laws.{on-passed, take-overwrite}
+use Rattle.key.specs.Key.{blockKey}
+use Rattle.window.specs.declared.Window.{Window}
+use Rattle.window.specs.Window.{Px}
+use Rattle.window.specs.Blocks.{Maximal, exponent, maximal}
+use Rattle.window.specs.Decompose.{keyOf, keysOf}
+use Rattle.window.proofs.Laws.{maximal-listed, listed-ordered, blocks-few, keys-of, keys-length, key-at, decompose-passed, decompose-leaves}
+use Rattle.map.proofs.Laws.{spaced}
+use Rattle.border.specs.declared.Opened.{Opened}
+use Rattle.border.specs.declared.Opened.the-variants.{Done, Refused}
+use Rattle.border.specs.Openings.{Opening, openings, handsOut, cellsOf}
+use Rattle.border.specs.Open.{After, spent, usedFor}
+use Rattle.border.specs.Promises.{Answerable, openingsIn}
+use Rattle.border.proofs.Laws.{open-is, openings-in, cells-length, in-hands, hands-count, hands-all, records-once, openings-few, hands-some, fewest-whole}
+use Rattle.lutniorad.specs.declared.Answer.{Answer}
+use Rattle.lutniorad.specs.Numbers.{values, refused, ofOpened}
+use Rattle.lutniorad.specs.Calls.{Decompose, Used, Open}
+use Rattle.lutniorad.specs.Promises.{DecomposePromise, OpenPromise}
+use Rattle.lutniorad.proofs.Answered.{decompose-says, decompose-answered, used-answered, used-leaves}
+
+-- ---- decomposing
+
+module _ (m : ℕ) (W : Window) where
+  sized : Px → ℕ × Px
+  sized p = (exponent W m p, p)
+
+  -- the maximal blocks, each by its exponent and its corner
+  listed : List (ℕ × Px)
+  listed = map sized (maximal W m)
+
+  exactly : (i : ℕ) (p : Px) → Maximal W m i p ↔ List·Memᴰ (i, p) listed
+  unfolding listed sized
+  exactly i p = (to, from)
+    where
+      to : Maximal W m i p → List·Memᴰ (i, p) (map sized (maximal W m))
+      to M = let l = maximal-listed W m .0 M in rw (l .1) (Memᴰ·map sized (l .0))
+
+      from : List·Memᴰ (i, p) (map sized (maximal W m)) → Maximal W m i p
+      from l =
+          let t = Memᴰ·of-map sized (maximal W m) l in
+          let corner : t .0 ≡ p = ap (λ (x : ℕ × Px). x .1) (t .2) in
+          maximal-listed W m .1 (rw (← corner) (t .1), sym (ap (λ (x : ℕ × Px). x .0) (t .2)) ∙ ap (exponent W m) corner)
+
+  their-keys : keysOf m m W ≡ map (λ (b : ℕ × Px). blockKey m (b .0) (b .1 .0) (b .1 .1)) listed
+  unfolding listed sized
+  their-keys =
+      keys-of m m W
+      ∙ map-same (maximal W m) (λ p l. sym (key-at m m W p refl))
+      ∙ sym (map-map (λ (b : ℕ × Px). blockKey m (b .0) (b .1 .0) (b .1 .1)) sized (maximal W m))
+
+  many : length (keysOf m m W) ≡ length listed
+  unfolding listed
+  many = keys-length m m W ∙ sym (length-map (maximal W m) sized)
+
+pub decompose-promise : {m : ℕ} {W : Window} {out out′ : List ℕ} {r : Answer} → Decompose m W out r out′ → r .refusal ≡ 0 → DecomposePromise m W out r out′
+unfolding listed sized
+decompose-promise {m} {W} {out} call z =
+    let t = decompose-answered call .0 z in
+    let passed = decompose-passed m W (length (keysOf m m W)) (length out) .1 t in
+    record {
+      blocks = listed m W;
+      exactly = exactly m W;
+      in-order = ordered-map (sized m W) (listed-ordered W m) (λ p q k l b. b);
+      few = omega (arith, many m W, keys-length m m W, blocks-few W m (t .1));
+      number = decompose-says call ∙ on-passed refused _ _ passed ∙ ap (λ (n : ℕ). values n 0) (many m W);
+      cells = call .out-after ∙ decompose-leaves m W out passed ∙ ap (λ (ks : List ℕ). overwrite ks out) (their-keys m W);
+    }
+
+-- ---- opening
+
+module _ (m : ℕ) (keys classes : List ℕ) (W : Window) (border out : List ℕ) {r : Answer} {border′ out′ : List ℕ} (call : Open m keys classes W border out r border′ out′) where
+  abbrev os : List Opening
+  os = openings m m keys W
+
+  used : Used ofOpened (usedFor Refused (Done (length os) (handsOut os)) (cellsOf os) m keys (length classes) W border out) r border′ out′
+  used = subst (λ (x : After Opened). Used ofOpened x r border′ out′) (open-is m keys (length classes) W border out) call
+
+  -- answered exactly when the map is sound, the window inside, and there is room in the border and for the openings
+  pub open-answered : (r .refusal ≡ 0) ↔ (Answerable m keys (length classes) W (length border) × (3 * length os ≤ length out))
+  open-answered =
+      let e = used-answered ofOpened Refused (Done (length os) (handsOut os)) refl refl (cellsOf os) m keys (length classes) W border out used in
+      rw (← cells-length os) e
+
+  module _ (z : r .refusal ≡ 0) where
+    left : (r ≡ values (length os) (handsOut os)) × (border′ ≡ spent W border) × (out′ ≡ overwrite (cellsOf os) out)
+    left = used-leaves ofOpened Refused (Done (length os) (handsOut os)) refl refl (cellsOf os) m keys (length classes) W border out used z
+
+    stand : openingsIn (take (3 * r .first) out′) ≡ os
+    stand =
+        let n : 3 * r .first ≡ length (cellsOf os) = ap (λ (x : Answer). 3 * x .first) (left .0) ∙ sym (cells-length os) in
+        rw (n, left .2, take-overwrite (cellsOf os) out) (openings-in os)
+
+    pub open-promise : OpenPromise m keys W border out (openingsIn (take (3 * r .first) out′)) r border′ out′
+    open-promise =
+        let A = open-answered .0 z .0 in
+        let F = A .sound .records in
+        let small : m ≤ m = omega arith in
+        rw stand (record {
+          all = λ n. let h = hands-all (spaced F) (A .inside) small n in let k = in-hands os n in (λ o. k .1 (h .0 o), λ l. h .1 (k .0 l));
+          once = records-once (spaced F) (A .inside) small;
+          in-order = refl;
+          few = openings-few (spaced F) (A .inside);
+          some = hands-some F (A .inside) small;
+          fewest = fewest-whole F (A .inside) small;
+          numbers = left .0 ∙ ap (values (length os)) (hands-count os);
+          cells = left .2;
+          border-after = left .1;
+        })

@@ -1,0 +1,97 @@
+-- What is promised of each call that was answered, in the words of the scope: by the four numbers that it returned and the cells that it left.
+-- Assumes nothing.
+use mathlib.Core.Path.{_≡_}
+use mathlib.Core.Logic.{_↔_, _≢_}
+use mathlib.Core.Bool.{true}
+use mathlib.Core.List.{List, List·Memᴰ, map}
+use Prim.Native.Nat.{ℕ, _+_, _*_, _≤_, _<_}
+use lib.ListN.{length, getD, take, drop}
+use Rattle.lists.specs.Lists.{sum, Ordered}
+use Rattle.answers.specs.Cells.{overwrite}
+use Rattle.key.specs.Picture.{place}
+use Rattle.key.specs.Key.{blockKey}
+use Rattle.key.specs.Form.{formOf}
+use Rattle.window.specs.declared.Window.{Window}
+use Rattle.window.specs.Window.{Px, In}
+use Rattle.window.specs.Blocks.{Maximal, Before}
+use Rattle.map.specs.Spans.{holds}
+use Rattle.map.specs.Records.{pixelRecord}
+use Rattle.border.specs.Openings.{Opening, openings, cellsOf}
+use Rattle.border.specs.Open.{spent}
+use Rattle.border.specs.Promises.{Overlaps, allHands, Enough}
+use Rattle.query.specs.Classes.{total}
+use Rattle.query.specs.Select.{selection}
+use Rattle.house.specs.File.{fileOf, fileM, fileQ, fileKeys, fileClasses}
+use Rattle.lutniorad.specs.declared.Answer.{Answer}
+use Rattle.lutniorad.specs.Numbers.{values}
+
+-- decomposing: the list of blocks, each by its exponent and its corner, has exactly the maximal blocks of the window, by row and then by column of the corner; there are fewer
+-- than 4 (w + h); `first` is their number, the first cells are their keys, and cells beyond keep their content
+pub record DecomposePromise (m : ℕ) (W : Window) (out : List ℕ) (r : Answer) (out′ : List ℕ) : Type 0 where
+  pub blocks : List (ℕ × Px)
+  pub exactly : (i : ℕ) (p : Px) → Maximal W m i p ↔ List·Memᴰ (i, p) blocks
+  pub in-order : Ordered (λ a b. Before (a .1) (b .1)) blocks
+  pub few : length blocks < 4 * (W .w + W .h)
+  pub number : r ≡ values (length blocks) 0
+  pub cells : out′ ≡ overwrite (map (λ b. blockKey m (b .0) (b .1 .0) (b .1 .1)) blocks) out
+
+-- opening, of the openings that stand in the first cells. Demand 2: every record that overlaps the window stands in an opening, and no other record does; none stands in two of
+-- them, nor twice in one; the openings are those of the fold over the maximal blocks, in that order. Demand 3: there are fewer than 4 (w + h); each has at least one record; no list
+-- of fewer maximal blocks brings all the records; `first` is the length of the list, and `second` the number of its records. Cells beyond keep their content, and the border is spent
+pub record OpenPromise (m : ℕ) (keys : List ℕ) (W : Window) (border out : List ℕ) (os : List Opening) (r : Answer) (border′ out′ : List ℕ) : Type 0 where
+  pub all : (n : ℕ) → Overlaps m keys W n ↔ List·Memᴰ n (allHands os)
+  pub once : Ordered _≢_ (allHands os)
+  pub in-order : os ≡ openings m m keys W
+  pub few : length os < 4 * (W .w + W .h)
+  pub some : (o : Opening) → List·Memᴰ o os → 1 ≤ o .count
+  pub fewest : (blocks : List ℕ) → Enough m m keys W blocks → length os ≤ length blocks
+  pub numbers : r ≡ values (length os) (length (allHands os))
+  pub cells : out′ ≡ overwrite (cellsOf os) out
+  pub border-after : border′ ≡ spent W border
+
+-- the class of a pixel is that of its record
+abbrev pub classAt : ℕ → List ℕ → List ℕ → Px → ℕ
+classAt m keys classes p = getD classes (pixelRecord m keys (p .0) (p .1)) 0
+
+-- some pixel of the window has the class
+abbrev pub Seen : ℕ → List ℕ → List ℕ → Window → ℕ → Type 0
+Seen m keys classes W class = (p : Px) × In W p × (classAt m keys classes p ≡ class)
+
+-- exist: `first` is 1 exactly when some pixel of the window has the class, and 0 exactly when none has
+pub record ExistPromise (m : ℕ) (keys classes : List ℕ) (W : Window) (class : ℕ) (border : List ℕ) (r : Answer) (border′ : List ℕ) : Type 0 where
+  pub yes : (r ≡ values 1 0) ↔ Seen m keys classes W class
+  pub no : (r ≡ values 0 0) ↔ (¬ Seen m keys classes W class)
+  pub border-after : border′ ≡ spent W border
+
+-- report: `first` is h times w, and cell k is the number of the window's pixels of class k, for all 256 of them; together they are the window's pixels, as classes are bytes.
+-- Cells beyond keep their content
+pub record ReportPromise (m : ℕ) (keys classes : List ℕ) (W : Window) (border out : List ℕ) (r : Answer) (border′ out′ : List ℕ) : Type 0 where
+  pub number : r ≡ values (W .h * W .w) 0
+  pub cells : (k : ℕ) → k < 256 → getD out′ k 0 ≡ total m keys classes W k
+  pub together : ((n : ℕ) → getD classes n 0 < 256) → sum (take 256 out′) ≡ W .h * W .w
+  pub beyond : drop 256 out′ ≡ drop 256 out
+  pub border-after : border′ ≡ spent W border
+
+-- select, of the keys that stand in the first cells: block by block its own key, or those of the records inside it. A pixel of the window has the class exactly when it lies in the
+-- block of one of these keys, and then of one only; no key stands there twice; there are fewer than 4 (w + h) + Q, and `first` is their number
+pub record SelectPromise (m : ℕ) (keys classes : List ℕ) (W : Window) (class : ℕ) (border out ks : List ℕ) (r : Answer) (border′ out′ : List ℕ) : Type 0 where
+  pub pixels : (p : Px) → In W p → (classAt m keys classes p ≡ class) ↔ ((x : ℕ) × List·Memᴰ x ks × (holds (place (p .0) (p .1)) (formOf m x) ≡ true))
+  pub apart : (q x y : ℕ) → List·Memᴰ x ks → List·Memᴰ y ks → holds q (formOf m x) ≡ true → holds q (formOf m y) ≡ true → x ≡ y
+  pub once : Ordered _≢_ ks
+  pub in-order : ks ≡ selection m m keys classes W class
+  pub few : length ks < 4 * (W .w + W .h) + length keys
+  pub number : r ≡ values (length ks) 0
+  pub cells : out′ ≡ overwrite ks out
+  pub border-after : border′ ≡ spent W border
+
+-- reading: m and Q are those of the header, and the first Q cells of both slices are the file's
+pub record ReadPromise (file keys classes : List ℕ) (r : Answer) (keys′ classes′ : List ℕ) : Type 0 where
+  pub numbers : r ≡ values (fileM file) (fileQ file)
+  pub keys-are : keys′ ≡ overwrite (fileKeys file) keys
+  pub classes-are : classes′ ≡ overwrite (fileClasses file) classes
+
+-- writing: `first` is 20 + 5Q, the length of the file, and the first so many bytes are the file
+pub record WritePromise (m : ℕ) (keys classes out : List ℕ) (r : Answer) (out′ : List ℕ) : Type 0 where
+  pub number : r ≡ values (20 + 5 * length keys) 0
+  pub long : length (fileOf m keys classes) ≡ 20 + 5 * length keys
+  pub cells : out′ ≡ overwrite (fileOf m keys classes) out
