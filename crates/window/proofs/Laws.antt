@@ -18,6 +18,7 @@ pub use Rattle.window.proofs.Blocks.{exponent-le, exponent-fits, expone
 pub use Rattle.window.proofs.Blocks.{corner-same, corner-exponent, corner-in, corner-corner, same→corner, corner→same, corner-row, corner-col}
 pub use Rattle.window.proofs.Listed.{before-row, before-irrefl, before-trans, trichotomy, rows-in, in-rows}
 pub use Rattle.window.proofs.Listed.{listed→, →listed, listed-ordered, block-of, block-one, ordered-front, ordered-back, front-all}
+pub use Rattle.window.proofs.Largest.{largest-one, largest-some, largest-is, largest-corner}
 pub use Rattle.window.proofs.Few.{blocks-few, blocks-capped}
 pub use Rattle.window.proofs.Tests.{window-refused, window-passed, window-inside, numbered-window, inside-12}
 pub use Rattle.window.proofs.Keys.{keys-of, key-at, pixel-in, key-named}
