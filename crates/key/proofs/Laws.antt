@@ -13,6 +13,8 @@ use Rattle.key.proofs.Digits.{form-whole}
 use Rattle.key.proofs.Blocks.{At, lies, at-form, form-at, stand, one-at}
 use Rattle.key.proofs.Pixels.{coarse, place-one, place-onto, place-div, pixel-at, block-at}
 pub use Rattle.key.proofs.Pixels.{place-lt, place-one, place-onto, corner-place}
+pub use Rattle.key.proofs.Levels.{digits-one, key-digits, one-level, whole-key, only-key}
+pub use Rattle.key.proofs.Bits.{spread-entry, spread-twice}
 pub use Rattle.key.proofs.Powers.{pow-least, pow-most, power, four, size-le}
 pub use Rattle.key.proofs.Ends.{Starts, first-pixel, aligned-start, block-starting, end-key, sub-key}
 pub use Rattle.key.proofs.Places.{span-key, span-named}

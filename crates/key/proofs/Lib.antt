@@ -2,6 +2,7 @@ mod Bits
 mod Powers
 mod Digits
 mod Blocks
+mod Levels
 mod Pixels
 mod Zeros
 mod Corners

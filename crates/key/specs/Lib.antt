@@ -7,3 +7,4 @@ pub mod Along
 pub mod Places
 pub mod Alignment
 pub mod Power
+pub mod Promises

@@ -2,6 +2,7 @@
 // The crates above refuse m over 12 before they call, so functions here ask m ≤ 12, and all keys fit u32.
 ghost use mathlib.Core.Path.{_≡_};
 ghost use Prim.Native.Nat.{_+_, _^_, _<_, _≤_};
+ghost use lib.ListN.{getD};
 ghost use Rattle.key.specs.Picture.{Pixel};
 ghost use Rattle.key.specs.Spread.{spread, spreads};
 ghost use Rattle.key.specs.Key.{pixelKey, blockKey};
@@ -25,14 +26,15 @@ pub fn spread_table() -> [u32; 256]
     SPREAD
 }
 
+// E of eight bits, as the table has it.
 fn entry(table: &[u32; 256], x: u16) -> u32
     requires { ⌜ (now table ≡ spreads) × (x < 256) ⌝ }
-    ensures { λ r. ⌜ r ≡ spread 5 x ⌝ }
+    ensures { λ r. ⌜ r ≡ getD spreads x 0 ⌝ }
 {
     table[x as usize]
 }
 
-// E of a row, of a column, and of a power of two up to 2^12.
+// E of a row, of a column, and of a power of two up to 2^12: read for the low eight bits, and again, times 5^8, for the rest.
 fn spread(table: &[u32; 256], x: u16) -> u32
     requires { ⌜ (now table ≡ spreads) × (x < 2 ^ 13) ⌝ }
     ensures { λ r. ⌜ r ≡ spread 5 x ⌝ }

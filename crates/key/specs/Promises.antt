@@ -1,0 +1,27 @@
+-- The words in which the promise about the digits of keys is said: a block's level, and the list of a number's digits.
+-- Assumes nothing.
+use mathlib.Core.Path.{_≡_}
+use mathlib.Core.List.{List, [], _∷_, _++_, List·Memᴰ}
+use Prim.Native.Nat.{ℕ, zero, suc, _-_, _/_, _%_, _^_, _≤_, _<_}
+use lib.ListN.{length, replicate}
+use Rattle.key.specs.Blocks.{Names}
+
+-- the k low digits of x in base b, most significant first: all of them where x is below b ^ k
+unfoldable pub digitsOf : ℕ → ℕ → ℕ → List ℕ
+digitsOf b zero x = []
+digitsOf b (suc k) x = x / b ^ k % b ∷ digitsOf b k x
+
+-- at m, the key is that of a block of level d, whose exponent is m - d
+pub record LevelBlock (m d key : ℕ) : Type 0 where
+  pub small : d ≤ m
+  pub start : ℕ
+  pub names : Names m key (m - d) start
+
+-- the number has m digits in base 5: d digits from 1 to 4, and then m - d zeros
+pub record LevelDigits (m d key : ℕ) : Type 0 where
+  pub small : d ≤ m
+  pub below : key < 5 ^ m
+  pub front : List ℕ
+  pub long : length front ≡ d
+  pub nonzero : (c : ℕ) → List·Memᴰ c front → (1 ≤ c) × (c ≤ 4)
+  pub is : digitsOf 5 m key ≡ front ++ replicate (m - d) 0
