@@ -23,7 +23,7 @@ pub use Rattle.border.proofs.Once.{records-out, hands-all, hands-once, 
 pub use Rattle.border.proofs.Fewest.{openings-enough, bringing-enough, fewest, openings-most, records-most, bringing-records, openings-capped, openings-few}
 pub use Rattle.border.proofs.Whole.{covered-whole, stays-whole, hands-some, hands-whole, all-bring, fewest-whole}
 pub use Rattle.border.proofs.Use.{use-answerable, numbered-use, use-known, use-whole, use-same}
-pub use Rattle.border.proofs.Tables.{open-is, numbered-used, used-answerable, used-refused, used-short, used-done, used-by-lengths, Told, used-told}
+pub use Rattle.border.proofs.Tables.{open-is, numbered-used, used-answerable, used-said, used-refused, used-short, used-done, used-by-lengths, Told, used-told}
 pub use Rattle.border.proofs.Room.{openings-records, capped-fit, openings-fit, roomy}
 
 -- ---- an accepted call

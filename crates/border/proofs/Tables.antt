@@ -48,6 +48,17 @@ module _ {A : Type 0} (refuse : ℕ → ℕ → A) (done : A) (cells : List ℕ)
         ∙ row-clear (λ n p. after (refuse n p) (spent W border) out) 8 _ [] _ (le-ltb (length out) _ l)
         ∙ answer-none (λ n p. after (refuse n p) (spent W border) out) _
 
+  -- the same outcome, its answer said in other words
+  pub used-said : {B : Type 0} (say : A → B) → (let o = usedFor refuse done cells m keys classes W border out in after (say (o .answer)) (o .border) (o .out))
+      ≡ usedFor (λ n p. say (refuse n p)) (say done) cells m keys classes W border out
+  unfolding usedFor
+  used-said {B} say =
+      let eight = row (ltb (length out) (length cells)) 8 (length cells) ∷ [] in
+      let part : After A → After B = λ x. after (say (x .answer)) (x .border) (x .out) in
+      answer-part part (λ n p. after (refuse n p) border out) (useRows m keys classes W (length border)) _
+      ∙ ap (λ (x : After B). answer (λ n p. after (say (refuse n p)) border out) (useRows m keys classes W (length border)) x)
+      (answer-part part (λ n p. after (refuse n p) (spent W border) out) eight _)
+
   -- the answer is the first of refusals 1 to 8, or `done`; of the border and of the answer slice only the lengths count
   pub used-by-lengths : usedFor refuse done cells m keys classes W border out .answer
       ≡ answer refuse (useRows m keys classes W (length border) ++ (row (ltb (length out) (length cells)) 8 (length cells) ∷ [])) done

@@ -1,22 +1,24 @@
 -- What exist, report and select promise, from the contract of the call alone.
 -- Assumes nothing.
-use mathlib.Core.Path.{_≡_, refl, sym, ap, subst, _∙_}
+use mathlib.Core.Path.{_≡_, refl, sym, ap, _∙_}
 use mathlib.Core.Logic.{_↔_}
 use mathlib.Core.Bool.{Bool, true, false}
-use mathlib.Core.List.{List}
+use mathlib.Core.List.{List, [], _∷_, _++_}
 use Prim.Native.Nat.{ℕ, _+_, _*_, _≤_}
 use native.Mathlib.Omega.{arith}
+use lib.Dec.{ltb}
 use lib.ListN.{length, getD, take}
 use lib.Seq.{getD-take}
 use Rattle.lists.specs.Lists.{sum}
 use Rattle.lists.proofs.Tests.{never}
+use Rattle.answers.specs.Rows.{row, answer}
 use Rattle.answers.specs.Cells.{overwrite}
 use Rattle.answers.proofs.Laws.{on-passed, take-overwrite, drop-overwrite}
 use Rattle.window.specs.declared.Window.{Window}
 use Rattle.map.proofs.Laws.{spaced}
-use Rattle.border.specs.Open.{After, spent, usedFor}
+use Rattle.border.specs.Open.{useRows, After, after, spent, usedFor}
 use Rattle.border.specs.Promises.{Answerable}
-use Rattle.border.proofs.Laws.{use-answerable}
+use Rattle.border.proofs.Laws.{use-answerable, used-said}
 use Rattle.query.specs.declared.Queried.{Queried}
 use Rattle.query.specs.declared.Queried.the-variants.{Done, Refused}
 use Rattle.query.specs.Classes.{exists, totals}
@@ -25,9 +27,10 @@ use Rattle.query.proofs.Laws.{exists-means, exist-leaves, report-is, totals-len
 use Rattle.query.proofs.Laws.{select-is, selection-pixels, selection-one, selection-once, selection-few}
 use Rattle.lutniorad.specs.declared.Answer.{Answer}
 use Rattle.lutniorad.specs.Numbers.{values, refused, ofQueried}
-use Rattle.lutniorad.specs.Calls.{Used, Exist, Report, Select}
-use Rattle.lutniorad.specs.Promises.{Seen, ExistPromise, ReportPromise, SelectPromise}
-use Rattle.lutniorad.proofs.Answered.{sayExists, exist-says, exist-answered, used-answered, used-leaves}
+use Rattle.lutniorad.specs.Calls.{Exist, Report, Select}
+use Rattle.lutniorad.specs.Promises.{RefusalLeaves, Seen, ExistPromise, ReportPromise, SelectPromise}
+use Rattle.lutniorad.proofs.Answered.{sayExists, exist-says, exist-answered}
+use Rattle.lutniorad.proofs.Using.{used-crossed, used-says, used-numbered, used-answered, used-leaves, used-refused}
 
 -- ---- exist
 
@@ -58,16 +61,30 @@ module _ (m : ℕ) (keys classes : List ℕ) (W : Window) (border out : List ℕ
   abbrev counts : List ℕ
   counts = totals m keys classes W
 
-  reported : Used ofQueried (usedFor Refused (Done (W .h * W .w)) counts m keys (length classes) W border out) r border′ out′
-  reported = subst (λ (x : After Queried). Used ofQueried x r border′ out′) (report-is m keys classes W border out) call
+  -- the call in numbers
+  reported : after r border′ out′ ≡ usedFor refused (values (W .h * W .w) 0) counts m keys (length classes) W border out
+  reported =
+      used-crossed ofQueried call
+      ∙ ap (λ (x : After Queried). after (ofQueried (x .answer)) (x .border) (x .out)) (report-is m keys classes W border out)
+      ∙ used-said Refused (Done (W .h * W .w)) counts m keys (length classes) W border out ofQueried
+
+  pub report-says : r
+      ≡ answer refused (useRows m keys (length classes) W (length border) ++ (row (ltb (length out) (length counts)) 8 (length counts) ∷ [])) (values (W .h * W .w) 0)
+  report-says = used-says (W .h * W .w) 0 counts m keys (length classes) W border out reported
 
   -- answered exactly when the map is sound, the window inside, the border has w cells and the slice 256
   pub report-answered : (r .refusal ≡ 0) ↔ (Answerable m keys (length classes) W (length border) × (256 ≤ length out))
-  report-answered = rw (totals-length m keys classes W) at (used-answered ofQueried Refused (Done (W .h * W .w)) refl refl counts m keys (length classes) W border out reported)
+  report-answered = rw (totals-length m keys classes W) at (used-answered (W .h * W .w) 0 counts m keys (length classes) W border out reported)
+
+  pub report-numbered : r .refusal ≤ 8
+  report-numbered = used-numbered (W .h * W .w) 0 counts m keys (length classes) W border out reported
+
+  pub report-refused : (r .refusal ≡ 0 → ⊥) → RefusalLeaves W border out r border′ out′
+  report-refused = used-refused (W .h * W .w) 0 counts m keys (length classes) W border out reported
 
   pub report-promise : r .refusal ≡ 0 → ReportPromise m keys classes W border out r border′ out′
   report-promise z =
-      let left = used-leaves ofQueried Refused (Done (W .h * W .w)) refl refl counts m keys (length classes) W border out reported z in
+      let left = used-leaves (W .h * W .w) 0 counts m keys (length classes) W border out reported z in
       let n = totals-length m keys classes W in
       let stand : take 256 out′ ≡ counts = rw (left .2, ← n) (take-overwrite counts out) in
       record {
@@ -84,16 +101,33 @@ module _ (m : ℕ) (keys classes : List ℕ) (W : Window) (class : ℕ) (border 
   abbrev ks : List ℕ
   ks = selection m m keys classes W class
 
-  listed : Used ofQueried (usedFor Refused (Done (length ks)) ks m keys (length classes) W border out) r border′ out′
-  listed = subst (λ (x : After Queried). Used ofQueried x r border′ out′) (select-is m keys classes W class border out) call
+  -- the call in numbers
+  selects : after r border′ out′ ≡ usedFor refused (values (length ks) 0) ks m keys (length classes) W border out
+  selects =
+      used-crossed ofQueried call
+      ∙ ap (λ (x : After Queried). after (ofQueried (x .answer)) (x .border) (x .out)) (select-is m keys classes W class border out)
+      ∙ used-said Refused (Done (length ks)) ks m keys (length classes) W border out ofQueried
+
+  pub select-says : r ≡ answer refused (useRows m keys (length classes) W (length border) ++ (row (ltb (length out) (length ks)) 8 (length ks) ∷ [])) (values (length ks) 0)
+  select-says = used-says (length ks) 0 ks m keys (length classes) W border out selects
 
   -- answered exactly when the map is sound, the window inside, and there is room in the border and for the keys
   pub select-answered : (r .refusal ≡ 0) ↔ (Answerable m keys (length classes) W (length border) × (length ks ≤ length out))
-  select-answered = used-answered ofQueried Refused (Done (length ks)) refl refl ks m keys (length classes) W border out listed
+  select-answered = used-answered (length ks) 0 ks m keys (length classes) W border out selects
+
+  -- as it is with Q + 4 (w + h) cells
+  pub select-enough : Answerable m keys (length classes) W (length border) → length keys + 4 * (W .w + W .h) ≤ length out → r .refusal ≡ 0
+  select-enough A l = select-answered .1 (A, omega (arith, selection-few (spaced (A .sound .records)) (A .inside) classes class))
+
+  pub select-numbered : r .refusal ≤ 8
+  select-numbered = used-numbered (length ks) 0 ks m keys (length classes) W border out selects
+
+  pub select-refused : (r .refusal ≡ 0 → ⊥) → RefusalLeaves W border out r border′ out′
+  select-refused = used-refused (length ks) 0 ks m keys (length classes) W border out selects
 
   module _ (z : r .refusal ≡ 0) where
     left : (r ≡ values (length ks) 0) × (border′ ≡ spent W border) × (out′ ≡ overwrite ks out)
-    left = used-leaves ofQueried Refused (Done (length ks)) refl refl ks m keys (length classes) W border out listed z
+    left = used-leaves (length ks) 0 ks m keys (length classes) W border out selects z
 
     stand : take (r .first) out′ ≡ ks
     stand = rw (ap (λ (x : Answer). x .first) (left .0), left .2) (take-overwrite ks out)

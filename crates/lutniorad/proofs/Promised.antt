@@ -1,17 +1,19 @@
 -- What decomposing and opening promise, from the contract of the call alone.
 -- Assumes nothing.
-use mathlib.Core.Path.{_≡_, refl, sym, ap, subst, _∙_}
+use mathlib.Core.Path.{_≡_, refl, sym, ap, _∙_}
 use mathlib.Core.Logic.{_↔_}
-use mathlib.Core.List.{List, List·Memᴰ, map, map-map, Memᴰ·map, Memᴰ·of-map}
+use mathlib.Core.List.{List, [], _∷_, _++_, List·Memᴰ, map, map-map, Memᴰ·map, Memᴰ·of-map}
 use Prim.Native.Nat.{ℕ, _+_, _*_, _≤_}
 use native.Mathlib.Omega.{arith}
+use lib.Dec.{ltb}
 use lib.ListN.{length, take, length-map}
 use Rattle.lists.proofs.Laws.{ordered-map, map-same}
+use Rattle.answers.specs.Rows.{row, answer}
 use Rattle.answers.specs.Cells.{overwrite}
 use Rattle.answers.proofs.Laws.{on-passed, take-overwrite}
 use Rattle.key.specs.Key.{blockKey}
 use Rattle.window.specs.declared.Window.{Window}
-use Rattle.window.specs.Window.{Px}
+use Rattle.window.specs.Window.{Px, Inside}
 use Rattle.window.specs.Blocks.{Maximal, exponent, maximal}
 use Rattle.window.specs.Decompose.{keyOf, keysOf}
 use Rattle.window.proofs.Laws.{maximal-listed, listed-ordered, blocks-few, keys-of, keys-length, key-at, decompose-passed, decompose-leaves}
@@ -19,14 +21,15 @@ use Rattle.map.proofs.Laws.{spaced}
 use Rattle.border.specs.declared.Opened.{Opened}
 use Rattle.border.specs.declared.Opened.the-variants.{Done, Refused}
 use Rattle.border.specs.Openings.{Opening, openings, handsOut, cellsOf}
-use Rattle.border.specs.Open.{After, spent, usedFor}
+use Rattle.border.specs.Open.{useRows, After, after, spent, usedFor}
 use Rattle.border.specs.Promises.{Answerable, openingsIn}
-use Rattle.border.proofs.Laws.{open-is, openings-in, cells-length, in-hands, hands-count, hands-all, records-once, openings-few, hands-some, fewest-whole}
+use Rattle.border.proofs.Laws.{open-is, used-said, openings-in, cells-length, in-hands, hands-count, hands-all, records-once, openings-few, hands-some, fewest-whole}
 use Rattle.lutniorad.specs.declared.Answer.{Answer}
 use Rattle.lutniorad.specs.Numbers.{values, refused, ofOpened}
-use Rattle.lutniorad.specs.Calls.{Decompose, Used, Open}
-use Rattle.lutniorad.specs.Promises.{DecomposePromise, OpenPromise}
-use Rattle.lutniorad.proofs.Answered.{decompose-says, decompose-answered, used-answered, used-leaves}
+use Rattle.lutniorad.specs.Calls.{Decompose, Open}
+use Rattle.lutniorad.specs.Promises.{RefusalLeaves, DecomposePromise, OpenPromise}
+use Rattle.lutniorad.proofs.Answered.{decompose-says, decompose-answered}
+use Rattle.lutniorad.proofs.Using.{used-crossed, used-says, used-numbered, used-answered, used-leaves, used-refused}
 
 -- ---- decomposing
 
@@ -76,24 +79,44 @@ decompose-promise {m} {W} {out} call z =
       cells = call .out-after ∙ decompose-leaves m W out passed ∙ ap (λ (ks : List ℕ). overwrite ks out) (their-keys m W);
     }
 
+-- 4 (w + h) cells are always enough
+pub decompose-enough : {m : ℕ} {W : Window} {out out′ : List ℕ} {r : Answer} → Decompose m W out r out′ → m ≤ 12 → Inside m W → 4 * (W .w + W .h) ≤ length out → r .refusal ≡ 0
+decompose-enough {m} {W} call l I room = decompose-answered call .1 (l, I, omega (arith, keys-length m m W, blocks-few W m I))
+
 -- ---- opening
 
 module _ (m : ℕ) (keys classes : List ℕ) (W : Window) (border out : List ℕ) {r : Answer} {border′ out′ : List ℕ} (call : Open m keys classes W border out r border′ out′) where
   abbrev os : List Opening
   os = openings m m keys W
 
-  used : Used ofOpened (usedFor Refused (Done (length os) (handsOut os)) (cellsOf os) m keys (length classes) W border out) r border′ out′
-  used = subst (λ (x : After Opened). Used ofOpened x r border′ out′) (open-is m keys (length classes) W border out) call
+  -- the call in numbers
+  opened : after r border′ out′ ≡ usedFor refused (values (length os) (handsOut os)) (cellsOf os) m keys (length classes) W border out
+  opened =
+      used-crossed ofOpened call
+      ∙ ap (λ (x : After Opened). after (ofOpened (x .answer)) (x .border) (x .out)) (open-is m keys (length classes) W border out)
+      ∙ used-said Refused (Done (length os) (handsOut os)) (cellsOf os) m keys (length classes) W border out ofOpened
+
+  pub open-says : r
+      ≡ answer refused (useRows m keys (length classes) W (length border) ++ (row (ltb (length out) (length (cellsOf os))) 8 (length (cellsOf os)) ∷ [])) (values (length os) (handsOut os))
+  open-says = used-says (length os) (handsOut os) (cellsOf os) m keys (length classes) W border out opened
 
   -- answered exactly when the map is sound, the window inside, and there is room in the border and for the openings
   pub open-answered : (r .refusal ≡ 0) ↔ (Answerable m keys (length classes) W (length border) × (3 * length os ≤ length out))
-  open-answered =
-      let e = used-answered ofOpened Refused (Done (length os) (handsOut os)) refl refl (cellsOf os) m keys (length classes) W border out used in
-      rw (← cells-length os) e
+  open-answered = rw (← cells-length os) (used-answered (length os) (handsOut os) (cellsOf os) m keys (length classes) W border out opened)
+
+  -- as it is with 12 (w + h) cells
+  pub open-enough : Answerable m keys (length classes) W (length border) → 12 * (W .w + W .h) ≤ length out → r .refusal ≡ 0
+  open-enough A l = open-answered .1 (A, omega (arith, openings-few (spaced (A .sound .records)) (A .inside)))
+
+  pub open-numbered : r .refusal ≤ 8
+  open-numbered = used-numbered (length os) (handsOut os) (cellsOf os) m keys (length classes) W border out opened
+
+  pub open-refused : (r .refusal ≡ 0 → ⊥) → RefusalLeaves W border out r border′ out′
+  open-refused = used-refused (length os) (handsOut os) (cellsOf os) m keys (length classes) W border out opened
 
   module _ (z : r .refusal ≡ 0) where
     left : (r ≡ values (length os) (handsOut os)) × (border′ ≡ spent W border) × (out′ ≡ overwrite (cellsOf os) out)
-    left = used-leaves ofOpened Refused (Done (length os) (handsOut os)) refl refl (cellsOf os) m keys (length classes) W border out used z
+    left = used-leaves (length os) (handsOut os) (cellsOf os) m keys (length classes) W border out opened z
 
     stand : openingsIn (take (3 * r .first) out′) ≡ os
     stand =

@@ -25,6 +25,13 @@ use Rattle.house.specs.File.{fileOf, fileM, fileQ, fileKeys, fileClasses}
 use Rattle.lutniorad.specs.declared.Answer.{Answer}
 use Rattle.lutniorad.specs.Numbers.{values}
 
+-- what opening, report or select leaves where it is refused: the answer slice as it was, and the border too, but that 8 leaves it as an answered call does. Other calls leave all
+-- lent cells as they were
+pub record RefusalLeaves (W : Window) (border out : List ℕ) (r : Answer) (border′ out′ : List ℕ) : Type 0 where
+  pub out-kept : out′ ≡ out
+  pub border-spent : r .refusal ≡ 8 → border′ ≡ spent W border
+  pub border-kept : (r .refusal ≡ 8 → ⊥) → border′ ≡ border
+
 -- decomposing: the list of blocks, each by its exponent and its corner, has exactly the maximal blocks of the window, by row and then by column of the corner; there are fewer
 -- than 4 (w + h); `first` is their number, the first cells are their keys, and cells beyond keep their content
 pub record DecomposePromise (m : ℕ) (W : Window) (out : List ℕ) (r : Answer) (out′ : List ℕ) : Type 0 where

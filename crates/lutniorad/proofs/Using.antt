@@ -1,0 +1,84 @@
+-- Opening, report and select as calls: when they are answered, and what they leave.
+-- Assumes nothing.
+use mathlib.Core.Path.{_≡_, refl, ap, _∙_}
+use mathlib.Core.Logic.{_↔_}
+use mathlib.Core.List.{List, [], _∷_, _++_}
+use Prim.Native.Nat.{ℕ, _≤_, _<_}
+use native.Mathlib.Decide.{decLt}
+use native.Mathlib.Omega.{arith}
+use lib.Dec.{ltb}
+use lib.ListN.{length}
+use Rattle.answers.specs.declared.Verdict.{Verdict}
+use Rattle.answers.specs.declared.Verdict.the-variants as verdict-of
+use Rattle.answers.specs.Rows.{Row, row, answer, verdict}
+use Rattle.answers.specs.Cells.{overwrite}
+use Rattle.answers.proofs.Laws.{on-refused}
+use Rattle.window.specs.declared.Window.{Window}
+use Rattle.border.specs.Open.{useRows, spent, After, after, usedFor}
+use Rattle.border.specs.Promises.{Answerable}
+use Rattle.border.proofs.Laws as Border
+use Rattle.border.proofs.Laws.{use-answerable, numbered-use, numbered-used, used-answerable, used-by-lengths, used-short, used-done}
+use Rattle.lutniorad.specs.declared.Answer.{Answer}
+use Rattle.lutniorad.specs.Numbers.{values, refused}
+use Rattle.lutniorad.specs.Calls.{Used}
+use Rattle.lutniorad.specs.Promises.{RefusalLeaves}
+use Rattle.lutniorad.proofs.Told.{told-most, told-when}
+
+-- from the contract of such a call to one outcome in numbers
+pub used-crossed : {A : Type 0} (say : A → Answer) {o : After A} {r : Answer} {border′ out′ : List ℕ} → Used say o r border′ out′
+    → after r border′ out′ ≡ after (say (o .answer)) (o .border) (o .out)
+used-crossed say call = rw (call .answer, call .border-after, call .out-after)
+
+-- a call that answers two values and writes cells
+module _ (first second : ℕ) (cells : List ℕ) (m : ℕ) (keys : List ℕ) (classes : ℕ) (W : Window) (border out : List ℕ) {r : Answer} {border′ out′ : List ℕ}
+    (call : after r border′ out′ ≡ usedFor refused (values first second) cells m keys classes W border out) where
+  -- the first of refusals 1 to 8, or the values; of the two slices only the lengths count
+  pub used-says : r ≡ answer refused (useRows m keys classes W (length border) ++ (row (ltb (length out) (length cells)) 8 (length cells) ∷ [])) (values first second)
+  used-says = ap (λ (x : After Answer). x .answer) call ∙ used-by-lengths refused (values first second) cells m keys classes W border out
+
+  pub used-numbered : r .refusal ≤ 8
+  used-numbered = told-most (values first second) refl (numbered-used refused (values first second) cells m keys classes W border out) used-says
+
+  pub used-answered : (r .refusal ≡ 0) ↔ (Answerable m keys classes W (length border) × (length cells ≤ length out))
+  used-answered =
+      told-when (values first second) refl (numbered-used refused (values first second) cells m keys classes W border out) used-says
+      (used-answerable refused (values first second) cells m keys classes W border out)
+
+  -- an answered call returns the values, spends the border and writes the cells
+  pub used-leaves : r .refusal ≡ 0 → (r ≡ values first second) × (border′ ≡ spent W border) × (out′ ≡ overwrite cells out)
+  used-leaves z =
+      let t = used-answered .0 z in
+      let d = call ∙ used-done refused (values first second) cells m keys classes W border out (use-answerable m keys classes W (length border) .1 (t .0)) (t .1) in
+      (ap (λ (x : After Answer). x .answer) d, ap (λ (x : After Answer). x .border) d, ap (λ (x : After Answer). x .out) d)
+
+  -- a refused one leaves the slice as it was, and the border too, but that 8 spends it
+  pub used-refused : (r .refusal ≡ 0 → ⊥) → RefusalLeaves W border out r border′ out′
+  used-refused held = go (verdict (useRows m keys classes W (length border))) refl
+    where
+      small : {n p : ℕ} → verdict (useRows m keys classes W (length border)) ≡ verdict-of.Refused n p → n ≤ 7
+      small e =
+          rw (ap (λ (x : Answer). x .refusal) (on-refused refused (useRows m keys classes W (length border)) (values 0 0) e))
+          at (told-most {most = 7} (values 0 0) refl (numbered-use m keys classes W (length border) (omega arith)) refl)
+
+      room : verdict (useRows m keys classes W (length border)) ≡ verdict-of.Passed → Dec (length out < length cells)
+          → RefusalLeaves W border out r border′ out′
+      room e (yes l) =
+          let d = call ∙ used-short refused (values first second) cells m keys classes W border out e l in
+          record {
+            out-kept = ap (λ (x : After Answer). x .out) d;
+            border-spent = λ h. ap (λ (x : After Answer). x .border) d;
+            border-kept = λ n. absurd (n (ap (λ (x : After Answer). x .answer .refusal) d));
+          }
+      room e (no n) = absurd (held (used-answered .1 (use-answerable m keys classes W (length border) .0 e, omega (arith, n))))
+
+      go : (v : Verdict) → verdict (useRows m keys classes W (length border)) ≡ v
+          → RefusalLeaves W border out r border′ out′
+      go verdict-of.Passed e = room e (decLt (length out) (length cells))
+      go (verdict-of.Refused n p) e =
+          let d = call ∙ Border.used-refused refused (values first second) cells m keys classes W border out e in
+          let number : r .refusal ≡ n = ap (λ (x : After Answer). x .answer .refusal) d in
+          record {
+            out-kept = ap (λ (x : After Answer). x .out) d;
+            border-spent = λ h. absurd (omega (arith, small e, number, h));
+            border-kept = λ h. ap (λ (x : After Answer). x .border) d;
+          }
