@@ -22,10 +22,9 @@ use Rattle.map.specs.Records.{recordOf, exponentOf}
 use Rattle.map.specs.Runs.{runOf}
 use Rattle.border.specs.declared.Stepped.the-variants as stepped
 use Rattle.border.specs.declared.Opened.the-variants.{Done, Refused}
-use Rattle.border.specs.Openings.{indices, within, isHanded, opening, openFrom, handedAfter, openings, handsOut, cellsOf}
+use Rattle.border.specs.Openings.{indices, within, isHanded, made, opening, openFrom, handedAfter, openings, handsOut, cellsOf}
 use Rattle.border.specs.Cells.{filled, raised, closed}
 use Rattle.border.specs.Step.{afterStep, stepOf}
-use Rattle.border.specs.Found.{made}
 use Rattle.border.specs.Promises.{bringing}
 use Rattle.border.specs.Open.{useRows, spent, after, usedFor, openOf}
 

@@ -16,11 +16,11 @@ use Rattle.map.specs.Runs.{runOf}
 use Rattle.map.specs.Runs as runs
 use Rattle.border.specs.declared.Walk.{Walk}
 use Rattle.border.specs.declared.Found.the-variants as found
-use Rattle.border.specs.Openings.{Opening, opening, handedAfter, openings}
+use Rattle.border.specs.Openings.{Opening, made, opening, handedAfter, openings}
 use Rattle.border.specs.Border.{Stated, Covered}
 use Rattle.border.specs.Cells.{filled}
 use Rattle.border.specs.Step.{Corner, Usable}
-use Rattle.border.specs.Found.{made, leftOver, madeFrom, leftFrom, walk, spot, Reached, Kept, Finds}
+use Rattle.border.specs.Found.{leftOver, madeFrom, leftFrom, walk, spot, Reached, Kept, Finds}
 use Rattle.border.specs.Found as finds
 use Rattle.border.specs.Open.{spent}
 use Rattle.border.proofs.Filled.{filled-length, filled-beyond}
@@ -73,7 +73,7 @@ module _ {m top : ℕ} {keys : List ℕ} {W : Window} (cells : List ℕ) {border
       walked = walked-first (U .inside)
 
       stated : Stated W (Covered m top keys W []) border
-      stated = rw e (begins cells (λ p n. none-covered n) (U .wide))
+      stated = rw e (begins cells (λ p. none-covered m top keys W) (U .wide))
 
       A : Ahead m top keys W [] (maximal W top) border
       A = ahead-is [] (maximal W top) border fresh-usable refl stated

@@ -16,9 +16,11 @@ use Rattle.border.proofs.Hands.{cells-length}
 use Rattle.border.proofs.Use.{use-known, use-whole}
 use Rattle.border.proofs.Tables.{used-told}
 pub use Rattle.border.proofs.Overlaps.{within-is, OfPixel, spans, met-inside, met-pixels, met-first, met-room, block-key, far-is}
-pub use Rattle.border.proofs.Fold.{opening-hands, opening-block, met-in}
+pub use Rattle.border.proofs.Fold.{opening-hands, opening-block, met-in, handed-opened}
 pub use Rattle.border.proofs.Hands.{hands-none, hands-one, hands-append, hands-count, in-hands, cells-length, openings-in}
 pub use Rattle.border.proofs.Handing.{listed-corner}
+pub use Rattle.border.proofs.Covering.{covered-append}
+pub use Rattle.border.proofs.Making.{opened-step, covered-step, handed-step, stated-step}
 pub use Rattle.border.proofs.Once.{records-out, hands-all, hands-once, records-once}
 pub use Rattle.border.proofs.Fewest.{openings-enough, bringing-enough, fewest, openings-most, records-most, bringing-records, openings-capped, openings-few}
 pub use Rattle.border.proofs.Whole.{covered-whole, stays-whole, hands-some, hands-whole, all-bring, fewest-whole}

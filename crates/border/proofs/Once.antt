@@ -19,13 +19,13 @@ use Rattle.border.specs.Step.{Corner}
 use Rattle.border.specs.Promises.{Overlaps, openingAt, hands, allHands, HandedOut, Apart}
 use Rattle.border.proofs.Sweep.{Out, Now, now-fresh}
 use Rattle.border.proofs.Overlaps.{met-pixels}
-use Rattle.border.proofs.Fold.{opening-hands, hands-opens, openings-are}
+use Rattle.border.proofs.Fold.{opening-hands, openings-are, handed-opened}
 use Rattle.border.proofs.Hands.{in-hands}
 use Rattle.border.proofs.Handing.{listed-corner, handed-all}
 use Rattle.border.proofs.Chosen.{chosen}
 
 pub records-out : (m top : ℕ) (keys : List ℕ) (W : Window) → handedBy m top keys W (maximal W top) ≡ allHands (openings m top keys W)
-records-out m top keys W = rw (openings-are m top keys W) (hands-opens m keys [] (map (keyOf m top W) (maximal W top)))
+records-out m top keys W = rw (openings-are m top keys W) (handed-opened m top keys W (maximal W top))
 
 -- openings that are apart hand out different records
 all-distinct : {os : List Opening} → Ordered Apart os → Ordered _≢_ (allHands os)

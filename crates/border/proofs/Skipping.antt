@@ -14,12 +14,13 @@ use Rattle.border.specs.declared.Stepped.{Stepped}
 use Rattle.border.specs.declared.Stepped.the-variants as stepped
 use Rattle.border.specs.declared.Walk.{Walk}
 use Rattle.border.specs.declared.Found.the-variants as found
-use Rattle.border.specs.Step.{Corner, Usable, Ready, Step}
-use Rattle.border.specs.Found.{madeBy, madeOver, leftOver, madeFrom, leftFrom, columnsLeft, walk, spot, Reached, Kept, Finds}
+use Rattle.border.specs.Step.{madeBy, Corner, Usable, Ready, Step}
+use Rattle.border.specs.Found.{madeOver, leftOver, madeFrom, leftFrom, columnsLeft, walk, spot, Reached, Kept, Finds}
 use Rattle.border.specs.Found as finds
 use Rattle.border.proofs.Columns.{left-none}
 use Rattle.border.proofs.Handing.{listed-corner}
-use Rattle.border.proofs.Stepping.{kept-none, kept-more, high-is, step-kept, step-key, made-step, left-step, shutBy, step-left}
+use Rattle.border.proofs.Making.{high-is, stated-step}
+use Rattle.border.proofs.Stepping.{kept-none, kept-more, step-kept, step-key, made-step, left-step, shutBy, step-left}
 
 -- ---- where no column is left, every block is skipped
 
@@ -55,7 +56,7 @@ module _ {m top : ℕ} {keys : List ℕ} {W : Window} {at : Walk} {cells : List 
     reached-next e = record {
       past = R .past ++ ((r, c) ∷ []);
       walked = walked-next (R .walked) g;
-      stated = S .stays (R .past) (blocksFrom W top (r, d)) (walked-split (R .walked) g) (R .stated);
+      stated = stated-step (U .spaced) (U .inside) (U .cap) (R .past) (r, c) (blocksFrom W top (r, d)) (walked-split (R .walked) g) (R .stated) S;
       left = omega (arith, fewer, R .left);
     }
 

@@ -7,26 +7,25 @@ use native.Mathlib.Decide.{decLt}
 use native.Mathlib.Nat.{add-zero}
 use native.Mathlib.Omega.{arith}
 use lib.ListN.{length, getD, take, drop, replicate, length-replicate}
-use borrow.Author.Tests.{lt-ltb, le-ltb}
 use Rattle.answers.proofs.Laws.{overwrite-part, overwrite-same}
 use Rattle.window.specs.declared.Window.{Window}
 use Rattle.window.specs.Window.{Px}
 use Rattle.window.specs.Blocks.{exponent, maximal}
 use Rattle.window.specs.Decompose.{keyOf}
 use Rattle.map.specs.Records.{pixelTile, pixelExponent}
-use Rattle.map.specs.Runs.{runOf}
 use Rattle.map.proofs.Laws.{tiles}
 use Rattle.border.specs.declared.Stepped.{Stepped}
 use Rattle.border.specs.declared.Stepped.the-variants as stepped
 use Rattle.border.specs.Border.{Stated, Covered}
-use Rattle.border.specs.Cells.{filled, raised, closed}
-use Rattle.border.specs.Step.{reach, AfterStep, afterStep, stepOf, Corner, Usable, Ready, Step}
-use Rattle.border.specs.Found.{madeBy, madeOver, leftOver, columnsLeft, Kept}
+use Rattle.border.specs.Cells.{filled}
+use Rattle.border.specs.Step.{reach, AfterStep, stepOf, madeBy, Corner, Usable, Ready, Step}
+use Rattle.border.specs.Found.{madeOver, leftOver, columnsLeft, Kept}
 use Rattle.border.specs.Open.{spent}
 use Rattle.border.proofs.Filled.{raised-length, raised-beyond}
 use Rattle.border.proofs.Columns.{left-raised}
 use Rattle.border.proofs.Sweep.{Out}
 use Rattle.border.proofs.Stays.{skip-iff, fresh-high}
+use Rattle.border.proofs.Making.{low-is, high-is}
 use Rattle.border.proofs.Steps.{opened-not-skipped, step-skipped, step-opened}
 use Rattle.border.proofs.Earlier.{stated-out}
 
@@ -52,20 +51,6 @@ filled-spent W cells l =
     e ∙ rw n at (overwrite-part (replicate (W .w) (W .r0 + W .h)) cells)
 
 -- ---- one step
-
-module _ (m top : ℕ) (keys : List ℕ) (W : Window) (b : Px) (cells : List ℕ) where
-  abbrev size : ℕ
-  size = reach W top (pixelExponent m keys) b
-
-  pub low-is : getD cells (b .1 - W .c0) 0 ≤ b .0
-      → let run = runOf m keys (keyOf m top W b) in
-      stepOf m top keys W b cells ≡ afterStep (stepped.Opened (keyOf m top W b) (run .first) (run .count) size (closed W size b)) (raised W size b cells)
-  unfolding stepOf
-  low-is l = rw (le-ltb (b .0) (getD cells (b .1 - W .c0) 0) l)
-
-  pub high-is : b .0 < getD cells (b .1 - W .c0) 0 → stepOf m top keys W b cells ≡ afterStep stepped.Skipped cells
-  unfolding stepOf
-  high-is l = rw (lt-ltb (b .0) (getD cells (b .1 - W .c0) 0) l)
 
 module _ {m top : ℕ} {keys : List ℕ} {W : Window} {b : Px} {cells border : List ℕ} {answer : Stepped} (S : Step m top keys W b cells answer border) where
   pub step-kept : Corner W top b → W .w ≤ length cells → Kept W cells border

@@ -15,14 +15,15 @@ use Rattle.map.proofs.Laws.{spaced, some-records, record-of, pixel-holder}
 use Rattle.border.specs.declared.Stepped.{Stepped}
 use Rattle.border.specs.Openings.{Opening, opening, openings}
 use Rattle.border.specs.Border.{Stated, Handed, handedBy, Covered}
-use Rattle.border.specs.Step.{Corner, Step}
+use Rattle.border.specs.Step.{handsBy, Corner, Step}
 use Rattle.border.specs.Promises.{Touches, HandedOut, bringing, Enough}
 use Rattle.border.proofs.Stays.{stated-as}
-use Rattle.border.proofs.Fold.{opening-block}
+use Rattle.border.proofs.Fold.{opening-block, handed-opened}
 use Rattle.border.proofs.Hands.{bringing-all}
 use Rattle.border.proofs.Handing.{listed-corner}
 use Rattle.border.proofs.Covering.{brought-handed, covered-is}
 use Rattle.border.proofs.Earlier.{earlier-corner, each-corner}
+use Rattle.border.proofs.Making.{handed-step, stated-step}
 use Rattle.border.proofs.Once.{hands-all}
 use Rattle.border.proofs.Fewest.{fewest}
 
@@ -31,14 +32,18 @@ module _ {m top : ℕ} {keys : List ℕ} (F : Follow m 0 keys) {W : Window} (I :
 
   -- an opened block covers nothing that is not handed out
   pub covered-whole : (bs : List Px) → ((b : Px) → List·Memᴰ b bs → Corner W top b) → {p : Px} → In W p → Covered m top keys W bs p ↔ Handed m keys (handedBy m top keys W bs) p
-  covered-whole bs C v = (λ c. brought-handed (spaced F) I small bs C v (pixel-holder F (pixel-in I v)) (covered-is (spaced F) I small bs C v .0 c), λ h. inl h)
+  covered-whole bs C v = (
+    λ c. brought-handed (spaced F) I small bs C v (pixel-holder F (pixel-in I v)) (covered-is (spaced F) I small bs C v .0 c),
+    λ h. inl (rw (handed-opened m top keys W bs) at h),
+  )
 
-  -- so cells that are stated by the records handed out before a step are so after it
+  -- so cells that are stated by the records handed out before a step are so after it, by those and the ones that the step hands out
   pub stays-whole : {b : Px} {cells border : List ℕ} {answer : Stepped} → Step m top keys W b cells answer border → (before after : List Px) → maximal W top ≡ before ++ b ∷ after
-      → Stated W (Handed m keys (handedBy m top keys W before)) cells → Stated W (Handed m keys (handedBy m top keys W (before ++ b ∷ []))) border
+      → Stated W (Handed m keys (handedBy m top keys W before)) cells → Stated W (Handed m keys (handedBy m top keys W before ++ handsBy answer)) border
   stays-whole {b} S before after split st =
-      stated-as (λ p v. covered-whole (before ++ b ∷ []) (each-corner before b after split) v)
-      (S .stays before after split (stated-as (λ p v. let h = covered-whole before (earlier-corner before b after split) v in (h .1, h .0)) st))
+      let c = stated-as (λ p v. let h = covered-whole before (earlier-corner before b after split) v in (h .1, h .0)) st in
+      rw (← handed-step (spaced F) I small before b after split c (S .is))
+      (stated-as (λ p v. covered-whole (before ++ b ∷ []) (each-corner before b after split) v) (stated-step (spaced F) I small before b after split c S))
 
   -- ---- the openings
 

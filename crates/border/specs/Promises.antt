@@ -11,7 +11,7 @@ use Rattle.window.specs.Window.{Px, In, Inside}
 use Rattle.window.specs.Decompose.{keyOf, keysOf}
 use Rattle.map.specs.Sound.{Follow, SoundMap}
 use Rattle.map.specs.Records.{pixelRecord}
-use Rattle.border.specs.Openings.{met, Opening, opening, openings, handsOut, cellsOf}
+use Rattle.border.specs.Openings.{met, Opening, made, opening, openings, handsOut, cellsOf}
 
 -- what refusals 1 to 7 pass: a sound map, a window inside the picture, and a border of at least w cells. Of m, the keys, the number of classes, the window and the number of cells
 pub record Answerable (m : ℕ) (keys : List ℕ) (classes : ℕ) (W : Window) (cells : ℕ) : Type 0 where
@@ -42,7 +42,7 @@ unfoldable pub openingsIn : List ℕ → List Opening
 openingsIn [] = []
 openingsIn (key ∷ []) = []
 openingsIn (key ∷ first ∷ []) = []
-openingsIn (key ∷ first ∷ count ∷ cells) = record { key = key; first = first; count = count } ∷ openingsIn cells
+openingsIn (key ∷ first ∷ count ∷ cells) = made key first count ∷ openingsIn cells
 
 -- and all that a list of openings does, one opening after another
 unfoldable pub allHands : List Opening → List ℕ

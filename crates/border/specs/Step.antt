@@ -16,8 +16,10 @@ use Rattle.map.specs.Records.{pixelExponent}
 use Rattle.map.specs.Runs.{runOf}
 use Rattle.border.specs.declared.Stepped.{Stepped}
 use Rattle.border.specs.declared.Stepped.the-variants.{Skipped, Opened}
-use Rattle.border.specs.Border.{Stated, Covered}
+use Rattle.border.specs.Openings.{Opening, made}
+use Rattle.border.specs.Border.{Stated, CoveredBy, openedBy}
 use Rattle.border.specs.Cells.{raised, closed}
+use Rattle.border.specs.Promises.{allHands}
 
 -- of the block with corner b and the record of b, by the exponents of records, the exponent of the larger
 abbrev pub reach : Window → ℕ → (ℕ → ℕ → ℕ) → Px → ℕ
@@ -58,9 +60,19 @@ pub record Ready (m top : ℕ) (keys : List ℕ) (W : Window) (b : Px) (i cells 
   pub corner : Corner W top b
   pub size : i ≡ exponent W top b
 
--- what a step promises: for any cells, what it answers and leaves, and when it skips; and cells that are as stated before the step are so after it
+-- what a step has made: an opening, or none
+unfoldable pub madeBy : Stepped → List Opening
+madeBy Skipped = []
+madeBy (Opened key first count far closed) = made key first count ∷ []
+
+-- the records that it hands out: the run of an opened block, or none
+abbrev pub handsBy : Stepped → List ℕ
+handsBy answer = allHands (madeBy answer)
+
+-- what a step promises: for any cells, what it answers and leaves, and when it skips; and cells that are as stated before the step, by the openings made till then, are so after it,
+-- by those and what the step itself has made
 pub record Step (m top : ℕ) (keys : List ℕ) (W : Window) (b : Px) (cells : List ℕ) (answer : Stepped) (border : List ℕ) : Type 0 where
   pub is : afterStep answer border ≡ stepOf m top keys W b cells
   pub skips : (answer ≡ Skipped) ↔ (b .0 < getD cells (b .1 - W .c0) 0)
   pub stays : (before after : List Px) → maximal W top ≡ before ++ b ∷ after
-      → Stated W (Covered m top keys W before) cells → Stated W (Covered m top keys W (before ++ b ∷ [])) border
+      → Stated W (CoveredBy m keys (openedBy m top keys W before)) cells → Stated W (CoveredBy m keys (openedBy m top keys W before ++ madeBy answer)) border

@@ -22,8 +22,7 @@ use Rattle.map.specs.Spans as spans
 use Rattle.map.specs.Check.{late, rowsFrom, mapRows, checkOf}
 use Rattle.map.specs.Records.{recordOf, exponentOf}
 use Rattle.map.specs.Runs.{runOf}
-use Rattle.border.specs.Openings.{indices, within, isHanded, opening, openFrom, openings, handsOut}
-use Rattle.border.specs.Found.{made}
+use Rattle.border.specs.Openings.{indices, within, isHanded, made, opening, openFrom, openings, handsOut}
 use Rattle.border.specs.Open.{useRows, spent, after, usedFor}
 use Rattle.query.specs.declared.Queried.the-variants.{Done}
 use Rattle.query.specs.Classes.{hasClass, total, totals}

@@ -11,10 +11,10 @@ use Rattle.window.specs.declared.Window.{Window}
 use Rattle.map.specs.Sound.{Follow}
 use Rattle.border.specs.declared.Walk.{Walk}
 use Rattle.border.specs.declared.Found.the-variants as found
-use Rattle.border.specs.Openings.{Opening}
+use Rattle.border.specs.Openings.{Opening, made}
 use Rattle.border.specs.Promises.{allHands}
 use Rattle.border.specs.Step.{Usable}
-use Rattle.border.specs.Found.{made, madeFrom, walk, spot, Finds}
+use Rattle.border.specs.Found.{madeFrom, walk, spot, Finds}
 use Rattle.border.proofs.Laws.{hands-none, hands-one, hands-append, records-once}
 use Rattle.border.proofs.Finding.{Finding, finding-next, finding-last, finds-opens, finds-exponent}
 use Rattle.query.specs.Classes.{totals}

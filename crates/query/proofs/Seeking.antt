@@ -10,11 +10,11 @@ use Rattle.lists.proofs.Laws.{any-none, any-next}
 use Rattle.window.specs.declared.Window.{Window}
 use Rattle.border.specs.declared.Walk.{Walk}
 use Rattle.border.specs.declared.Found.the-variants as found
-use Rattle.border.specs.Openings.{Opening, openings}
+use Rattle.border.specs.Openings.{Opening, made, openings}
 use Rattle.border.specs.Promises.{allHands}
 use Rattle.map.specs.Sound.{Follow}
 use Rattle.border.specs.Step.{Usable}
-use Rattle.border.specs.Found.{made, madeFrom, walk, spot, Finds}
+use Rattle.border.specs.Found.{madeFrom, walk, spot, Finds}
 use Rattle.border.proofs.Finding.{Finding, finding-next, finding-last}
 use Rattle.query.specs.Classes.{classed, exists}
 use Rattle.query.proofs.Found.{exists-hands, any-no-opening, any-opening, opening-any}
