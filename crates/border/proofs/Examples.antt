@@ -3,6 +3,7 @@
 use mathlib.Core.Path.{_≡_, refl}
 use mathlib.Core.List.{List, [], _∷_}
 use Prim.Native.Nat.{ℕ}
+use native.Mathlib.Omega.{arith}
 use lib.ListN.{take}
 use Rattle.lists.specs.Lists.{upFrom, any, keep, before, howMany, greatest}
 use Rattle.answers.specs.Rows.{answer}
@@ -25,8 +26,9 @@ use Rattle.border.specs.declared.Opened.the-variants.{Done, Refused}
 use Rattle.border.specs.Openings.{indices, within, isHanded, made, opening, openFrom, handedAfter, openings, handsOut, cellsOf}
 use Rattle.border.specs.Cells.{filled, raised, closed}
 use Rattle.border.specs.Step.{afterStep, stepOf}
-use Rattle.border.specs.Promises.{bringing}
+use Rattle.border.specs.Promises.{Answerable, openingsIn, bringing}
 use Rattle.border.specs.Open.{useRows, spent, after, usedFor, openOf}
+use Rattle.border.proofs.Use.{use-answerable}
 
 abbrev keys : List ℕ
 keys = 5 ∷ 11 ∷ 12 ∷ 13 ∷ 14 ∷ 15 ∷ 20 ∷ []
@@ -52,6 +54,10 @@ pub record Examples : Type 0 where
   pub narrow : openOf 2 keys 7 W (take 2 old) old ≡ after (Refused 7 3) (take 2 old) old
   pub short : openOf 2 keys 7 W (take 3 old) (take 11 old) ≡ after (Refused 8 12) (3 ∷ 3 ∷ 3 ∷ []) (take 11 old)
   pub done : openOf 2 keys 7 W (take 4 old) old ≡ after (Done 4 7) (3 ∷ 3 ∷ 3 ∷ 93 ∷ []) (7 ∷ 0 ∷ 1 ∷ 10 ∷ 1 ∷ 4 ∷ 17 ∷ 5 ∷ 1 ∷ 21 ∷ 6 ∷ 1 ∷ 102 ∷ [])
+  -- the openings that stand in those cells; and three border cells are enough, two are not
+  pub in-cells : openingsIn (7 ∷ 0 ∷ 1 ∷ 10 ∷ 1 ∷ 4 ∷ 17 ∷ 5 ∷ 1 ∷ 21 ∷ 6 ∷ 1 ∷ []) ≡ openings 2 2 keys W
+  pub answerable : Answerable 2 keys 7 W 3
+  pub not-answerable : Answerable 2 keys 7 W 2 → ⊥
   -- a map with gaps, of the records 11 and 20 alone: blocks 7, 9 and 17 meet no record and are opened empty, and block 22 lies in record 1
   pub gaps : openings 2 2 gapped W ≡ made 7 0 0 ∷ made 10 0 1 ∷ made 9 0 0 ∷ made 17 0 0 ∷ made 21 1 1 ∷ []
   -- two of them bring a record
@@ -69,7 +75,7 @@ pub examples : Examples
 unfolding answer wrongCount sizeRows overwrite upFrom spreadTo spread place pixelKey blockKey from formOf beyond outside windowRows keep floor lies
     fits greatest exponent corner across rows isCorner maximal keyOf keysOf spans.malformed spans.exponent spans.start spans.end spans.holds
     spans.overlap late rowsFrom mapRows before howMany recordOf exponentOf runOf any indices within isHanded opening openFrom handedAfter openings
-    handsOut cellsOf bringing filled raised closed stepOf useRows spent usedFor openOf
+    handsOut cellsOf openingsIn bringing filled raised closed stepOf useRows spent usedFor openOf
 examples = record {
   single = refl;
   step-7 = refl;
@@ -78,6 +84,9 @@ examples = record {
   narrow = refl;
   short = refl;
   done = refl;
+  in-cells = refl;
+  answerable = use-answerable 2 keys 7 W 3 .0 refl;
+  not-answerable = λ A. omega (arith, A .wide);
   gaps = refl;
   two = refl;
   step-none = refl;

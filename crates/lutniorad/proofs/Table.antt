@@ -32,17 +32,17 @@ use Rattle.numbers.specs.Numbers.{bytes, bytesOf}
 use Rattle.house.specs.File.{header, fileOf}
 
 -- P1's map, of m = 2, and its window
-abbrev keys : List ℕ
+abbrev pub keys : List ℕ
 keys = 5 ∷ 11 ∷ 12 ∷ 13 ∷ 14 ∷ 15 ∷ 20 ∷ []
 
-abbrev classes : List ℕ
+abbrev pub classes : List ℕ
 classes = 1 ∷ 2 ∷ 2 ∷ 3 ∷ 1 ∷ 1 ∷ 2 ∷ []
 
-abbrev W : Window
+abbrev pub W : Window
 W = window 0 1 3 3
 
 -- old contents
-abbrev old : ℕ → List ℕ
+abbrev pub old : ℕ → List ℕ
 old n = replicate n 99
 
 pub record Table : Type 0 where
