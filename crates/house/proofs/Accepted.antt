@@ -77,13 +77,28 @@ module _ (file keys classes : List ℕ) where
       let none : verdict rows ≡ verdict-of.Passed → ⊥ = λ e. held (read-passed file (length keys) (length classes) .0 e) in
       (answer-kept (λ (x : AfterRead). x .keys) refuse rows _ (λ n p. refl) none, answer-kept (λ (x : AfterRead). x .classes) refuse rows _ (λ n p. refl) none)
 
-  -- and an answer tells that it was readable
-  pub read-accepted : {m q : ℕ} {keys′ classes′ : List ℕ} → readOf file keys classes ≡ afterRead (reading.Read m q) keys′ classes′ → Readable file (length keys) (length classes)
-  unfolding readOf
-  read-accepted {m} {q} e =
-      read-passed file (length keys) (length classes) .0
-      (accepted (λ (n p : ℕ). afterRead (reading.Refused n p) keys classes) (readRows file (length keys) (length classes)) _
-      (λ n p f. let g : reading.Refused n p ≡ reading.Read m q = ap (λ (x : AfterRead). x .answer) f in let z : _≡_ {A = ℕ} 0 1 = cc in omega arith) e .0)
+-- what an answer of reading tells
+pub record Taken (file keys classes : List ℕ) (m q : ℕ) (keys′ classes′ : List ℕ) : Type 0 where
+  pub readable : Readable file (length keys) (length classes)
+  pub m-is : fileM file ≡ m
+  pub q-is : fileQ file ≡ q
+  pub keys-are : overwrite (fileKeys file) keys ≡ keys′
+  pub classes-are : overwrite (fileClasses file) classes ≡ classes′
+
+pub read-accepted : (file keys classes : List ℕ) {m q : ℕ} {keys′ classes′ : List ℕ} → readOf file keys classes ≡ afterRead (reading.Read m q) keys′ classes′
+    → Taken file keys classes m q keys′ classes′
+unfolding readOf
+read-accepted file keys classes {m} {q} e =
+    let a = accepted (λ (n p : ℕ). afterRead (reading.Refused n p) keys classes) (readRows file (length keys) (length classes)) _
+    (λ n p f. let g : reading.Refused n p ≡ reading.Read m q = ap (λ (x : AfterRead). x .answer) f in let z : _≡_ {A = ℕ} 0 1 = cc in omega arith) e in
+    let done : reading.Read (fileM file) (fileQ file) ≡ reading.Read m q = ap (λ (x : AfterRead). x .answer) (a .1) in
+    record {
+      readable = read-passed file (length keys) (length classes) .0 (a .0);
+      m-is = cc;
+      q-is = cc;
+      keys-are = ap (λ (x : AfterRead). x .keys) (a .1);
+      classes-are = ap (λ (x : AfterRead). x .classes) (a .1);
+    }
 
 -- ---- writing
 
@@ -124,11 +139,21 @@ module _ (m : ℕ) (keys classes out : List ℕ) where
       answer-kept (λ (x : AfterWrite). x .out) (λ n p. afterWrite (writing.Refused n p) out) rows _ (λ n p. refl)
       (λ e. held (write-passed m (length keys) (length classes) (length out) .0 e))
 
-  -- and an answer tells that there was room
-  pub write-accepted : {n : ℕ} {out′ : List ℕ} → writeOf m keys classes out ≡ afterWrite (writing.Written n) out′
-      → Sized m (length keys) (length classes) × (20 + 5 * length keys ≤ length out)
-  unfolding writeOf
-  write-accepted {n} e =
-      write-passed m (length keys) (length classes) (length out) .0
-      (accepted (λ (k p : ℕ). afterWrite (writing.Refused k p) out) (writeRows m (length keys) (length classes) (length out)) _
-      (λ k p f. let g : writing.Refused k p ≡ writing.Written n = ap (λ (x : AfterWrite). x .answer) f in let z : _≡_ {A = ℕ} 0 1 = cc in omega arith) e .0)
+-- what an answer of writing tells
+pub record Given (m : ℕ) (keys classes out : List ℕ) (n : ℕ) (out′ : List ℕ) : Type 0 where
+  pub size : Sized m (length keys) (length classes)
+  pub n-is : 20 + 5 * length keys ≡ n
+  pub out-is : overwrite (fileOf m keys classes) out ≡ out′
+
+pub write-accepted : (m : ℕ) (keys classes out : List ℕ) {n : ℕ} {out′ : List ℕ} → writeOf m keys classes out ≡ afterWrite (writing.Written n) out′
+    → Given m keys classes out n out′
+unfolding writeOf
+write-accepted m keys classes out {n} e =
+    let a = accepted (λ (k p : ℕ). afterWrite (writing.Refused k p) out) (writeRows m (length keys) (length classes) (length out)) _
+    (λ k p f. let g : writing.Refused k p ≡ writing.Written n = ap (λ (x : AfterWrite). x .answer) f in let z : _≡_ {A = ℕ} 0 1 = cc in omega arith) e in
+    let done : writing.Written (20 + 5 * length keys) ≡ writing.Written n = ap (λ (x : AfterWrite). x .answer) (a .1) in
+    record {
+      size = write-passed m (length keys) (length classes) (length out) .0 (a .0) .0;
+      n-is = cc;
+      out-is = ap (λ (x : AfterWrite). x .out) (a .1);
+    }
