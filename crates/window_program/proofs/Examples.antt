@@ -1,8 +1,9 @@
--- P1's text, computed from the definitions. Its map has m = 2 and the keys 5, 11, 12, 13, 14, 15, 20; its window is 0 1 3 3.
+-- P1's text, computed from the definitions. Its map has m = 2 and the keys 5, 11, 12, 13, 14, 15, 20; its window is 0 1 3 3. And what is refused outside a window.
 -- Assumes nothing.
 use mathlib.Core.Path.{_≡_, refl}
 use mathlib.Core.List.{List, [], _∷_, _++_}
 use Prim.Native.Nat.{ℕ}
+use lib.ListN.{take}
 use Rattle.lists.specs.Lists.{upFrom, any, keep, before, howMany, greatest}
 use Rattle.answers.specs.Rows.{answer}
 use Rattle.answers.specs.Sizes.{wrongCount, sizeRows}
@@ -19,15 +20,24 @@ use Rattle.map.specs.Records.{recordOf, exponentOf}
 use Rattle.map.specs.Runs.{runOf}
 use Rattle.border.specs.Openings.{indices, within, isHanded, opening, openFrom, openings, handsOut, cellsOf}
 use Rattle.border.specs.Open.{useRows}
+use Rattle.numbers.specs.Numbers.{bytes, number, bytesOf, numbers}
+use Rattle.house.specs.File.{header, fileOf, layoutRows, fileM, fileQ, readRows, fileKeys, fileClasses}
 use Rattle.query.specs.Classes.{hasClass, total, totals}
 use Rattle.text.specs.Text.{digits, digitsOf, spaced, lineOf}
-use Rattle.window_program.specs.Text.{windowOf, openingLines, classLine, classLines, foundLines, foundBy, resultOf, answerOf}
+use Rattle.window_program.specs.Text.{windowOf, openingLines, classLine, classLines, foundLines, foundBy, resultOf, answerOf, leftText, mapText, startRows, startText, announcedOf}
 
 abbrev keys : List ℕ
 keys = 5 ∷ 11 ∷ 12 ∷ 13 ∷ 14 ∷ 15 ∷ 20 ∷ []
 
 abbrev classes : List ℕ
 classes = 1 ∷ 2 ∷ 2 ∷ 3 ∷ 1 ∷ 1 ∷ 2 ∷ []
+
+abbrev file : List ℕ
+file = fileOf 2 keys classes
+
+-- P9: the last record removed
+abbrev file-9 : List ℕ
+file-9 = fileOf 2 (take 6 keys) (take 6 classes)
 
 -- W 0 1 3 3, four openings, three classes, T 4 7 9
 abbrev p1-text : List ℕ
@@ -46,10 +56,31 @@ pub record Examples : Type 0 where
   pub p1-window : windowOf (0 ∷ 0 ∷ 1 ∷ 0 ∷ 3 ∷ 0 ∷ 3 ∷ 0 ∷ []) ≡ window 0 1 3 3
   pub p1 : answerOf 2 keys classes (window 0 1 3 3) ≡ p1-text
   pub p12 : answerOf 2 keys classes (window 2 0 3 1) ≡ lineOf 87 (2 ∷ 0 ∷ 3 ∷ 1 ∷ []) ++ lineOf 82 (6 ∷ 0 ∷ [])
+  pub p1-start : startText file ≡ []
+  pub p9-start : startText file-9 ≡ lineOf 82 (5 ∷ 6 ∷ [])
+  pub p9-map : mapText 2 (take 6 keys) (take 6 classes) ≡ lineOf 82 (5 ∷ 6 ∷ [])
+  pub no-file : startText [] ≡ lineOf 82 (9 ∷ 0 ∷ [])
+  pub none-left : leftText 0 ≡ []
+  pub three-left : leftText 3 ≡ lineOf 82 (10 ∷ 3 ∷ [])
+  pub p1-length : announcedOf file ≡ 55
+  pub no-room : announcedOf (take 54 file) ≡ 0
 
 pub examples : Examples
 unfolding answer wrongCount sizeRows upFrom spreadTo spread place pixelKey blockKey from formOf beyond outside windowRows keep floor lies fits
     greatest exponent corner across rows isCorner maximal keyOf keysOf spans.malformed spans.exponent spans.start spans.end spans.holds spans.overlap late
     rowsFrom mapRows before howMany recordOf exponentOf runOf any indices within isHanded opening openFrom openings handsOut cellsOf useRows hasClass
     total totals digits digitsOf spaced lineOf openingLines classLine classLines foundLines foundBy resultOf answerOf
-examples = record { p1-window = refl; p1 = refl; p12 = refl }
+    bytes number bytesOf numbers header fileOf layoutRows fileM fileQ readRows fileKeys fileClasses leftText mapText startRows startText announcedOf
+examples = record {
+  p1-window = refl;
+  p1 = refl;
+  p12 = refl;
+  p1-start = refl;
+  p9-start = refl;
+  p9-map = refl;
+  no-file = refl;
+  none-left = refl;
+  three-left = refl;
+  p1-length = refl;
+  no-room = refl;
+}

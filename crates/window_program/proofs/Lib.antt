@@ -1,3 +1,5 @@
 mod Lines
 mod Results
+pub mod Laws
+mod Steps
 mod Examples

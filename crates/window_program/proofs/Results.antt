@@ -10,10 +10,6 @@ use Rattle.answers.specs.declared.Verdict.{Verdict}
 use Rattle.answers.specs.declared.Verdict.the-variants.{Passed, Refused}
 use Rattle.answers.specs.Rows.{verdict}
 use Rattle.answers.proofs.Laws.{on-passed, on-refused}
-use Rattle.house.specs.declared.Reading.{Reading}
-use Rattle.house.specs.declared.Reading.the-variants as reading
-use Rattle.house.specs.File.{afterRead, readOf}
-use Rattle.house.proofs.Laws.{read-room}
 use Rattle.window.specs.declared.Window.{Window}
 use Rattle.border.specs.Openings.{openings, handsOut, cellsOf}
 use Rattle.border.specs.declared.Opened.{Opened}
@@ -99,8 +95,3 @@ module _ (m : ℕ) (keys : List ℕ) (classes : ℕ) (W : Window) (border out : 
     pub open-found : (totals : List ℕ) (pixels : ℕ) → foundLines (take (3 * count) out′) totals count records pixels ≡ foundBy m keys W totals pixels
     unfolding foundBy
     open-found totals pixels = rw (T .list, T .many, T .records-are)
-
--- reading fills no more cells than there are
-pub read-fits : (file keys classes : List ℕ) {r : Reading} {keys′ classes′ : List ℕ} {m q : ℕ} → afterRead r keys′ classes′ ≡ readOf file keys classes → r ≡ reading.Read m q
-    → (q ≤ length keys) × (q ≤ length classes)
-read-fits file keys classes {keys′ = keys′} {classes′ = classes′} e d = read-room file keys classes (sym e ∙ ap (λ (x : Reading). afterRead x keys′ classes′) d)

@@ -1,19 +1,24 @@
--- What the window program reads as a window, and what it prints for one.
+-- What the window program reads, and what it prints.
 -- Assumes nothing.
 use mathlib.Core.Path.{_≡_}
-use mathlib.Core.Bool.{cond}
+use mathlib.Core.Bool.{cond, _||_}
 use mathlib.Core.List.{List, [], _∷_, _++_}
 use Prim.Native.Nat.{ℕ, _+_, _*_, _≤_}
-use lib.Dec.{eqb}
-use lib.ListN.{length, getD}
+use lib.Dec.{eqb, ltb}
+use lib.ListN.{length, take, getD}
+use Rattle.io.specs.Counts.{Counts}
 use Rattle.answers.specs.declared.Verdict.the-variants.{Passed}
-use Rattle.answers.specs.Rows.{answer, verdict}
+use Rattle.answers.specs.Rows.{Row, row, answer, verdict}
 use Rattle.window.specs.declared.Window.{Window}
 use Rattle.window.specs.Window.{window}
+use Rattle.map.specs.Check.{mapRows}
 use Rattle.border.specs.Openings.{openings, handsOut, cellsOf}
 use Rattle.border.specs.Open.{useRows}
+use Rattle.numbers.specs.Numbers.{number}
+use Rattle.house.specs.File.{fileM, fileKeys, fileClasses, Holds, readRows}
 use Rattle.query.specs.Classes.{totals}
-use Rattle.text.specs.Text.{lineOf}
+use Rattle.text.specs.Text.{lineOf, afterPut, putOf}
+use Rattle.window_program.specs.declared.Begun.{Begun}
 
 -- the number of the two bytes from place i on, the lesser first
 abbrev pub short : List ℕ → ℕ → ℕ
@@ -67,3 +72,46 @@ answerOf m keys classes W = windowLine W ++ resultOf m keys classes W
 pub record Opens (m : ℕ) (keys classes : List ℕ) (W : Window) (border : ℕ) : Type 0 where
   pub passed : verdict (useRows m keys (length classes) W border) ≡ Passed
   pub few : length keys ≤ 1000
+
+-- ---- where a window should begin
+
+-- of refusals in their order: the line of the first that holds, or nothing
+abbrev pub refusedText : List Row → List ℕ
+refusedText rows = answer refusalLine rows []
+
+-- refusal 10: so many bytes are left over
+unfoldable pub leftText : ℕ → List ℕ
+leftText got = refusedText (row (ltb 0 got) 10 got ∷ [])
+
+-- what is printed when so many of eight bytes are there: all are a window, and fewer are left over
+unfoldable pub nextText : ℕ → List ℕ → List ℕ → ℕ → List ℕ → List ℕ
+nextText m keys classes got bytes = cond (ltb got 8) (leftText got) (answerOf m keys classes (windowOf bytes))
+
+-- ---- before the first window
+
+-- what is printed for a map
+unfoldable pub mapText : ℕ → List ℕ → List ℕ → List ℕ
+mapText m keys classes = refusedText (mapRows m keys (length classes))
+
+-- a file is read into 1,000 cells each, and then its map is looked at
+unfoldable pub startRows : List ℕ → List Row
+startRows file = readRows file 1000 1000 ++ mapRows (fileM file) (fileKeys file) (length (fileClasses file))
+
+-- what is printed for a file
+unfoldable pub startText : List ℕ → List ℕ
+startText file = refusedText (startRows file)
+
+-- what is printed was put, and where that is nothing, the first cells are the map that the file holds
+pub record Begins (file : List ℕ) (b : Begun) (keys classes out out′ : List ℕ) : Type 0 where
+  pub text : afterPut (b .said) out′ ≡ putOf (startText file) out
+  pub few : b .count ≤ 1000
+  pub map : startText file ≡ [] → Holds file (b .m) (take (b .count) keys) (take (b .count) classes)
+
+-- how long a file is, by its first four bytes; 0 where no file is so short, or there is no room for it
+unfoldable pub announcedOf : List ℕ → ℕ
+announcedOf file = cond (ltb (number 4 file) 4 || ltb (length file) (number 4 file)) 0 (number 4 file)
+
+-- what was received: nothing, or as many bytes as the first four say
+pub record Received (n : ℕ) (file : List ℕ) : Type 0 where
+  pub counts : Counts n file
+  pub announced : (n ≡ 0 → ⊥) → n ≡ announcedOf file

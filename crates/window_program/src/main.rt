@@ -1,5 +1,5 @@
 // The window program: it reads a house file and then windows from standard input, and prints for each window what was found.
-// What is printed is put into bytes first, by functions whose contracts say which bytes. Which bytes are read and written no contract can say.
+// What is printed is put into bytes first, by functions whose contracts say which bytes. Which bytes are handed over, and what is written when, no contract can say.
 use answers::Verdict;
 use border::Opened;
 use house::Reading;
@@ -10,9 +10,17 @@ use window::Window;
 ghost use mathlib.Core.Path.{_≡_};
 ghost use Prim.Native.Nat.{_+_, _*_, _≤_};
 ghost use lib.ListN.{length};
-ghost use Rattle.io.specs.Counts.{Counts};
+ghost use Rattle.map.specs.Sound.{SoundMap};
 ghost use Rattle.text.specs.Text.{afterPut, putOf};
 ghost use Rattle.window_program.specs.Text.{windowOf, windowLine, refusalLine, openingLines, classLine, classLines, foundLines, foundBy, resultOf, answerOf, Opens};
+ghost use Rattle.window_program.specs.Text.{leftText, nextText, mapText, Begins, announcedOf, Received};
+
+// How the program begins: m and the number of records of the file's map, and how many bytes were put. Where any were, they say a refusal, and there is no map.
+pub struct Begun {
+    pub m: u32,
+    pub count: u32,
+    pub said: usize,
+}
 
 fn put_refusal(number: u32, place: u32, out: &mut [u8]) -> usize
     ensures { λ r. ⌜ afterPut r (now (out .exit)) ≡ putOf (refusalLine number place) (now (out .entry)) ⌝ }
@@ -163,29 +171,90 @@ fn window_of(bytes: &[u8; 8]) -> Window
     }
 }
 
-// The number of the first four bytes.
-fn length_field(file: &[u8]) -> u32
-    requires { ⌜ 4 ≤ length (now file) ⌝ }
+// What is printed for bytes that are left over where a window should begin.
+fn put_left(got: u32, out: &mut [u8]) -> usize
+    ensures { λ r. ⌜ afterPut r (now (out .exit)) ≡ putOf (leftText got) (now (out .entry)) ⌝ }
 {
-    let mut field = [0u32; 1];
-    numbers::get_all(file, &mut field);
-    field[0]
-}
-
-// Reads a file into the first bytes of `file`, and answers how long it is, which its first four bytes say.
-// Where there is no room for it, or the input ends inside it, the answer is 0: no file is so short.
-fn receive(file: &mut [u8]) -> usize
-    requires { ⌜ 4 ≤ length (now file) ⌝ }
-    ensures { λ r. ⌜ Counts r (now (file .exit)) ⌝ }
-{
-    if io::read_full(STDIN_FILENO, &mut file[..4]) < 4 {
+    if got == 0 {
         return 0;
     }
-    let length = length_field(file) as usize;
+    put_refusal(10, got, out)
+}
+
+// What is printed where a window should begin, and so many bytes of one were read.
+fn put_next(
+    m: u32,
+    keys: &[u32],
+    classes: &[u8],
+    bytes: &[u8; 8],
+    got: usize,
+    out: &mut [u8],
+) -> usize
+    requires { ⌜ (length (now keys) ≤ 1000) × (42225 ≤ length (now out)) ⌝ }
+    ensures { λ r. ⌜ afterPut r (now (out .exit)) ≡ putOf (nextText m (now (keys .entry)) (now (classes .entry)) got (now (bytes .entry))) (now (out .entry)) ⌝ }
+{
+    if got < 8 {
+        return put_left(got as u32, out);
+    }
+    put_answer(m, keys, classes, window_of(bytes), out)
+}
+
+// What is printed for a map before the first window: a refusal, or nothing.
+fn put_map(m: u32, keys: &[u32], classes: &[u8], out: &mut [u8]) -> usize
+    ensures { λ r. ⌜ afterPut r (now (out .exit)) ≡ putOf (mapText m (now (keys .entry)) (now (classes .entry))) (now (out .entry)) ⌝ }
+{
+    let sound = map::sound(m, keys, classes);
+    let Verdict::Refused { number, place } = sound else {
+        return 0;
+    };
+    put_refusal(number, place, out)
+}
+
+// Reads a file and looks at its map. What is printed for them is put: a refusal, or nothing.
+fn put_start(file: &[u8], keys: &mut [u32], classes: &mut [u8], out: &mut [u8]) -> Begun
+    requires { ⌜ (length (now keys) ≡ 1000) × (length (now classes) ≡ 1000) ⌝ }
+    ensures { λ r. ⌜ Begins (now (file .entry)) r (now (keys .exit)) (now (classes .exit)) (now (out .entry)) (now (out .exit)) ⌝ }
+{
+    let reading = house::read(file, keys, classes);
+    match reading {
+        Reading::Refused { number, place } => Begun {
+            m: 0,
+            count: 0,
+            said: put_refusal(number, place, out),
+        },
+        Reading::Read { m, count } => {
+            let q = count as usize;
+            let said = put_map(m, &keys[..q], &classes[..q], out);
+            Begun { m, count, said }
+        }
+    }
+}
+
+// How long the file is whose first bytes these are, which the first four say. Where there is no room for it, the answer is 0: no file is so short.
+fn announced(file: &[u8]) -> usize
+    requires { ⌜ 4 ≤ length (now file) ⌝ }
+    ensures { λ r. ⌜ r ≡ announcedOf (now (file .entry)) ⌝ }
+{
+    let length = numbers::get(file) as usize;
     if length < 4 {
         return 0;
     }
     if file.len() < length {
+        return 0;
+    }
+    length
+}
+
+// Reads a file into the first bytes of `file`, and answers how long it is. Where there is no room for it, or the input ends inside it, the answer is 0.
+fn receive(file: &mut [u8]) -> usize
+    requires { ⌜ 4 ≤ length (now file) ⌝ }
+    ensures { λ r. ⌜ Received r (now (file .exit)) ⌝ }
+{
+    if io::read_full(STDIN_FILENO, &mut file[..4]) < 4 {
+        return 0;
+    }
+    let length = announced(file);
+    if length == 0 {
         return 0;
     }
     if io::read_full(STDIN_FILENO, &mut file[4..length]) < length - 4 {
@@ -194,11 +263,8 @@ fn receive(file: &mut [u8]) -> usize
     length
 }
 
-// Prints a refusal.
-fn refuse(number: u32, place: u32) {
-    let mut line = [0u8; 24];
-    let n = put_refusal(number, place, &mut line);
-    io::write_all(STDOUT_FILENO, &line[..n]);
+fn print(text: &[u8]) {
+    io::write_all(STDOUT_FILENO, text);
 }
 
 // Reads one window and prints its answer. False at the end of the input, where bytes may be left over.
@@ -207,28 +273,16 @@ fn answer_next(m: u32, keys: &[u32], classes: &[u8]) -> bool
 {
     let mut bytes = [0u8; 8];
     let got = io::read_full(STDIN_FILENO, &mut bytes);
-    if got == 0 {
-        return false;
-    }
-    if got < 8 {
-        refuse(10, got as u32);
-        return false;
-    }
     let mut text = [0u8; 42225];
-    let n = put_answer(m, keys, classes, window_of(&bytes), &mut text);
-    io::write_all(STDOUT_FILENO, &text[..n]);
-    true
+    let n = put_next(m, keys, classes, &bytes, got, &mut text);
+    print(&text[..n]);
+    got == 8
 }
 
-// Checks the map, and then answers window after window. A proved loop ends: no input has so many windows as are counted here.
+// Answers window after window, on a map that was looked at before. A proved loop ends: no input has so many windows as are counted here.
 fn answer_all(m: u32, keys: &[u32], classes: &[u8])
-    requires { ⌜ length (now keys) ≤ 1000 ⌝ }
+    requires { ⌜ (length (now keys) ≤ 1000) × SoundMap m (now keys) (length (now classes)) ⌝ }
 {
-    let sound = map::sound(m, keys, classes);
-    if let Verdict::Refused { number, place } = sound {
-        refuse(number, place);
-        return;
-    }
     let mut left = u64::MAX;
     while left > 0 && answer_next(m, keys, classes) {
         left -= 1;
@@ -240,12 +294,12 @@ fn main() {
     let length = receive(&mut file);
     let mut keys = [0u32; 1000];
     let mut classes = [0u8; 1000];
-    let reading = house::read(&file[..length], &mut keys, &mut classes);
-    match reading {
-        Reading::Refused { number, place } => refuse(number, place),
-        Reading::Read { m, count } => {
-            let q = count as usize;
-            answer_all(m, &keys[..q], &classes[..q])
-        }
+    let mut line = [0u8; 24];
+    let begun = put_start(&file[..length], &mut keys, &mut classes, &mut line);
+    let said = begun.said;
+    print(&line[..said]);
+    if said == 0 {
+        let q = begun.count as usize;
+        answer_all(begun.m, &keys[..q], &classes[..q]);
     }
 }

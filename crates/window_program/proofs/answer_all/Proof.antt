@@ -10,21 +10,6 @@ Inv-loop m keys classes left₀ left = Unit {0}
 abbrev μ-loop : tie.MeasureT-loop
 μ-loop m keys classes left₀ left = left
 
-sound-requires : tie.Need-sound-requires Inv-loop μ-loop
-sound-requires c κs = search needs
-
-enum-known-sound : tie.Need-enum-known-sound Inv-loop μ-loop
-enum-known-sound c = search needs
-
-refuse-requires : tie.Need-refuse-requires Inv-loop μ-loop
-refuse-requires c κs = search needs
-
-returns : tie.Need-returns Inv-loop μ-loop
-returns c = search needs
-
-enum-told : tie.Need-enum-told Inv-loop μ-loop
-enum-told c = search needs
-
 loop-holds : tie.Need-loop-holds Inv-loop μ-loop
 loop-holds c = search needs
 
@@ -40,11 +25,11 @@ loop-less c = search needs
 loop-again : tie.Need-loop-again Inv-loop μ-loop
 loop-again c = search needs
 
+returns : tie.Need-returns Inv-loop μ-loop
+returns c = search needs
+
 returns-2 : tie.Need-returns-2 Inv-loop μ-loop
 returns-2 c = search needs
-
-returns-3 : tie.Need-returns-3 Inv-loop μ-loop
-returns-3 c = search needs
 
 pub answer-all-spec : {M : Type 1} → statement M
 answer-all-spec =
@@ -52,15 +37,10 @@ answer-all-spec =
     (tie.spec
     Inv-loop
     μ-loop
-    sound-requires
-    enum-known-sound
-    refuse-requires
-    returns
-    enum-told
     loop-holds
     answer-next-requires
     sub-left
     loop-less
     loop-again
-    returns-2
-    returns-3)
+    returns
+    returns-2)

@@ -13,38 +13,23 @@ slice-aggregate-read-full c = search needs
 read-full-requires : tie.Need-read-full-requires
 read-full-requires c κs = search needs
 
-returns : tie.Need-returns
-returns c = search needs
+slice-aggregate-put-next : tie.Need-slice-aggregate-put-next
+slice-aggregate-put-next c = search needs
 
-cast-refuse : tie.Need-cast-refuse
-cast-refuse c = search needs
-
-refuse-requires : tie.Need-refuse-requires
-refuse-requires c κs = search needs
-
-returns-2 : tie.Need-returns-2
-returns-2 c = search needs
-
-window-of-requires : tie.Need-window-of-requires
-window-of-requires c κs = search needs
-
-slice-aggregate-put-answer : tie.Need-slice-aggregate-put-answer
-slice-aggregate-put-answer c = search needs
-
-put-answer-requires : tie.Need-put-answer-requires
-put-answer-requires c κs = search needs
+put-next-requires : tie.Need-put-next-requires
+put-next-requires c κs = search needs
 
 array-share-prefix-text : tie.Need-array-share-prefix-text
-array-share-prefix-text c = put-within _ _ (c .before .put-answer .ensures)
+array-share-prefix-text c = put-within _ _ (c .before .put-next .ensures)
 
-slice-aggregate-write-all : tie.Need-slice-aggregate-write-all
-slice-aggregate-write-all c = simp length-take (omega (arith, put-within _ _ (c .before .before .put-answer .ensures)))
+slice-aggregate-print : tie.Need-slice-aggregate-print
+slice-aggregate-print c = simp length-take (omega (arith, put-within _ _ (c .before .before .put-next .ensures)))
 
-write-all-requires : tie.Need-write-all-requires
-write-all-requires c κs = search needs
+print-requires : tie.Need-print-requires
+print-requires c κs = search needs
 
-returns-3 : tie.Need-returns-3
-returns-3 c = search needs
+returns : tie.Need-returns
+returns c = search needs
 
 pub answer-next-spec : {M : Type 1} → statement M
 answer-next-spec =
@@ -52,14 +37,9 @@ answer-next-spec =
     (tie.spec
     slice-aggregate-read-full
     read-full-requires
-    returns
-    cast-refuse
-    refuse-requires
-    returns-2
-    window-of-requires
-    slice-aggregate-put-answer
-    put-answer-requires
+    slice-aggregate-put-next
+    put-next-requires
     array-share-prefix-text
-    slice-aggregate-write-all
-    write-all-requires
-    returns-3)
+    slice-aggregate-print
+    print-requires
+    returns)

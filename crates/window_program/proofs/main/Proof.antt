@@ -1,22 +1,25 @@
--- `window_program::main` is safe: the file has no more records than there are cells.
+-- `window_program::main` is safe: no more bytes are written than were put, and where none were, windows are answered on a sound map.
 -- Assumes nothing.
 use mathlib.Core.Path.{_≡_, _∙_}
 use Prim.Native.Nat.{ℕ, _≤_}
 use native.Mathlib.Omega.{arith}
 use borrow.Author.Needs.{needs}
 use lib.ListN.{length, length-take, length-replicate}
-use Rattle.window_program.proofs.Results.{read-fits}
+use Rattle.text.proofs.Laws.{put-within}
+use Rattle.window_program.proofs.Steps.{begun-sound}
 use Rattle.window_program.proofs.main.Statement.{statement}
 use Rattle.window_program.proofs.main.Tie as tie
 
--- what was read fits in the two arrays
-room : (c : tie.After-reading2)
-    → (let r = c .before .before .before .before in let q = c .reading2 .given .0 .1 .0 in (q ≤ 1000) × (length (r .read .last .1 .0) ≡ 1000) × (length (r .read .last .1 .1 .0) ≡ 1000))
-room c =
-    let r = c .before .before .before .before in
-    let fits = read-fits _ _ _ (r .read .ensures) (c .reading2 .given .1) in
-    let n = length-replicate {A = ℕ} 1000 0 in
-    (omega (arith, fits .0, n), r .read .kept .1 .0 ∙ n, r .read .kept .1 .1 .0 ∙ n)
+abbrev start : tie.After-struct-known → tie.After-put-start
+start c = c .before .before .before .before .before .before .before
+
+-- what was put, and what was read, fits in the arrays
+put : (c : tie.After-put-start) → c .put-start .result .said ≤ length (c .put-start .last .1 .1 .1 .0)
+put c = put-within _ _ (c .put-start .ensures .text)
+
+room : (c : tie.After-put-start)
+    → (c .put-start .result .count ≤ 1000) × (length (c .put-start .last .1 .0) ≡ 1000) × (length (c .put-start .last .1 .1 .0) ≡ 1000)
+room c = let n = length-replicate {A = ℕ} 1000 0 in (c .put-start .ensures .few, c .put-start .kept .1 .0 ∙ n, c .put-start .kept .1 .1 .0 ∙ n)
 
 slice-aggregate-receive : tie.Need-slice-aggregate-receive
 slice-aggregate-receive c = search needs
@@ -27,44 +30,50 @@ receive-requires c κs = search needs
 array-share-prefix-file : tie.Need-array-share-prefix-file
 array-share-prefix-file c = search needs
 
-slice-aggregate-read : tie.Need-slice-aggregate-read
-slice-aggregate-read c = search needs
+slice-aggregate-put-start : tie.Need-slice-aggregate-put-start
+slice-aggregate-put-start c = search needs
 
-slice-aggregate-read-2 : tie.Need-slice-aggregate-read-2
-slice-aggregate-read-2 c = search needs
+slice-aggregate-put-start-2 : tie.Need-slice-aggregate-put-start-2
+slice-aggregate-put-start-2 c = search needs
 
-slice-aggregate-read-3 : tie.Need-slice-aggregate-read-3
-slice-aggregate-read-3 c = search needs
+slice-aggregate-put-start-3 : tie.Need-slice-aggregate-put-start-3
+slice-aggregate-put-start-3 c = search needs
 
-read-requires : tie.Need-read-requires
-read-requires c κs = search needs
+slice-aggregate-put-start-4 : tie.Need-slice-aggregate-put-start-4
+slice-aggregate-put-start-4 c = search needs
 
-enum-known-reading : tie.Need-enum-known-reading
-enum-known-reading c = search needs
+put-start-requires : tie.Need-put-start-requires
+put-start-requires c κs = search needs
 
-refuse-requires : tie.Need-refuse-requires
-refuse-requires c κs = search needs
+array-share-prefix-line : tie.Need-array-share-prefix-line
+array-share-prefix-line c = put (c .before .before .before)
 
-enum-known-reading-2 : tie.Need-enum-known-reading-2
-enum-known-reading-2 c = search needs
+slice-aggregate-print : tie.Need-slice-aggregate-print
+slice-aggregate-print c = simp length-take (omega (arith, put (c .before .before .before .before)))
+
+print-requires : tie.Need-print-requires
+print-requires c κs = search needs
 
 cast-q : tie.Need-cast-q
 cast-q c = search needs
 
 array-share-prefix-keys : tie.Need-array-share-prefix-keys
-array-share-prefix-keys c = omega (arith, room (c .before))
+array-share-prefix-keys c = search needs
 
 slice-aggregate-answer-all : tie.Need-slice-aggregate-answer-all
-slice-aggregate-answer-all c = simp length-take (omega (arith, room (c .before .before)))
+slice-aggregate-answer-all c = simp length-take (omega (arith, room (start (c .before))))
 
 array-share-prefix-classes : tie.Need-array-share-prefix-classes
-array-share-prefix-classes c = omega (arith, room (c .before .before))
+array-share-prefix-classes c = search needs
 
 slice-aggregate-answer-all-2 : tie.Need-slice-aggregate-answer-all-2
-slice-aggregate-answer-all-2 c = simp length-take (omega (arith, room (c .before .before .before)))
+slice-aggregate-answer-all-2 c = simp length-take (omega (arith, room (start (c .before .before))))
 
 answer-all-requires : tie.Need-answer-all-requires
-answer-all-requires c κs = simp length-take (omega (arith, room (c .before .before .before)))
+answer-all-requires c κs =
+    let k = c .before .before in
+    let s = start k in
+    (simp length-take (omega (arith, room s)), begun-sound (s .put-start .ensures) (omega (arith, length-replicate {A = ℕ} 24 0)) (k .before .if1 .taken))
 
 returns : tie.Need-returns
 returns c = search needs
@@ -79,13 +88,14 @@ main-spec =
     slice-aggregate-receive
     receive-requires
     array-share-prefix-file
-    slice-aggregate-read
-    slice-aggregate-read-2
-    slice-aggregate-read-3
-    read-requires
-    enum-known-reading
-    refuse-requires
-    enum-known-reading-2
+    slice-aggregate-put-start
+    slice-aggregate-put-start-2
+    slice-aggregate-put-start-3
+    slice-aggregate-put-start-4
+    put-start-requires
+    array-share-prefix-line
+    slice-aggregate-print
+    print-requires
     cast-q
     array-share-prefix-keys
     slice-aggregate-answer-all
