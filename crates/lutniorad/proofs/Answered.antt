@@ -10,7 +10,7 @@ use native.Mathlib.Omega.{arith}
 use lib.ListN.{length}
 use Rattle.answers.specs.Rows.{answer}
 use Rattle.answers.specs.Sizes.{Sized}
-use Rattle.answers.proofs.Laws.{answer-part}
+use Rattle.answers.proofs.Laws.{answer-part, on-passed}
 use Rattle.window.specs.declared.Window.{Window}
 use Rattle.window.specs.declared.Decomposed.the-variants as decomposed
 use Rattle.window.specs.Window.{Inside}
@@ -47,6 +47,9 @@ module _ {m : ℕ} {keys classes : List ℕ} {r : Answer} (call : Check m keys c
 
   pub check-answered : (r .refusal ≡ 0) ↔ SoundMap m keys (length classes)
   check-answered = told-when _ refl (numbered-map {most = 5} (omega arith) m keys (length classes)) check-says (sound-map m keys (length classes))
+
+  pub check-promise : r .refusal ≡ 0 → r ≡ values (length keys) 0
+  check-promise z = check-says ∙ on-passed refused _ _ (sound-map m keys (length classes) .1 (check-answered .0 z))
 
 -- ---- decomposing
 

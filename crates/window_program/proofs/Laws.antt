@@ -16,6 +16,8 @@ use Rattle.map.specs.Check.{mapRows}
 use Rattle.map.specs.Sound.{SoundMap}
 use Rattle.map.proofs.Laws.{sound-map}
 use Rattle.house.specs.File.{fileM, fileKeys, fileClasses, readRows}
+use Rattle.house.specs.Promises.{Readable}
+use Rattle.house.proofs.Laws.{read-passed}
 use Rattle.text.proofs.Laws.{line-length, line-most}
 use Rattle.window_program.specs.Text.{refusalLine, refusedText, leftText, mapText, startRows, startText}
 
@@ -47,9 +49,10 @@ pub map-silent : (m : ℕ) (keys classes : List ℕ) → (mapText m keys classes
 unfolding mapText
 map-silent m keys classes = (λ e. sound-map m keys (length classes) .0 (silent _ .0 e), λ s. silent _ .1 (sound-map m keys (length classes) .1 s))
 
-pub start-silent : (file : List ℕ) → (startText file ≡ []) ↔ ((verdict (readRows file 1000 1000) ≡ Passed) × SoundMap (fileM file) (fileKeys file) (length (fileClasses file)))
+pub start-silent : (file : List ℕ) → (startText file ≡ []) ↔ (Readable file 1000 1000 × SoundMap (fileM file) (fileKeys file) (length (fileClasses file)))
 unfolding startText startRows
 start-silent file =
     let both = passed-append (readRows file 1000 1000) (mapRows (fileM file) (fileKeys file) (length (fileClasses file))) in
+    let read = read-passed file 1000 1000 in
     let map = sound-map (fileM file) (fileKeys file) (length (fileClasses file)) in
-    (λ e. let p = both .0 (silent _ .0 e) in (p .0, map .0 (p .1)), λ p. silent _ .1 (both .1 (p .0, map .1 (p .1))))
+    (λ e. let p = both .0 (silent _ .0 e) in (read .0 (p .0), map .0 (p .1)), λ p. silent _ .1 (both .1 (read .1 (p .0), map .1 (p .1))))
