@@ -9,7 +9,7 @@ use native.Mathlib.Omega.{arith}
 use Rattle.answers.specs.declared.Verdict.the-variants.{Passed, Refused}
 use Rattle.answers.specs.Rows.{Row, row, answer, verdict}
 use Rattle.answers.specs.Sizes.{sizeRows}
-use Rattle.answers.proofs.Laws.{refused-not-passed}
+use Rattle.answers.proofs.Tables.{refused-not-passed}
 
 -- each row has a number from 1 to `most`
 pub data Numbered (most : ℕ) : List Row → Type 0 where

@@ -28,7 +28,7 @@ use Rattle.query.proofs.Laws.{select-is, selection-pixels, selection-one, selec
 use Rattle.lutniorad.specs.declared.Answer.{Answer}
 use Rattle.lutniorad.specs.Numbers.{values, refused, ofQueried}
 use Rattle.lutniorad.specs.Calls.{Exist, Report, Select}
-use Rattle.lutniorad.specs.Promises.{RefusalLeaves, Seen, ExistPromise, ReportPromise, SelectPromise}
+use Rattle.lutniorad.specs.Promises.{RefusalLeaves, SomePixel, ExistPromise, ReportPromise, SelectPromise}
 use Rattle.lutniorad.proofs.Answered.{sayExists, exist-says, exist-answered}
 use Rattle.lutniorad.proofs.Using.{used-crossed, used-says, used-numbered, used-answered, used-leaves, used-refused}
 
@@ -45,14 +45,14 @@ module _ {m : ℕ} {keys classes : List ℕ} {W : Window} {class : ℕ} {border 
       let two = go (exists m keys classes W class) refl means (exist-says call ∙ on-passed refused _ _ passed) in
       record { yes = two .0; no = two .1; border-after = call .border-after ∙ exist-leaves m keys classes W class border passed }
     where
-      go : (b : Bool) → exists m keys classes W class ≡ b → (exists m keys classes W class ≡ true) ↔ Seen m keys classes W class → r ≡ sayExists m keys classes W class
-          → ((r ≡ values 1 0) ↔ Seen m keys classes W class) × ((r ≡ values 0 0) ↔ (¬ Seen m keys classes W class))
+      go : (b : Bool) → exists m keys classes W class ≡ b → (exists m keys classes W class ≡ true) ↔ SomePixel m keys classes W class → r ≡ sayExists m keys classes W class
+          → ((r ≡ values 1 0) ↔ SomePixel m keys classes W class) × ((r ≡ values 0 0) ↔ (¬ SomePixel m keys classes W class))
       go true e means d =
           let one : r ≡ values 1 0 = rw e at d in
           ((λ h. means .0 e, λ s. one), (λ h. absurd (one-not-zero (sym one ∙ h)), λ n. absurd (n (means .0 e))))
       go false e means d =
           let zero : r ≡ values 0 0 = rw e at d in
-          let none : ¬ Seen m keys classes W class = λ s. never (sym (means .1 s) ∙ e) in
+          let none : ¬ SomePixel m keys classes W class = λ s. never (sym (means .1 s) ∙ e) in
           ((λ h. absurd (one-not-zero (sym h ∙ zero)), λ s. absurd (none s)), (λ h. none, λ n. zero))
 
 -- ---- report

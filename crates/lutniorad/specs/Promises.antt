@@ -61,13 +61,13 @@ abbrev pub classAt : ℕ → List ℕ → List ℕ → Px → ℕ
 classAt m keys classes p = getD classes (pixelRecord m keys (p .0) (p .1)) 0
 
 -- some pixel of the window has the class
-abbrev pub Seen : ℕ → List ℕ → List ℕ → Window → ℕ → Type 0
-Seen m keys classes W class = (p : Px) × In W p × (classAt m keys classes p ≡ class)
+abbrev pub SomePixel : ℕ → List ℕ → List ℕ → Window → ℕ → Type 0
+SomePixel m keys classes W class = (p : Px) × In W p × (classAt m keys classes p ≡ class)
 
 -- exist: `first` is 1 exactly when some pixel of the window has the class, and 0 exactly when none has
 pub record ExistPromise (m : ℕ) (keys classes : List ℕ) (W : Window) (class : ℕ) (border : List ℕ) (r : Answer) (border′ : List ℕ) : Type 0 where
-  pub yes : (r ≡ values 1 0) ↔ Seen m keys classes W class
-  pub no : (r ≡ values 0 0) ↔ (¬ Seen m keys classes W class)
+  pub yes : (r ≡ values 1 0) ↔ SomePixel m keys classes W class
+  pub no : (r ≡ values 0 0) ↔ (¬ SomePixel m keys classes W class)
   pub border-after : border′ ≡ spent W border
 
 -- report: `first` is h times w, and cell k is the number of the window's pixels of class k, for all 256 of them; together they are the window's pixels, as classes are bytes.

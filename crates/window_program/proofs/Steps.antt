@@ -18,11 +18,11 @@ use Rattle.numbers.specs.Numbers.{number}
 use Rattle.numbers.proofs.Laws.{number-take}
 use Rattle.house.specs.declared.Reading.{Reading}
 use Rattle.house.specs.declared.Reading.the-variants as reading
-use Rattle.house.specs.File.{fileM, fileQ, fileKeys, fileClasses, Holds, readRows, AfterRead, afterRead, readOf}
+use Rattle.house.specs.File.{fileM, fileQ, fileKeys, fileClasses, FileMap, readRows, AfterRead, afterRead, readOf}
 use Rattle.house.proofs.Laws.{read-room, read-holds, read-by-lengths}
 use Rattle.text.proofs.Laws.{put-there}
 use Rattle.window_program.specs.declared.Begun.{Begun}
-use Rattle.window_program.specs.Text.{windowOf, refusalLine, answerOf, leftText, nextText, mapText, startRows, startText, Begins, announcedOf, Received}
+use Rattle.window_program.specs.Text.{windowOf, refusalLine, answerOf, leftText, nextText, mapText, startRows, startText, Started, announcedOf, Received}
 use Rattle.window_program.proofs.Laws.{line-some, refused-most, silent, start-silent}
 
 -- ---- where a window should begin
@@ -70,7 +70,7 @@ module _ (file ks cs : List ℕ) {r : Reading} {ks′ cs′ : List ℕ} (e : aft
   pub start-room : {m q : ℕ} → r ≡ reading.Read m q → (q ≤ length ks) × (q ≤ length cs)
   start-room d = read-room file ks cs (told d)
 
-  pub start-holds : {m q : ℕ} → r ≡ reading.Read m q → Holds file m (take q ks′) (take q cs′)
+  pub start-holds : {m q : ℕ} → r ≡ reading.Read m q → FileMap file m (take q ks′) (take q cs′)
   start-holds d = read-holds file ks cs (told d)
 
   module _ (k : length ks ≡ 1000) (c : length cs ≡ 1000) where
@@ -94,7 +94,7 @@ none [] e = refl
 none (x ∷ text) e = absurd (omega arith)
 
 -- where nothing was put though there was room for a line, the map is sound
-pub begun-sound : {file : List ℕ} {b : Begun} {keys classes out out′ : List ℕ} → Begins file b keys classes out out′ → 24 ≤ length out → b .said ≡ 0
+pub begun-sound : {file : List ℕ} {b : Begun} {keys classes out out′ : List ℕ} → Started file b keys classes out out′ → 24 ≤ length out → b .said ≡ 0
     → SoundMap (b .m) (take (b .count) keys) (length (take (b .count) classes))
 unfolding startText
 begun-sound {file} {b} {out = out} g room e =

@@ -15,7 +15,7 @@ use Rattle.map.specs.Check.{mapRows}
 use Rattle.border.specs.Openings.{openings, handsOut, cellsOf}
 use Rattle.border.specs.Open.{useRows}
 use Rattle.numbers.specs.Numbers.{number}
-use Rattle.house.specs.File.{fileM, fileKeys, fileClasses, Holds, readRows}
+use Rattle.house.specs.File.{fileM, fileKeys, fileClasses, FileMap, readRows}
 use Rattle.query.specs.Classes.{totals}
 use Rattle.text.specs.Text.{lineOf, afterPut, putOf}
 use Rattle.window_program.specs.declared.Begun.{Begun}
@@ -102,10 +102,10 @@ unfoldable pub startText : List ℕ → List ℕ
 startText file = refusedText (startRows file)
 
 -- what is printed was put, and where that is nothing, the first cells are the map that the file holds
-pub record Begins (file : List ℕ) (b : Begun) (keys classes out out′ : List ℕ) : Type 0 where
+pub record Started (file : List ℕ) (b : Begun) (keys classes out out′ : List ℕ) : Type 0 where
   pub text : afterPut (b .said) out′ ≡ putOf (startText file) out
   pub few : b .count ≤ 1000
-  pub map : startText file ≡ [] → Holds file (b .m) (take (b .count) keys) (take (b .count) classes)
+  pub map : startText file ≡ [] → FileMap file (b .m) (take (b .count) keys) (take (b .count) classes)
 
 -- how long a file is, by its first four bytes; 0 where no file is so short, or there is no room for it
 unfoldable pub announcedOf : List ℕ → ℕ

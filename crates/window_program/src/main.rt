@@ -13,7 +13,7 @@ ghost use lib.ListN.{length};
 ghost use Rattle.map.specs.Sound.{SoundMap};
 ghost use Rattle.text.specs.Text.{afterPut, putOf};
 ghost use Rattle.window_program.specs.Text.{windowOf, windowLine, refusalLine, openingLines, classLine, classLines, foundLines, foundBy, resultOf, answerOf, Opens};
-ghost use Rattle.window_program.specs.Text.{leftText, nextText, mapText, Begins, announcedOf, Received};
+ghost use Rattle.window_program.specs.Text.{leftText, nextText, mapText, Started, announcedOf, Received};
 
 // How the program begins: m and the number of records of the file's map, and how many bytes were put. Where any were, they say a refusal, and there is no map.
 pub struct Begun {
@@ -213,7 +213,7 @@ fn put_map(m: u32, keys: &[u32], classes: &[u8], out: &mut [u8]) -> usize
 // Reads a file and looks at its map. What is printed for them is put: a refusal, or nothing.
 fn put_start(file: &[u8], keys: &mut [u32], classes: &mut [u8], out: &mut [u8]) -> Begun
     requires { ⌜ (length (now keys) ≡ 1000) × (length (now classes) ≡ 1000) ⌝ }
-    ensures { λ r. ⌜ Begins (now (file .entry)) r (now (keys .exit)) (now (classes .exit)) (now (out .entry)) (now (out .exit)) ⌝ }
+    ensures { λ r. ⌜ Started (now (file .entry)) r (now (keys .exit)) (now (classes .exit)) (now (out .entry)) (now (out .exit)) ⌝ }
 {
     let reading = house::read(file, keys, classes);
     match reading {
