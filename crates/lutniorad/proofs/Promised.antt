@@ -23,7 +23,7 @@ use Rattle.border.specs.declared.Opened.the-variants.{Done, Refused}
 use Rattle.border.specs.Openings.{Opening, openings, handsOut, cellsOf}
 use Rattle.border.specs.Open.{useRows, After, after, spent, usedFor}
 use Rattle.border.specs.Promises.{Answerable, openingsIn}
-use Rattle.border.proofs.Laws.{open-is, used-said, openings-in, cells-length, in-hands, hands-count, hands-all, records-once, openings-few, hands-some, fewest-whole}
+use Rattle.border.proofs.Laws.{open-is, used-said, openings-in, cells-length, hands-count, hands-all, hands-once, openings-few, hands-some, fewest-whole}
 use Rattle.lutniorad.specs.declared.Answer.{Answer}
 use Rattle.lutniorad.specs.Numbers.{values, refused, ofOpened}
 use Rattle.lutniorad.specs.Calls.{Decompose, Open}
@@ -129,8 +129,8 @@ module _ (m : ℕ) (keys classes : List ℕ) (W : Window) (border out : List ℕ
         let F = A .sound .records in
         let small : m ≤ m = omega arith in
         rw stand (record {
-          all = λ n. let h = hands-all (spaced F) (A .inside) small n in let k = in-hands os n in (λ o. k .1 (h .0 o), λ l. h .1 (k .0 l));
-          once = records-once (spaced F) (A .inside) small;
+          all = hands-all (spaced F) (A .inside) small;
+          once = hands-once (spaced F) (A .inside) small;
           in-order = refl;
           few = openings-few (spaced F) (A .inside);
           some = hands-some F (A .inside) small;

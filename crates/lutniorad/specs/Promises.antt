@@ -18,7 +18,7 @@ use Rattle.map.specs.Spans.{holds}
 use Rattle.map.specs.Records.{pixelRecord}
 use Rattle.border.specs.Openings.{Opening, openings, cellsOf}
 use Rattle.border.specs.Open.{spent}
-use Rattle.border.specs.Promises.{Overlaps, allHands, Enough}
+use Rattle.border.specs.Promises.{Overlaps, HandedOut, Apart, allHands, Enough}
 use Rattle.query.specs.Classes.{total}
 use Rattle.query.specs.Select.{selection}
 use Rattle.house.specs.File.{fileOf, fileM, fileQ, fileKeys, fileClasses}
@@ -32,27 +32,36 @@ pub record RefusalLeaves (W : Window) (border out : List ℕ) (r : Answer) (bord
   pub border-spent : r .refusal ≡ 8 → border′ ≡ spent W border
   pub border-kept : (r .refusal ≡ 8 → ⊥) → border′ ≡ border
 
--- decomposing: the list of blocks, each by its exponent and its corner, has exactly the maximal blocks of the window, by row and then by column of the corner; there are fewer
--- than 4 (w + h); `first` is their number, the first cells are their keys, and cells beyond keep their content
+-- decomposing
 pub record DecomposePromise (m : ℕ) (W : Window) (out : List ℕ) (r : Answer) (out′ : List ℕ) : Type 0 where
+  -- blocks, each by its exponent and its corner
   pub blocks : List (ℕ × Px)
+  -- they are exactly the maximal blocks of the window
   pub exactly : (i : ℕ) (p : Px) → Maximal W m i p ↔ List·Memᴰ (i, p) blocks
+  -- by the row of the corner, then by its column
   pub in-order : Ordered (λ a b. Before (a .1) (b .1)) blocks
   pub few : length blocks < 4 * (W .w + W .h)
+  -- `first` is their number, the first cells are their keys, and cells beyond keep their content
   pub number : r ≡ values (length blocks) 0
   pub cells : out′ ≡ overwrite (map (λ b. blockKey m (b .0) (b .1 .0) (b .1 .1)) blocks) out
 
--- opening, of the openings that stand in the first cells. Demand 2: every record that overlaps the window stands in an opening, and no other record does; none stands in two of
--- them, nor twice in one; the openings are those of the fold over the maximal blocks, in that order. Demand 3: there are fewer than 4 (w + h); each has at least one record; no list
--- of fewer maximal blocks brings all the records; `first` is the length of the list, and `second` the number of its records. Cells beyond keep their content, and the border is spent
+-- opening, of the openings that stand in the first cells
 pub record OpenPromise (m : ℕ) (keys : List ℕ) (W : Window) (border out : List ℕ) (os : List Opening) (r : Answer) (border′ out′ : List ℕ) : Type 0 where
-  pub all : (n : ℕ) → Overlaps m keys W n ↔ List·Memᴰ n (allHands os)
-  pub once : Ordered _≢_ (allHands os)
+  -- demand 2: every record that overlaps the window stands in an opening, and no other record does
+  pub all : (n : ℕ) → Overlaps m keys W n ↔ HandedOut os n
+  -- none stands in two of them
+  pub once : Ordered Apart os
+  -- they are those of the maximal blocks in their order, but for the blocks that are skipped
   pub in-order : os ≡ openings m m keys W
+  -- demand 3: there are fewer than 4 (w + h)
   pub few : length os < 4 * (W .w + W .h)
+  -- each has at least one record
   pub some : (o : Opening) → List·Memᴰ o os → 1 ≤ o .count
+  -- no list of fewer maximal blocks brings all the records
   pub fewest : (blocks : List ℕ) → Enough m m keys W blocks → length os ≤ length blocks
+  -- `first` is the length of the list, and `second` the number of its records
   pub numbers : r ≡ values (length os) (length (allHands os))
+  -- cells beyond keep their content, and the first w border cells hold r0 + h
   pub cells : out′ ≡ overwrite (cellsOf os) out
   pub border-after : border′ ≡ spent W border
 
@@ -64,27 +73,33 @@ classAt m keys classes p = getD classes (pixelRecord m keys (p .0) (p .1)) 0
 abbrev pub SomePixel : ℕ → List ℕ → List ℕ → Window → ℕ → Type 0
 SomePixel m keys classes W class = (p : Px) × In W p × (classAt m keys classes p ≡ class)
 
--- exist: `first` is 1 exactly when some pixel of the window has the class, and 0 exactly when none has
+-- exist
 pub record ExistPromise (m : ℕ) (keys classes : List ℕ) (W : Window) (class : ℕ) (border : List ℕ) (r : Answer) (border′ : List ℕ) : Type 0 where
+  -- `first` is 1 exactly when some pixel of the window has the class, and 0 exactly when none has
   pub yes : (r ≡ values 1 0) ↔ SomePixel m keys classes W class
   pub no : (r ≡ values 0 0) ↔ (¬ SomePixel m keys classes W class)
   pub border-after : border′ ≡ spent W border
 
--- report: `first` is h times w, and cell k is the number of the window's pixels of class k, for all 256 of them; together they are the window's pixels, as classes are bytes.
--- Cells beyond keep their content
+-- report
 pub record ReportPromise (m : ℕ) (keys classes : List ℕ) (W : Window) (border out : List ℕ) (r : Answer) (border′ out′ : List ℕ) : Type 0 where
   pub number : r ≡ values (W .h * W .w) 0
+  -- cell k is the number of the window's pixels of class k, for all 256 of them
   pub cells : (k : ℕ) → k < 256 → getD out′ k 0 ≡ total m keys classes W k
+  -- classes are bytes, so together these are the window's pixels
   pub together : ((n : ℕ) → getD classes n 0 < 256) → sum (take 256 out′) ≡ W .h * W .w
+  -- cells beyond keep their content
   pub beyond : drop 256 out′ ≡ drop 256 out
   pub border-after : border′ ≡ spent W border
 
--- select, of the keys that stand in the first cells: block by block its own key, or those of the records inside it. A pixel of the window has the class exactly when it lies in the
--- block of one of these keys, and then of one only; no key stands there twice; there are fewer than 4 (w + h) + Q, and `first` is their number
+-- select, of the keys that stand in the first cells
 pub record SelectPromise (m : ℕ) (keys classes : List ℕ) (W : Window) (class : ℕ) (border out ks : List ℕ) (r : Answer) (border′ out′ : List ℕ) : Type 0 where
+  -- a pixel of the window has the class exactly when it lies in the block of one of the keys
   pub pixels : (p : Px) → In W p → (classAt m keys classes p ≡ class) ↔ ((x : ℕ) × List·Memᴰ x ks × (holds (place (p .0) (p .1)) (formOf m x) ≡ true))
+  -- and then of one only
   pub apart : (q x y : ℕ) → List·Memᴰ x ks → List·Memᴰ y ks → holds q (formOf m x) ≡ true → holds q (formOf m y) ≡ true → x ≡ y
+  -- no key stands twice
   pub once : Ordered _≢_ ks
+  -- they come block by block: its own key, or those of the records inside it
   pub in-order : ks ≡ selection m m keys classes W class
   pub few : length ks < 4 * (W .w + W .h) + length keys
   pub number : r ≡ values (length ks) 0
