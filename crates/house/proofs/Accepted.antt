@@ -20,7 +20,7 @@ use Rattle.numbers.specs.Numbers.{numbers}
 use Rattle.house.specs.declared.Reading.the-variants as reading
 use Rattle.house.specs.declared.Writing.the-variants as writing
 use Rattle.house.specs.File.{layoutRows, readRows, writeRows, fileOf, fileM, fileQ, fileKeys, fileClasses, AfterRead, afterRead, readOf, AfterWrite, afterWrite, writeOf}
-use Rattle.house.specs.Promises.{Laid, Readable}
+use Rattle.house.specs.Promises.{Readable}
 use Rattle.house.proofs.Tables.{laid}
 
 -- ---- reading

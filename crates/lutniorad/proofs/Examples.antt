@@ -1,6 +1,6 @@
 -- P1 and P2 as calls: the contracts hold of these numbers and cells, so what opening and decomposing promise holds of these very cells.
 -- Assumes nothing.
-use mathlib.Core.Path.{_≡_, refl}
+use mathlib.Core.Path.{refl}
 use mathlib.Core.List.{List, [], _∷_}
 use Prim.Native.Nat.{ℕ}
 use Rattle.lists.specs.Lists.{upFrom, any, keep, before, howMany, greatest}

@@ -2,7 +2,7 @@
 -- Assumes nothing.
 use mathlib.Core.Path.{_≡_, sym, ap, _∙_}
 use mathlib.Core.List.{List}
-use Prim.Native.Nat.{ℕ, _+_, _*_, _^_, _≤_}
+use Prim.Native.Nat.{ℕ, _^_, _≤_}
 use lib.ListN.{length, take}
 use Rattle.answers.specs.Cells.{overwrite}
 use Rattle.numbers.specs.Numbers.{Below}

@@ -10,7 +10,7 @@ use lib.Dec.{ltb}
 use lib.ListN.{length}
 use Rattle.answers.specs.declared.Verdict.{Verdict}
 use Rattle.answers.specs.declared.Verdict.the-variants as verdict-of
-use Rattle.answers.specs.Rows.{Row, row, answer, verdict}
+use Rattle.answers.specs.Rows.{row, answer, verdict}
 use Rattle.answers.specs.Cells.{overwrite}
 use Rattle.answers.proofs.Laws.{on-refused}
 use Rattle.window.specs.declared.Window.{Window}
