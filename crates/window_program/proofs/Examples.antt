@@ -24,7 +24,7 @@ use Rattle.numbers.specs.Numbers.{bytes, number, bytesOf, numbers}
 use Rattle.house.specs.File.{header, fileOf, layoutRows, fileM, fileQ, readRows, fileKeys, fileClasses}
 use Rattle.query.specs.Classes.{hasClass, total, totals}
 use Rattle.text.specs.Text.{digits, digitsOf, spaced, lineOf}
-use Rattle.window_program.specs.Text.{windowOf, openingLines, classLine, classLines, foundLines, foundBy, resultOf, answerOf, leftText, mapText, startRows, startText, announcedOf}
+use Rattle.window_program.specs.Text.{windowOf, openingLines, classLine, classLines, foundLines, foundBy, resultOf, answerOf, leftText, mapText, startRows, startText, announcedOf, wholeOf, fileIn}
 
 abbrev keys : List ℕ
 keys = 5 ∷ 11 ∷ 12 ∷ 13 ∷ 14 ∷ 15 ∷ 20 ∷ []
@@ -64,13 +64,17 @@ pub record Examples : Type 0 where
   pub three-left : leftText 3 ≡ lineOf 82 (10 ∷ 3 ∷ [])
   pub p1-length : announcedOf file ≡ 55
   pub no-room : announcedOf (take 54 file) ≡ 0
+  -- all 55 bytes came, or one less, or the input ended in the length itself
+  pub p1-whole : fileIn file 55 ≡ file
+  pub p1-cut : fileIn file 54 ≡ []
+  pub in-length : fileIn file 3 ≡ []
 
 pub examples : Examples
 unfolding answer wrongCount sizeRows upFrom spreadTo spread place pixelKey blockKey from formOf beyond outside windowRows keep floor lies fits
     greatest exponent corner across rows isCorner maximal keyOf keysOf spans.malformed spans.exponent spans.start spans.end spans.holds spans.overlap late
     rowsFrom mapRows before howMany recordOf exponentOf runOf any indices within isHanded opening openFrom openings handsOut cellsOf useRows hasClass
     total totals digits digitsOf spaced lineOf openingLines classLine classLines foundLines foundBy resultOf answerOf
-    bytes number bytesOf numbers header fileOf layoutRows fileM fileQ readRows fileKeys fileClasses leftText mapText startRows startText announcedOf
+    bytes number bytesOf numbers header fileOf layoutRows fileM fileQ readRows fileKeys fileClasses leftText mapText startRows startText announcedOf wholeOf
 examples = record {
   p1-window = refl;
   p1 = refl;
@@ -83,4 +87,7 @@ examples = record {
   three-left = refl;
   p1-length = refl;
   no-room = refl;
+  p1-whole = refl;
+  p1-cut = refl;
+  in-length = refl;
 }

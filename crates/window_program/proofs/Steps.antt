@@ -2,13 +2,13 @@
 -- Assumes nothing.
 use mathlib.Core.Path.{_≡_, refl, sym, ap, _∙_}
 use mathlib.Core.List.{List, [], _∷_}
-use Prim.Native.Nat.{ℕ, _-_, _≤_, _<_}
-use native.Mathlib.Decide.{decLt}
+use Prim.Native.Nat.{ℕ, _+_, _-_, _≤_, _<_}
+use native.Mathlib.Decide.{decLt, ℕ-discrete}
 use native.Mathlib.Omega.{arith}
 use lib.ListN.{length, take}
 use lib.Seq.{length-take-le}
 use borrow.Author.Tests.{lt-ltb, le-ltb}
-use borrow.Rule.Slice.PartMut.{midOf, putMid, same-len-mid, take-put}
+use borrow.Rule.Slice.PartMut.{midOf, putMid, same-len-mid, mid-len, take-put}
 use Rattle.answers.specs.declared.Verdict.the-variants.{Passed, Refused}
 use Rattle.answers.specs.Rows.{verdict}
 use Rattle.answers.proofs.Laws.{answer-append, answer-part, row-held, on-refused}
@@ -22,7 +22,7 @@ use Rattle.house.specs.File.{fileM, fileQ, fileKeys, fileClasses, FileMap, read
 use Rattle.house.proofs.Laws.{read-room, read-holds, read-by-lengths}
 use Rattle.text.proofs.Laws.{put-there}
 use Rattle.window_program.specs.declared.Begun.{Begun}
-use Rattle.window_program.specs.Text.{windowOf, refusalLine, answerOf, leftText, nextText, mapText, startRows, startText, Started, announcedOf, Received}
+use Rattle.window_program.specs.Text.{windowOf, refusalLine, answerOf, leftText, nextText, mapText, startRows, startText, Started, announcedOf, Received, wholeOf}
 use Rattle.window_program.proofs.Laws.{line-some, refused-most, silent, start-silent}
 
 -- ---- where a window should begin
@@ -105,6 +105,10 @@ begun-sound {file} {b} {out = out} g room e =
 
 -- ---- the length of a file
 
+-- no more than the first four bytes came
+pub received-few : {got : ℕ} (bytes : List ℕ) → got ≤ 4 → 4 ≤ length bytes → Received got bytes
+received-few {got} bytes l room = record { counts = (omega arith, sym (length-take-le got bytes (omega arith))); few = λ m. absurd (omega arith) }
+
 module _ (file : List ℕ) where
   pub announced-short : number 4 file < 4 → announcedOf file ≡ 0
   unfolding announcedOf
@@ -128,14 +132,32 @@ module _ (file : List ℕ) where
         go (no h) (yes g) = absurd (some (e ∙ announced-long (omega (arith, h)) g))
         go (no h) (no g) = omega (arith, h, g, e ∙ announced-fits (omega (arith, h)) (omega (arith, g)))
 
-    -- the bytes behind the first four were read: the first four are as they were
-    pub received : (ys : List ℕ) → length ys ≡ length (midOf 4 (n - 4) file) → Received n (putMid 4 (n - 4) file ys)
+    -- bytes behind the first four were read: the first four are as they were
+    pub received : {more : ℕ} (ys : List ℕ) → length ys ≡ length (midOf 4 (n - 4) file) → more ≤ length ys → Received (4 + more) (putMid 4 (n - 4) file ys)
     unfolding announcedOf
-    received ys l =
+    received {more} ys l m =
         let b = announced-bounds in
         let long : length (putMid 4 (n - 4) file ys) ≡ length file = same-len-mid 4 (n - 4) file ys l in
         let first : number 4 (putMid 4 (n - 4) file ys) ≡ number 4 file = sym (number-take 4 _) ∙ ap (number 4) (take-put 4 (n - 4) file ys (omega arith)) ∙ number-take 4 file in
+        let part : length (midOf 4 (n - 4) file) ≡ n - 4 = mid-len 4 n file (b .1) in
         record {
-          counts = (omega arith, sym (length-take-le n _ (omega arith)));
-          announced = λ d. rw (first, long) e;
+          counts = (omega arith, sym (length-take-le (4 + more) _ (omega arith)));
+          few = λ d. rw (first, long) (omega (arith, e));
         }
+
+module _ (bytes : List ℕ) (got : ℕ) where
+  pub whole-cut : {n : ℕ} → n ≡ announcedOf bytes → got < n → wholeOf bytes got ≡ 0
+  unfolding wholeOf
+  whole-cut e l = rw (lt-ltb got (announcedOf bytes) (omega (arith, e)))
+
+  pub whole-all : {n : ℕ} → n ≡ announcedOf bytes → n ≤ got → wholeOf bytes got ≡ n
+  unfolding wholeOf
+  whole-all e l = rw (le-ltb got (announcedOf bytes) (omega (arith, e))) (sym e)
+
+-- no file is longer than there is room
+pub announced-room : (bytes : List ℕ) {n : ℕ} → n ≡ announcedOf bytes → n ≤ length bytes
+announced-room bytes {n} e = go (ℕ-discrete n 0)
+  where
+    go : Dec (n ≡ 0) → n ≤ length bytes
+    go (yes z) = omega arith
+    go (no z) = announced-bounds bytes e z .1

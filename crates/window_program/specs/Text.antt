@@ -3,7 +3,7 @@
 use mathlib.Core.Path.{_≡_}
 use mathlib.Core.Bool.{cond, _||_}
 use mathlib.Core.List.{List, [], _∷_, _++_}
-use Prim.Native.Nat.{ℕ, _+_, _*_, _≤_}
+use Prim.Native.Nat.{ℕ, _+_, _*_, _≤_, _<_}
 use lib.Dec.{eqb, ltb}
 use lib.ListN.{length, take, getD}
 use Rattle.io.specs.Counts.{Counts}
@@ -111,7 +111,15 @@ pub record Started (file : List ℕ) (b : Begun) (keys classes out out′ : List
 unfoldable pub announcedOf : List ℕ → ℕ
 announcedOf file = cond (ltb (number 4 file) 4 || ltb (length file) (number 4 file)) 0 (number 4 file)
 
--- what was received: nothing, or as many bytes as the first four say
-pub record Received (n : ℕ) (file : List ℕ) : Type 0 where
-  pub counts : Counts n file
-  pub announced : (n ≡ 0 → ⊥) → n ≡ announcedOf file
+-- so many bytes came: no more than four, or no more than the first four announce
+pub record Received (got : ℕ) (bytes : List ℕ) : Type 0 where
+  pub counts : Counts got bytes
+  pub few : 4 < got → got ≤ announcedOf bytes
+
+-- how long the file is of which so many bytes came, and 0 where it is not whole
+unfoldable pub wholeOf : List ℕ → ℕ → ℕ
+wholeOf bytes got = cond (ltb got (announcedOf bytes)) 0 (announcedOf bytes)
+
+-- that file, or none
+abbrev pub fileIn : List ℕ → ℕ → List ℕ
+fileIn bytes got = take (wholeOf bytes got) bytes

@@ -10,10 +10,11 @@ use window::Window;
 ghost use mathlib.Core.Path.{_≡_};
 ghost use Prim.Native.Nat.{_+_, _*_, _≤_};
 ghost use lib.ListN.{length};
+ghost use Rattle.io.specs.Counts.{Counts};
 ghost use Rattle.map.specs.Sound.{SoundMap};
 ghost use Rattle.text.specs.Text.{afterPut, putOf};
 ghost use Rattle.window_program.specs.Text.{windowOf, windowLine, refusalLine, openingLines, classLine, classLines, foundLines, foundBy, resultOf, answerOf, Opens};
-ghost use Rattle.window_program.specs.Text.{leftText, nextText, mapText, Started, announcedOf, Received};
+ghost use Rattle.window_program.specs.Text.{leftText, nextText, mapText, Started, announcedOf, Received, wholeOf, fileIn};
 
 // How the program begins: m and the number of records of the file's map, and how many bytes were put. Where any were, they say a refusal, and there is no map.
 pub struct Begun {
@@ -245,22 +246,48 @@ fn announced(file: &[u8]) -> usize
     length
 }
 
-// Reads a file into the first bytes of `file`, and answers how long it is. Where there is no room for it, or the input ends inside it, the answer is 0.
+// Reads the first four bytes of a file, and then as many more as they announce. Answers how many came.
 fn receive(file: &mut [u8]) -> usize
     requires { ⌜ 4 ≤ length (now file) ⌝ }
     ensures { λ r. ⌜ Received r (now (file .exit)) ⌝ }
 {
-    if io::read_full(STDIN_FILENO, &mut file[..4]) < 4 {
-        return 0;
+    let first = io::read_full(STDIN_FILENO, &mut file[..4]);
+    if first < 4 {
+        return first;
     }
     let length = announced(file);
     if length == 0 {
-        return 0;
+        return first;
     }
-    if io::read_full(STDIN_FILENO, &mut file[4..length]) < length - 4 {
+    first + io::read_full(STDIN_FILENO, &mut file[4..length])
+}
+
+// How long the file is of which so many bytes came, where all of it did. Where there is no room for it, or the input ended inside it, the answer is 0.
+fn whole(bytes: &[u8], got: usize) -> usize
+    requires { ⌜ 4 ≤ length (now bytes) ⌝ }
+    ensures { λ r. ⌜ r ≡ wholeOf (now (bytes .entry)) got ⌝ }
+    ensures { λ r. ⌜ Counts r (now (bytes .entry)) ⌝ }
+{
+    let length = announced(bytes);
+    if got < length {
         return 0;
     }
     length
+}
+
+// What is printed before the first window, for a file of which so many bytes came.
+fn put_received(
+    bytes: &[u8],
+    got: usize,
+    keys: &mut [u32],
+    classes: &mut [u8],
+    out: &mut [u8],
+) -> Begun
+    requires { ⌜ (4 ≤ length (now bytes)) × (length (now keys) ≡ 1000) × (length (now classes) ≡ 1000) ⌝ }
+    ensures { λ r. ⌜ Started (fileIn (now (bytes .entry)) got) r (now (keys .exit)) (now (classes .exit)) (now (out .entry)) (now (out .exit)) ⌝ }
+{
+    let length = whole(bytes, got);
+    put_start(&bytes[..length], keys, classes, out)
 }
 
 fn print(text: &[u8]) {
@@ -291,11 +318,11 @@ fn answer_all(m: u32, keys: &[u32], classes: &[u8])
 
 fn main() {
     let mut file = [0u8; 5020];
-    let length = receive(&mut file);
+    let got = receive(&mut file);
     let mut keys = [0u32; 1000];
     let mut classes = [0u8; 1000];
     let mut line = [0u8; 24];
-    let begun = put_start(&file[..length], &mut keys, &mut classes, &mut line);
+    let begun = put_received(&file, got, &mut keys, &mut classes, &mut line);
     let said = begun.said;
     print(&line[..said]);
     if said == 0 {

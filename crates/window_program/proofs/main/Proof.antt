@@ -10,16 +10,16 @@ use Rattle.window_program.proofs.Steps.{begun-sound}
 use Rattle.window_program.proofs.main.Statement.{statement}
 use Rattle.window_program.proofs.main.Tie as tie
 
-abbrev start : tie.After-struct-known → tie.After-put-start
+abbrev start : tie.After-struct-known → tie.After-put-received
 start c = c .before .before .before .before .before .before .before
 
 -- what was put, and what was read, fits in the arrays
-put : (c : tie.After-put-start) → c .put-start .result .said ≤ length (c .put-start .last .1 .1 .1 .0)
-put c = put-within _ _ (c .put-start .ensures .text)
+put : (c : tie.After-put-received) → c .put-received .result .said ≤ length (c .put-received .last .1 .1 .1 .1 .0)
+put c = put-within _ _ (c .put-received .ensures .text)
 
-room : (c : tie.After-put-start)
-    → (c .put-start .result .count ≤ 1000) × (length (c .put-start .last .1 .0) ≡ 1000) × (length (c .put-start .last .1 .1 .0) ≡ 1000)
-room c = let n = length-replicate {A = ℕ} 1000 0 in (c .put-start .ensures .few, c .put-start .kept .1 .0 ∙ n, c .put-start .kept .1 .1 .0 ∙ n)
+room : (c : tie.After-put-received)
+    → (c .put-received .result .count ≤ 1000) × (length (c .put-received .last .1 .1 .0) ≡ 1000) × (length (c .put-received .last .1 .1 .1 .0) ≡ 1000)
+room c = let n = length-replicate {A = ℕ} 1000 0 in (c .put-received .ensures .few, c .put-received .kept .1 .1 .0 ∙ n, c .put-received .kept .1 .1 .1 .0 ∙ n)
 
 slice-aggregate-receive : tie.Need-slice-aggregate-receive
 slice-aggregate-receive c = search needs
@@ -27,23 +27,20 @@ slice-aggregate-receive c = search needs
 receive-requires : tie.Need-receive-requires
 receive-requires c κs = search needs
 
-array-share-prefix-file : tie.Need-array-share-prefix-file
-array-share-prefix-file c = search needs
+slice-aggregate-put-received : tie.Need-slice-aggregate-put-received
+slice-aggregate-put-received c = search needs
 
-slice-aggregate-put-start : tie.Need-slice-aggregate-put-start
-slice-aggregate-put-start c = search needs
+slice-aggregate-put-received-2 : tie.Need-slice-aggregate-put-received-2
+slice-aggregate-put-received-2 c = search needs
 
-slice-aggregate-put-start-2 : tie.Need-slice-aggregate-put-start-2
-slice-aggregate-put-start-2 c = search needs
+slice-aggregate-put-received-3 : tie.Need-slice-aggregate-put-received-3
+slice-aggregate-put-received-3 c = search needs
 
-slice-aggregate-put-start-3 : tie.Need-slice-aggregate-put-start-3
-slice-aggregate-put-start-3 c = search needs
+slice-aggregate-put-received-4 : tie.Need-slice-aggregate-put-received-4
+slice-aggregate-put-received-4 c = search needs
 
-slice-aggregate-put-start-4 : tie.Need-slice-aggregate-put-start-4
-slice-aggregate-put-start-4 c = search needs
-
-put-start-requires : tie.Need-put-start-requires
-put-start-requires c κs = search needs
+put-received-requires : tie.Need-put-received-requires
+put-received-requires c κs = search needs
 
 array-share-prefix-line : tie.Need-array-share-prefix-line
 array-share-prefix-line c = put (c .before .before .before)
@@ -73,7 +70,7 @@ answer-all-requires : tie.Need-answer-all-requires
 answer-all-requires c κs =
     let k = c .before .before in
     let s = start k in
-    (simp length-take (omega (arith, room s)), begun-sound (s .put-start .ensures) (omega (arith, length-replicate {A = ℕ} 24 0)) (k .before .if1 .taken))
+    (simp length-take (omega (arith, room s)), begun-sound (s .put-received .ensures) (omega (arith, length-replicate {A = ℕ} 24 0)) (k .before .if1 .taken))
 
 returns : tie.Need-returns
 returns c = search needs
@@ -87,12 +84,11 @@ main-spec =
     (tie.spec
     slice-aggregate-receive
     receive-requires
-    array-share-prefix-file
-    slice-aggregate-put-start
-    slice-aggregate-put-start-2
-    slice-aggregate-put-start-3
-    slice-aggregate-put-start-4
-    put-start-requires
+    slice-aggregate-put-received
+    slice-aggregate-put-received-2
+    slice-aggregate-put-received-3
+    slice-aggregate-put-received-4
+    put-received-requires
     array-share-prefix-line
     slice-aggregate-print
     print-requires
