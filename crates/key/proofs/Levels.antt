@@ -8,7 +8,7 @@ use native.Mathlib.Nat.{mul-assoc, pow-succ', pow-zero, zero-add, sub-zero, zero
 use native.Mathlib.Nat.{mul-add-div-right, mul-add-mod-self-right, div-lt-iff-lt-mul, le-div-iff-mul-le}
 use native.Mathlib.Omega.{arith}
 use lib.ListN.{length, replicate}
-use Rattle.key.specs.Promises.{digitsOf, LevelBlock, LevelDigits}
+use Rattle.key.specs.Promises.{lowDigits, LevelBlock, LevelDigits}
 use Rattle.key.proofs.Powers.{pow-least}
 use Rattle.key.proofs.Digits.{form-whole, first-most, first-split}
 use Rattle.key.proofs.Blocks.{At, whole, quad, lies, at-form, form-at, first-digit}
@@ -16,34 +16,34 @@ use Rattle.key.proofs.Blocks.{At, whole, quad, lies, at-form, form-at, 
 -- ---- the digits of a number, over any base but 0
 
 module _ (b : ℕ) where
-  digits-zero : (k : ℕ) → digitsOf (suc b) k 0 ≡ replicate k 0
-  unfolding digitsOf
+  digits-zero : (k : ℕ) → lowDigits (suc b) k 0 ≡ replicate k 0
+  unfolding lowDigits
   digits-zero zero = refl
   digits-zero (suc k) = rw (zero-div, zero-mod, digits-zero k)
 
   -- what stands above the k low digits does not count
-  digits-above : (k c x : ℕ) → digitsOf (suc b) k (c * suc b ^ k + x) ≡ digitsOf (suc b) k x
-  unfolding digitsOf
+  digits-above : (k c x : ℕ) → lowDigits (suc b) k (c * suc b ^ k + x) ≡ lowDigits (suc b) k x
+  unfolding lowDigits
   digits-above zero c x = refl
   digits-above (suc k) c x =
       let e : c * suc b ^ suc k + x ≡ c * suc b * suc b ^ k + x = rw (pow-succ', mul-assoc) in
       rw (e, mul-add-div-right (pow-least b k) (c * suc b) x, mul-add-mod-self-right c (suc b) (x / suc b ^ k), digits-above k (c * suc b) x)
 
-  digits-low : (k x : ℕ) → digitsOf (suc b) k x ≡ digitsOf (suc b) k (x % suc b ^ k)
-  digits-low k x = ap (digitsOf (suc b) k) (sym (div-add-mod' x (suc b ^ k))) ∙ digits-above k (x / suc b ^ k) (x % suc b ^ k)
+  digits-low : (k x : ℕ) → lowDigits (suc b) k x ≡ lowDigits (suc b) k (x % suc b ^ k)
+  digits-low k x = ap (lowDigits (suc b) k) (sym (div-add-mod' x (suc b ^ k))) ∙ digits-above k (x / suc b ^ k) (x % suc b ^ k)
 
   -- the first of k + 1 digits
   first-of : (k x : ℕ) → x < suc b ^ suc k → x / suc b ^ k % suc b ≡ x / suc b ^ k
   first-of k x h = mod-eq-of-lt (div-lt-iff-lt-mul (pow-least b k) .1 (rw pow-succ' at h))
 
   -- a number of k digits has them alone
-  pub digits-one : (k x y : ℕ) → x < suc b ^ k → y < suc b ^ k → digitsOf (suc b) k x ≡ digitsOf (suc b) k y → x ≡ y
-  unfolding digitsOf
+  pub digits-one : (k x y : ℕ) → x < suc b ^ k → y < suc b ^ k → lowDigits (suc b) k x ≡ lowDigits (suc b) k y → x ≡ y
+  unfolding lowDigits
   digits-one zero x y h g e = omega (arith, pow-zero (suc b))
   digits-one (suc k) x y h g e =
       let p : ℕ = suc b ^ k in
       let first : x / p ≡ y / p = cc (first-of k x h, first-of k y g) in
-      let others : digitsOf (suc b) k x ≡ digitsOf (suc b) k y = cc in
+      let others : lowDigits (suc b) k x ≡ lowDigits (suc b) k y = cc in
       let rest : x % p ≡ y % p = digits-one k (x % p) (y % p) (mod-lt x (pow-least b k)) (mod-lt y (pow-least b k)) (sym (digits-low k x) ∙ others ∙ digits-low k y) in
       sym (div-add-mod' x p) ∙ ap₂ (λ (q r : ℕ). q * p + r) first rest ∙ div-add-mod' y p
 
@@ -52,10 +52,10 @@ module _ (b : ℕ) where
 record Parts (m key i : ℕ) (front : List ℕ) : Type 0 where
   long : length front + i ≡ m
   nonzero : (c : ℕ) → List·Memᴰ c front → (1 ≤ c) × (c ≤ 4)
-  is : digitsOf 5 m key ≡ front ++ replicate i 0
+  is : lowDigits 5 m key ≡ front ++ replicate i 0
 
 at-parts : {m key i s : ℕ} → At m key i s → (front : List ℕ) × Parts m key i front
-unfolding digitsOf
+unfolding lowDigits
 at-parts {m} whole = ([], record { long = zero-add m; nonzero = λ c l. absurd (List·Memᴰ·not-nil l); is = digits-zero 4 m })
 at-parts (quad {m = m} {i = i} {key′ = key′} d h a ek es) =
     let (front, p) = at-parts a in
@@ -65,7 +65,7 @@ at-parts (quad {m = m} {i = i} {key′ = key′} d h a ek es) =
     (suc d ∷ front, record { long = omega arith; nonzero = each; is = rw (first, digits-low 4 m key′, f .1, p .is) })
 
 parts-at : (m key i : ℕ) (front : List ℕ) → key < 5 ^ m → Parts m key i front → (s : ℕ) × At m key i s
-unfolding digitsOf
+unfolding lowDigits
 parts-at m key i [] h p =
     let e : i ≡ m = omega arith in
     let z : key ≡ 0 = digits-one 4 m key 0 h (pow-least 4 m) (p .is ∙ rw e (sym (digits-zero 4 m))) in
@@ -73,9 +73,9 @@ parts-at m key i [] h p =
 parts-at zero key i (c ∷ front) h p = absurd (omega arith)
 parts-at (suc k) key i (c ∷ front) h p =
     let first : key / 5 ^ k % 5 ≡ c = cc (p .is) in
-    let others : digitsOf 5 k key ≡ front ++ replicate i 0 = cc (p .is) in
+    let others : lowDigits 5 k key ≡ front ++ replicate i 0 = cc (p .is) in
     let some : 1 ≤ key / 5 ^ k = omega (arith, p .nonzero c (List·Memᴰ·head refl)) in
-    let low : digitsOf 5 k (key % 5 ^ k) ≡ front ++ replicate i 0 = sym (digits-low 4 k key) ∙ others in
+    let low : lowDigits 5 k (key % 5 ^ k) ≡ front ++ replicate i 0 = sym (digits-low 4 k key) ∙ others in
     let rest : Parts k (key % 5 ^ k) i front = record { long = omega arith; nonzero = λ c l. p .nonzero c (List·Memᴰ·tail l); is = low } in
     let (s, a) = parts-at k (key % 5 ^ k) i front (mod-lt key (pow-least 4 k)) rest in
     let least : 5 ^ k ≤ key = omega (arith, le-div-iff-mul-le (pow-least 4 k) .0 some) in

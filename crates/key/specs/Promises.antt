@@ -7,9 +7,9 @@ use lib.ListN.{length, replicate}
 use Rattle.key.specs.Blocks.{Names}
 
 -- the k low digits of x in base b, most significant first: all of them where x is below b ^ k
-unfoldable pub digitsOf : ℕ → ℕ → ℕ → List ℕ
-digitsOf b zero x = []
-digitsOf b (suc k) x = x / b ^ k % b ∷ digitsOf b k x
+unfoldable pub lowDigits : ℕ → ℕ → ℕ → List ℕ
+lowDigits b zero x = []
+lowDigits b (suc k) x = x / b ^ k % b ∷ lowDigits b k x
 
 -- at m, the key is that of a block of level d, whose exponent is m - d
 pub record LevelBlock (m d key : ℕ) : Type 0 where
@@ -24,4 +24,4 @@ pub record LevelDigits (m d key : ℕ) : Type 0 where
   pub front : List ℕ
   pub long : length front ≡ d
   pub nonzero : (c : ℕ) → List·Memᴰ c front → (1 ≤ c) × (c ≤ 4)
-  pub is : digitsOf 5 m key ≡ front ++ replicate (m - d) 0
+  pub is : lowDigits 5 m key ≡ front ++ replicate (m - d) 0

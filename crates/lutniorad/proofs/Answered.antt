@@ -66,8 +66,8 @@ module _ {m : ℕ} {W : Window} {out out′ : List ℕ} {r : Answer} (call : Dec
   pub decompose-answered : (r .refusal ≡ 0) ↔ ((m ≤ 12) × Inside m W × (many ≤ length out))
   decompose-answered = told-when _ refl (numbered-decompose m W many (length out)) decompose-says (decompose-passed m W many (length out))
 
-  pub decompose-refused : (r .refusal ≡ 0 → ⊥) → out′ ≡ out
-  decompose-refused held = call .out-after ∙ decompose-untouched m W out (λ e. held (decompose-answered .1 (decompose-passed m W many (length out) .0 e)))
+  pub decompose-kept : (r .refusal ≡ 0 → ⊥) → out′ ≡ out
+  decompose-kept held = call .out-after ∙ decompose-untouched m W out (λ e. held (decompose-answered .1 (decompose-passed m W many (length out) .0 e)))
 
 -- ---- exist
 
@@ -98,8 +98,8 @@ module _ {m : ℕ} {keys classes : List ℕ} {W : Window} {class : ℕ} {border 
       told-when (sayExists m keys classes W class) clear (numbered-use m keys (length classes) W (length border) {most = 7} (omega arith)) exist-says
       (use-answerable m keys (length classes) W (length border))
 
-  pub exist-refused : (r .refusal ≡ 0 → ⊥) → border′ ≡ border
-  exist-refused held =
+  pub exist-kept : (r .refusal ≡ 0 → ⊥) → border′ ≡ border
+  exist-kept held =
       call .border-after ∙ exist-untouched m keys classes W class border (λ e. held (exist-answered .1 (use-answerable m keys (length classes) W (length border) .0 e)))
 
 -- ---- files
@@ -114,8 +114,8 @@ module _ {file keys classes keys′ classes′ : List ℕ} {r : Answer} (call : 
   pub read-answered : (r .refusal ≡ 0) ↔ Readable file (length keys) (length classes)
   read-answered = told-when _ refl (numbered-read file (length keys) (length classes)) read-says (read-passed file (length keys) (length classes))
 
-  pub read-refused : (r .refusal ≡ 0 → ⊥) → (keys′ ≡ keys) × (classes′ ≡ classes)
-  read-refused held =
+  pub read-kept : (r .refusal ≡ 0 → ⊥) → (keys′ ≡ keys) × (classes′ ≡ classes)
+  read-kept held =
       let same = read-untouched file keys classes (λ R. held (read-answered .1 R)) in
       (call .keys-after ∙ same .0, call .classes-after ∙ same .1)
 
@@ -132,5 +132,5 @@ module _ {m : ℕ} {keys classes out out′ : List ℕ} {r : Answer} (call : Wri
   pub write-answered : (r .refusal ≡ 0) ↔ (Sized m (length keys) (length classes) × (20 + 5 * length keys ≤ length out))
   write-answered = told-when _ refl (numbered-write m (length keys) (length classes) (length out)) write-says (write-passed m (length keys) (length classes) (length out))
 
-  pub write-refused : (r .refusal ≡ 0 → ⊥) → out′ ≡ out
-  write-refused held = call .out-after ∙ write-untouched m keys classes out (λ t. held (write-answered .1 t))
+  pub write-kept : (r .refusal ≡ 0 → ⊥) → out′ ≡ out
+  write-kept held = call .out-after ∙ write-untouched m keys classes out (λ t. held (write-answered .1 t))

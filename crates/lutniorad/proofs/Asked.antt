@@ -16,10 +16,9 @@ use Rattle.answers.specs.Cells.{overwrite}
 use Rattle.answers.proofs.Laws.{on-passed, take-overwrite, drop-overwrite}
 use Rattle.window.specs.declared.Window.{Window}
 use Rattle.map.proofs.Laws.{spaced}
-use Rattle.border.specs.Open.{useRows, After, after, spent, usedFor}
+use Rattle.border.specs.Open.{useRows, after, spent, usedFor}
 use Rattle.border.specs.Promises.{Answerable}
-use Rattle.border.proofs.Laws.{use-answerable, used-said}
-use Rattle.query.specs.declared.Queried.{Queried}
+use Rattle.border.proofs.Laws.{use-answerable}
 use Rattle.query.specs.declared.Queried.the-variants.{Done, Refused}
 use Rattle.query.specs.Classes.{exists, totals}
 use Rattle.query.specs.Select.{selection}
@@ -30,7 +29,7 @@ use Rattle.lutniorad.specs.Numbers.{values, refused, ofQueried}
 use Rattle.lutniorad.specs.Calls.{Exist, Report, Select}
 use Rattle.lutniorad.specs.Promises.{RefusalLeaves, SomePixel, ExistPromise, ReportPromise, SelectPromise}
 use Rattle.lutniorad.proofs.Answered.{sayExists, exist-says, exist-answered}
-use Rattle.lutniorad.proofs.Using.{used-crossed, used-says, used-numbered, used-answered, used-leaves, used-refused}
+use Rattle.lutniorad.proofs.Using.{used-crossed, used-says, used-numbered, used-answered, used-leaves, used-kept}
 
 -- ---- exist
 
@@ -63,10 +62,7 @@ module _ (m : ℕ) (keys classes : List ℕ) (W : Window) (border out : List ℕ
 
   -- the call in numbers
   reported : after r border′ out′ ≡ usedFor refused (values (W .h * W .w) 0) counts m keys (length classes) W border out
-  reported =
-      used-crossed ofQueried call
-      ∙ ap (λ (x : After Queried). after (ofQueried (x .answer)) (x .border) (x .out)) (report-is m keys classes W border out)
-      ∙ used-said Refused (Done (W .h * W .w)) counts m keys (length classes) W border out ofQueried
+  reported = used-crossed ofQueried Refused (Done (W .h * W .w)) counts m keys (length classes) W border out (report-is m keys classes W border out) call
 
   pub report-says : r
       ≡ answer refused (useRows m keys (length classes) W (length border) ++ (row (ltb (length out) (length counts)) 8 (length counts) ∷ [])) (values (W .h * W .w) 0)
@@ -79,8 +75,8 @@ module _ (m : ℕ) (keys classes : List ℕ) (W : Window) (border out : List ℕ
   pub report-numbered : r .refusal ≤ 8
   report-numbered = used-numbered (W .h * W .w) 0 counts m keys (length classes) W border out reported
 
-  pub report-refused : (r .refusal ≡ 0 → ⊥) → RefusalLeaves W border out r border′ out′
-  report-refused = used-refused (W .h * W .w) 0 counts m keys (length classes) W border out reported
+  pub report-kept : (r .refusal ≡ 0 → ⊥) → RefusalLeaves W border out r border′ out′
+  report-kept = used-kept (W .h * W .w) 0 counts m keys (length classes) W border out reported
 
   pub report-promise : r .refusal ≡ 0 → ReportPromise m keys classes W border out r border′ out′
   report-promise z =
@@ -97,16 +93,14 @@ module _ (m : ℕ) (keys classes : List ℕ) (W : Window) (border out : List ℕ
 
 -- ---- select
 
-module _ (m : ℕ) (keys classes : List ℕ) (W : Window) (class : ℕ) (border out : List ℕ) {r : Answer} {border′ out′ : List ℕ} (call : Select m keys classes W class border out r border′ out′) where
+module _ (m : ℕ) (keys classes : List ℕ) (W : Window) (class : ℕ) (border out : List ℕ) {r : Answer} {border′ out′ : List ℕ}
+    (call : Select m keys classes W class border out r border′ out′) where
   abbrev ks : List ℕ
   ks = selection m m keys classes W class
 
   -- the call in numbers
   selects : after r border′ out′ ≡ usedFor refused (values (length ks) 0) ks m keys (length classes) W border out
-  selects =
-      used-crossed ofQueried call
-      ∙ ap (λ (x : After Queried). after (ofQueried (x .answer)) (x .border) (x .out)) (select-is m keys classes W class border out)
-      ∙ used-said Refused (Done (length ks)) ks m keys (length classes) W border out ofQueried
+  selects = used-crossed ofQueried Refused (Done (length ks)) ks m keys (length classes) W border out (select-is m keys classes W class border out) call
 
   pub select-says : r ≡ answer refused (useRows m keys (length classes) W (length border) ++ (row (ltb (length out) (length ks)) 8 (length ks) ∷ [])) (values (length ks) 0)
   select-says = used-says (length ks) 0 ks m keys (length classes) W border out selects
@@ -122,8 +116,8 @@ module _ (m : ℕ) (keys classes : List ℕ) (W : Window) (class : ℕ) (border 
   pub select-numbered : r .refusal ≤ 8
   select-numbered = used-numbered (length ks) 0 ks m keys (length classes) W border out selects
 
-  pub select-refused : (r .refusal ≡ 0 → ⊥) → RefusalLeaves W border out r border′ out′
-  select-refused = used-refused (length ks) 0 ks m keys (length classes) W border out selects
+  pub select-kept : (r .refusal ≡ 0 → ⊥) → RefusalLeaves W border out r border′ out′
+  select-kept = used-kept (length ks) 0 ks m keys (length classes) W border out selects
 
   module _ (z : r .refusal ≡ 0) where
     left : (r ≡ values (length ks) 0) × (border′ ≡ spent W border) × (out′ ≡ overwrite ks out)

@@ -18,18 +18,17 @@ use Rattle.window.specs.Blocks.{Maximal, exponent, maximal}
 use Rattle.window.specs.Decompose.{keysOf}
 use Rattle.window.proofs.Laws.{maximal-listed, listed-ordered, blocks-few, keys-of, keys-length, key-at, decompose-passed, decompose-leaves}
 use Rattle.map.proofs.Laws.{spaced}
-use Rattle.border.specs.declared.Opened.{Opened}
 use Rattle.border.specs.declared.Opened.the-variants.{Done, Refused}
 use Rattle.border.specs.Openings.{Opening, openings, handsOut, cellsOf}
-use Rattle.border.specs.Open.{useRows, After, after, spent, usedFor}
+use Rattle.border.specs.Open.{useRows, after, spent, usedFor}
 use Rattle.border.specs.Promises.{Answerable, openingsIn}
-use Rattle.border.proofs.Laws.{open-is, used-said, openings-in, cells-length, hands-count, hands-all, hands-once, openings-few, hands-some, fewest-whole}
+use Rattle.border.proofs.Laws.{open-is, openings-in, cells-length, hands-count, hands-all, hands-once, openings-few, hands-some, fewest-whole}
 use Rattle.lutniorad.specs.declared.Answer.{Answer}
 use Rattle.lutniorad.specs.Numbers.{values, refused, ofOpened}
 use Rattle.lutniorad.specs.Calls.{Decompose, Open}
 use Rattle.lutniorad.specs.Promises.{RefusalLeaves, DecomposePromise, OpenPromise}
 use Rattle.lutniorad.proofs.Answered.{decompose-says, decompose-answered}
-use Rattle.lutniorad.proofs.Using.{used-crossed, used-says, used-numbered, used-answered, used-leaves, used-refused}
+use Rattle.lutniorad.proofs.Using.{used-crossed, used-says, used-numbered, used-answered, used-leaves, used-kept}
 
 -- ---- decomposing
 
@@ -92,9 +91,8 @@ module _ (m : ℕ) (keys classes : List ℕ) (W : Window) (border out : List ℕ
   -- the call in numbers
   opened : after r border′ out′ ≡ usedFor refused (values (length os) (handsOut os)) (cellsOf os) m keys (length classes) W border out
   opened =
-      used-crossed ofOpened call
-      ∙ ap (λ (x : After Opened). after (ofOpened (x .answer)) (x .border) (x .out)) (open-is m keys (length classes) W border out)
-      ∙ used-said Refused (Done (length os) (handsOut os)) (cellsOf os) m keys (length classes) W border out ofOpened
+      let numbers = Done (length os) (handsOut os) in
+      used-crossed ofOpened Refused numbers (cellsOf os) m keys (length classes) W border out (open-is m keys (length classes) W border out) call
 
   pub open-says : r
       ≡ answer refused (useRows m keys (length classes) W (length border) ++ (row (ltb (length out) (length (cellsOf os))) 8 (length (cellsOf os)) ∷ [])) (values (length os) (handsOut os))
@@ -111,8 +109,8 @@ module _ (m : ℕ) (keys classes : List ℕ) (W : Window) (border out : List ℕ
   pub open-numbered : r .refusal ≤ 8
   open-numbered = used-numbered (length os) (handsOut os) (cellsOf os) m keys (length classes) W border out opened
 
-  pub open-refused : (r .refusal ≡ 0 → ⊥) → RefusalLeaves W border out r border′ out′
-  open-refused = used-refused (length os) (handsOut os) (cellsOf os) m keys (length classes) W border out opened
+  pub open-kept : (r .refusal ≡ 0 → ⊥) → RefusalLeaves W border out r border′ out′
+  open-kept = used-kept (length os) (handsOut os) (cellsOf os) m keys (length classes) W border out opened
 
   module _ (z : r .refusal ≡ 0) where
     left : (r ≡ values (length os) (handsOut os)) × (border′ ≡ spent W border) × (out′ ≡ overwrite (cellsOf os) out)

@@ -16,8 +16,7 @@ use Rattle.answers.proofs.Laws.{on-refused}
 use Rattle.window.specs.declared.Window.{Window}
 use Rattle.border.specs.Open.{useRows, spent, After, after, usedFor}
 use Rattle.border.specs.Promises.{Answerable}
-use Rattle.border.proofs.Laws as Border
-use Rattle.border.proofs.Laws.{use-answerable, numbered-use, numbered-used, used-answerable, used-by-lengths, used-short, used-done}
+use Rattle.border.proofs.Laws.{use-answerable, numbered-use, numbered-used, used-answerable, used-said, used-by-lengths, used-refused, used-short, used-done}
 use Rattle.lutniorad.specs.declared.Answer.{Answer}
 use Rattle.lutniorad.specs.Numbers.{values, refused}
 use Rattle.lutniorad.specs.Calls.{Used}
@@ -25,9 +24,12 @@ use Rattle.lutniorad.specs.Promises.{RefusalLeaves}
 use Rattle.lutniorad.proofs.Told.{told-most, told-when}
 
 -- from the contract of such a call to one outcome in numbers
-pub used-crossed : {A : Type 0} (say : A → Answer) {o : After A} {r : Answer} {border′ out′ : List ℕ} → Used say o r border′ out′
-    → after r border′ out′ ≡ after (say (o .answer)) (o .border) (o .out)
-used-crossed say call = rw (call .answer, call .border-after, call .out-after)
+pub used-crossed : {A : Type 0} (say : A → Answer) (refuse : ℕ → ℕ → A) (done : A) (cells : List ℕ) (m : ℕ) (keys : List ℕ) (classes : ℕ) (W : Window) (border out : List ℕ)
+    {o : After A} {r : Answer} {border′ out′ : List ℕ} → o ≡ usedFor refuse done cells m keys classes W border out → Used say o r border′ out′
+    → after r border′ out′ ≡ usedFor (λ n p. say (refuse n p)) (say done) cells m keys classes W border out
+used-crossed {A} say refuse done cells m keys classes W border out is call =
+    rw (call .answer, call .border-after, call .out-after)
+    (ap (λ (x : After A). after (say (x .answer)) (x .border) (x .out)) is ∙ used-said refuse done cells m keys classes W border out say)
 
 -- a call that answers two values and writes cells
 module _ (first second : ℕ) (cells : List ℕ) (m : ℕ) (keys : List ℕ) (classes : ℕ) (W : Window) (border out : List ℕ) {r : Answer} {border′ out′ : List ℕ}
@@ -52,8 +54,8 @@ module _ (first second : ℕ) (cells : List ℕ) (m : ℕ) (keys : List ℕ) (cl
       (ap (λ (x : After Answer). x .answer) d, ap (λ (x : After Answer). x .border) d, ap (λ (x : After Answer). x .out) d)
 
   -- a refused one leaves the slice as it was, and the border too, but that 8 spends it
-  pub used-refused : (r .refusal ≡ 0 → ⊥) → RefusalLeaves W border out r border′ out′
-  used-refused held = go (verdict (useRows m keys classes W (length border))) refl
+  pub used-kept : (r .refusal ≡ 0 → ⊥) → RefusalLeaves W border out r border′ out′
+  used-kept held = go (verdict (useRows m keys classes W (length border))) refl
     where
       small : {n p : ℕ} → verdict (useRows m keys classes W (length border)) ≡ verdict-of.Refused n p → n ≤ 7
       small e =
@@ -75,7 +77,7 @@ module _ (first second : ℕ) (cells : List ℕ) (m : ℕ) (keys : List ℕ) (cl
           → RefusalLeaves W border out r border′ out′
       go verdict-of.Passed e = room e (decLt (length out) (length cells))
       go (verdict-of.Refused n p) e =
-          let d = call ∙ Border.used-refused refused (values first second) cells m keys classes W border out e in
+          let d = call ∙ used-refused refused (values first second) cells m keys classes W border out e in
           let number : r .refusal ≡ n = ap (λ (x : After Answer). x .answer .refusal) d in
           record {
             out-kept = ap (λ (x : After Answer). x .out) d;

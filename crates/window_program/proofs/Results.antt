@@ -79,7 +79,8 @@ module _ (m : ℕ) (keys classes : List ℕ) (W : Window) (border out : List ℕ
         let list : out′ ≡ totals m keys classes W = sym (take-all 256 out′ (omega arith)) ∙ C .list in
         rw (list, C .pixels) (sym (on-passed refusalLine (useRows m keys (length classes) W 4096) _ (rw wide at (C .passed))))
 
-module _ (m : ℕ) (keys : List ℕ) (classes : ℕ) (W : Window) (border out : List ℕ) {r : Opened} {border′ out′ : List ℕ} (e : after r border′ out′ ≡ openOf m keys classes W border out)
+module _ (m : ℕ) (keys : List ℕ) (classes : ℕ) (W : Window) (border out : List ℕ) {r : Opened} {border′ out′ : List ℕ}
+    (e : after r border′ out′ ≡ openOf m keys classes W border out)
     (passed : verdict (useRows m keys classes W (length border)) ≡ Passed) (few : length keys ≤ 1000) (room : length out ≡ 3000) where
   -- opening does not refuse
   pub open-never : {A : Type 0} {n p : ℕ} → r ≡ opened.Refused n p → A

@@ -1,4 +1,4 @@
--- What the functions outside a window decide: that it is what is printed, and how long a file is.
+-- What is printed outside a window, and how long a file is, test by test as the functions decide it.
 -- Assumes nothing.
 use mathlib.Core.Path.{_≡_, refl, sym, ap, _∙_}
 use mathlib.Core.List.{List, [], _∷_}
