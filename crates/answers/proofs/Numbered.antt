@@ -7,30 +7,39 @@ use mathlib.Core.List.{List, [], _∷_, _++_}
 use Prim.Native.Nat.{ℕ, _≤_}
 use native.Mathlib.Omega.{arith}
 use Rattle.answers.specs.declared.Verdict.the-variants.{Passed, Refused}
-use Rattle.answers.specs.Rows.{Row, row, answer, verdict}
-use Rattle.answers.specs.Sizes.{sizeRows}
+use Rattle.answers.specs.Refusals.{Refusal, refusal, answer, verdict}
+use Rattle.answers.specs.Sizes.{pictureRefusals, countRefusals, sizeRefusals}
+use Rattle.answers.specs.After.{roomRefusals}
 use Rattle.answers.proofs.Tables.{refused-not-passed}
 
--- each row has a number from 1 to `most`
-pub data Numbered (most : ℕ) : List Row → Type 0 where
+-- each refusal has a number from 1 to `most`
+pub data Numbered (most : ℕ) : List Refusal → Type 0 where
   none : Numbered most []
-  more : {r : Row} {rs : List Row} → 1 ≤ r .number → r .number ≤ most → Numbered most rs → Numbered most (r ∷ rs)
+  more : {r : Refusal} {rs : List Refusal} → 1 ≤ r .number → r .number ≤ most → Numbered most rs → Numbered most (r ∷ rs)
 
 module _ {most : ℕ} where
-  pub numbered-row : {b : Bool} (n : ℕ) {p : ℕ} {rs : List Row} → 1 ≤ n → n ≤ most → Numbered most rs → Numbered most (row b n p ∷ rs)
-  numbered-row n l h N = more l h N
+  pub numbered-next : {b : Bool} (n : ℕ) {p : ℕ} {rs : List Refusal} → 1 ≤ n → n ≤ most → Numbered most rs → Numbered most (refusal b n p ∷ rs)
+  numbered-next n l h N = more l h N
 
-  pub numbered-append : {rs ss : List Row} → Numbered most rs → Numbered most ss → Numbered most (rs ++ ss)
+  pub numbered-append : {rs ss : List Refusal} → Numbered most rs → Numbered most ss → Numbered most (rs ++ ss)
   numbered-append none b = b
   numbered-append (more l h a) b = more l h (numbered-append a b)
 
-  pub numbered-sizes : (m keys classes : ℕ) → 2 ≤ most → Numbered most (sizeRows m keys classes)
-  unfolding sizeRows
-  numbered-sizes m keys classes h = numbered-row 1 (omega arith) (omega arith) (numbered-row 2 (omega arith) h none)
+  pub numbered-picture : (m : ℕ) → 1 ≤ most → Numbered most (pictureRefusals m)
+  unfolding pictureRefusals
+  numbered-picture m h = numbered-next 1 (omega arith) h none
+
+  pub numbered-sizes : (m keys classes : ℕ) → 2 ≤ most → Numbered most (sizeRefusals m keys classes)
+  unfolding sizeRefusals countRefusals
+  numbered-sizes m keys classes h = numbered-append (numbered-picture m (omega arith)) (numbered-next 2 (omega arith) h none)
+
+  pub numbered-room : (room needed : ℕ) → 8 ≤ most → Numbered most (roomRefusals room needed)
+  unfolding roomRefusals
+  numbered-room room needed h = numbered-next 8 (omega arith) h none
 
 -- an outcome tells by its number whether it is a refusal
 module _ {A : Type 0} (refuse : ℕ → ℕ → A) (number : A → ℕ) (tells : (n p : ℕ) → number (refuse n p) ≡ n) {most : ℕ} where
-  pub number-zero : {rs : List Row} {a : A} → Numbered most rs → number a ≡ 0 → (number (answer refuse rs a) ≡ 0) ↔ (verdict rs ≡ Passed)
+  pub number-zero : {rs : List Refusal} {a : A} → Numbered most rs → number a ≡ 0 → (number (answer refuse rs a) ≡ 0) ↔ (verdict rs ≡ Passed)
   unfolding answer
   number-zero none e = (λ h. refl, λ h. e)
   number-zero {a = a} (more {r} {rs} l h N) e = go (r .holds) (number-zero N e)
@@ -40,7 +49,7 @@ module _ {A : Type 0} (refuse : ℕ → ℕ → A) (number : A → ℕ) (tells :
       go true ih = (λ z. absurd (omega (arith, tells (r .number) (r .place), l, z)), λ z. absurd (refused-not-passed z))
       go false ih = ih
 
-  pub number-most : {rs : List Row} {a : A} → Numbered most rs → number a ≡ 0 → number (answer refuse rs a) ≤ most
+  pub number-most : {rs : List Refusal} {a : A} → Numbered most rs → number a ≡ 0 → number (answer refuse rs a) ≤ most
   unfolding answer
   number-most none e = omega arith
   number-most {a = a} (more {r} {rs} l h N) e = go (r .holds) (number-most N e)

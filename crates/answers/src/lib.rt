@@ -1,8 +1,8 @@
 // How operations answer: refusals in a stated order, and cells of a lent slice beyond an answer that keep their content.
 // Stands below keys, maps and files, which share the refusals 1 and 2.
 ghost use mathlib.Core.Path.{_≡_};
-ghost use Rattle.answers.specs.Rows.{verdict};
-ghost use Rattle.answers.specs.Sizes.{sizeRows};
+ghost use Rattle.answers.specs.Refusals.{verdict};
+ghost use Rattle.answers.specs.Sizes.{sizeRefusals};
 ghost use Rattle.answers.specs.Cells.{put};
 
 // What a table of refusals says: none of them holds, or the first that does, by its number and its place.
@@ -13,7 +13,7 @@ pub enum Verdict {
 
 // Refusals 1 and 2 of a picture of 2^m by 2^m pixels whose map has so many keys and classes.
 pub fn sizes(m: u32, keys: usize, classes: usize) -> Verdict
-    ensures { λ r. ⌜ r ≡ verdict (sizeRows m keys classes) ⌝ }
+    ensures { λ r. ⌜ r ≡ verdict (sizeRefusals m keys classes) ⌝ }
 {
     if m > 12 {
         return Verdict::Refused {

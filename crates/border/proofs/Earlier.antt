@@ -26,7 +26,7 @@ use Rattle.border.proofs.Handing.{Brought, listed-corner, corner-listed
 use Rattle.border.proofs.Covering.{covered-is}
 
 -- the blocks up to b are maximal
-module _ {W : Window} {top : ℕ} (before : List Px) (b : Px) (after : List Px) (split : maximal W top ≡ before ++ b ∷ after) where
+module _ {W : Window} {top : ℕ} (before : List Px) (b : Px) (later : List Px) (split : maximal W top ≡ before ++ b ∷ later) where
   pub own-corner : Corner W top b
   own-corner = listed-corner (rw split (Memᴰ·append-right before (List·Memᴰ·head refl)))
 
@@ -37,22 +37,22 @@ module _ {W : Window} {top : ℕ} (before : List Px) (b : Px) (after : List Px) 
   each-corner x l = ⊎-elim (earlier-corner x) (λ k. let e : x ≡ b = List·Memᴰ·eq-of-singleton k in rw e own-corner) (List·Memᴰ·append-cases before l)
 
 module _ {m top : ℕ} {keys : List ℕ} (F : Spaced m 0 keys) {W : Window} (I : Inside m W) (small : top ≤ m)
-    (before : List Px) (b : Px) (after : List Px) (split : maximal W top ≡ before ++ b ∷ after) where
-  order : Ordered Before (before ++ b ∷ after)
+    (before : List Px) (b : Px) (later : List Px) (split : maximal W top ≡ before ++ b ∷ later) where
+  order : Ordered Before (before ++ b ∷ later)
   order = rw split at (listed-ordered W top)
 
   -- the blocks before b are those whose corner stands before b
   brought-out : {p : Px} → Brought m top keys W before (pixelTile m keys (p .0) (p .1)) → Out W top (pixelTile m keys) b p
-  brought-out o = record { at = o .at; inside = o .inside; early = ordered-front before after order (o .listed); same = o .is }
+  brought-out o = record { at = o .at; inside = o .inside; early = ordered-front before later order (o .listed); same = o .is }
 
   out-brought : {p : Px} → Out W top (pixelTile m keys) b p → Brought m top keys W before (pixelTile m keys (p .0) (p .1))
-  out-brought o = record { at = o .at; inside = o .inside; listed = front-all before after order (rw split at (corner-listed top (o .inside))) (o .early); is = o .same }
+  out-brought o = record { at = o .at; inside = o .inside; listed = front-all before later order (rw split at (corner-listed top (o .inside))) (o .early); is = o .same }
 
   covered-out : {p : Px} → In W p → Covered m top keys W before p ↔ Out W top (pixelTile m keys) b p
-  covered-out v = let c = covered-is F I small before (earlier-corner before b after split) v in (λ h. brought-out (c .0 h), λ o. c .1 (out-brought o))
+  covered-out v = let c = covered-is F I small before (earlier-corner before b later split) v in (λ h. brought-out (c .0 h), λ o. c .1 (out-brought o))
 
   covered-now : {p : Px} → In W p → Covered m top keys W (before ++ b ∷ []) p ↔ (Out W top (pixelTile m keys) b p ⊎ Now W top (pixelTile m keys) b p)
-  covered-now {p} v = let c = covered-is F I small (before ++ b ∷ []) (each-corner before b after split) v in (λ h. to (c .0 h), λ o. c .1 (from o))
+  covered-now {p} v = let c = covered-is F I small (before ++ b ∷ []) (each-corner before b later split) v in (λ h. to (c .0 h), λ o. c .1 (from o))
     where
       to : Brought m top keys W (before ++ b ∷ []) (pixelTile m keys (p .0) (p .1)) → Out W top (pixelTile m keys) b p ⊎ Now W top (pixelTile m keys) b p
       to o = ⊎-elim
@@ -73,8 +73,8 @@ module _ {m top : ℕ} {keys : List ℕ} (F : Spaced m 0 keys) {W : Window} (I :
 
   pub skip-test : (isHanded m keys (handedBy m top keys W before) (keyOf m top W b) ≡ true) ↔ Out W top (pixelTile m keys) b b
   skip-test =
-      let own = own-corner before b after split in
-      let C = earlier-corner before b after split in
+      let own = own-corner before b later split in
+      let C = earlier-corner before b later split in
       let skip = skip-corner F I small before C own in
       let hand = handed-by F I small before C (pixelTile m keys (b .0) (b .1)) in
       (λ e. brought-out (hand .0 (skip .0 e .0) .0), λ o. skip .1 (hand .1 (out-brought o, known own o (find F (place (b .0) (b .1)))), out-larger I (tiles F) own o))
@@ -82,4 +82,4 @@ module _ {m top : ℕ} {keys : List ℕ} (F : Spaced m 0 keys) {W : Window} (I :
       -- a corner in no record is a tile of its own, which no earlier block brings
       known : Corner W top b → Out W top (pixelTile m keys) b b → Holder m keys (place (b .0) (b .1)) ⊎ Free m keys (place (b .0) (b .1)) → pixelTile m keys (b .0) (b .1) < length keys
       known own o (inl H) = omega (arith, tile-of F H, H .is .within)
-      known own o (inr f) = absurd (before-irrefl (ordered-front before after order (brought-free F I small (own .inside) f (out-brought o))) (own .own))
+      known own o (inr f) = absurd (before-irrefl (ordered-front before later order (brought-free F I small (own .inside) f (out-brought o))) (own .own))

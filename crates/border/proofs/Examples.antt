@@ -6,28 +6,31 @@ use Prim.Native.Nat.{ℕ}
 use native.Mathlib.Omega.{arith}
 use lib.ListN.{take}
 use Rattle.lists.specs.Lists.{upFrom, any, keep, before, howMany, greatest}
-use Rattle.answers.specs.Rows.{answer}
-use Rattle.answers.specs.Sizes.{wrongCount, sizeRows}
+use Rattle.answers.specs.Refusals.{answer}
+use Rattle.answers.specs.Sizes.{wrongCount, sizeRefusals, pictureRefusals, countRefusals}
 use Rattle.answers.specs.Cells.{overwrite}
+use Rattle.answers.specs.After.{after, roomRefusals, roomFor}
 use Rattle.key.specs.Spread.{spreadTo, spread}
 use Rattle.key.specs.Picture.{place}
 use Rattle.key.specs.Key.{pixelKey, blockKey}
 use Rattle.key.specs.Form.{from, formOf}
 use Rattle.window.specs.declared.Window.{Window}
-use Rattle.window.specs.Window.{window, beyond, outside, windowRows}
+use Rattle.window.specs.Window.{window, beyond, outside, windowRefusals}
 use Rattle.window.specs.Blocks.{floor, lies, fits, exponent, corner, across, rows, isCorner, maximal}
 use Rattle.window.specs.Decompose.{keyOf, keysOf}
 use Rattle.map.specs.Spans as spans
-use Rattle.map.specs.Check.{late, rowsFrom, mapRows}
+use Rattle.map.specs.Check.{late, refusalsFrom, mapRefusals}
 use Rattle.map.specs.Records.{recordOf, exponentOf}
 use Rattle.map.specs.Runs.{runOf}
 use Rattle.border.specs.declared.Stepped.the-variants as stepped
+use Rattle.border.specs.declared.Opened.{Opened}
 use Rattle.border.specs.declared.Opened.the-variants.{Done, Refused}
-use Rattle.border.specs.Openings.{indices, within, isHanded, made, opening, openFrom, handedAfter, openings, handsOut, cellsOf}
+use Rattle.border.specs.Openings.{isHanded, made, opening, openFrom, handedAfter, openings, handedCount, cellsOf}
+use Rattle.map.specs.Spans.{within}
 use Rattle.border.specs.Cells.{filled, raised, closed}
-use Rattle.border.specs.Step.{afterStep, stepOf}
+use Rattle.border.specs.Step.{stepOf}
 use Rattle.border.specs.Promises.{Answerable, openingsIn, bringing}
-use Rattle.border.specs.Open.{useRows, spent, after, usedFor, openOf}
+use Rattle.border.specs.Open.{useRefusals, spent, usedFor, openOf, borderRefusals}
 use Rattle.border.proofs.Use.{use-answerable}
 
 abbrev keys : List ℕ
@@ -47,13 +50,13 @@ pub record Examples : Type 0 where
   -- one record over all: the first block opens it, and all others are skipped
   pub single : openings 2 2 (0 ∷ []) W ≡ made 7 0 1 ∷ []
   -- P1's first steps: block 7 raises the cell of its column to the bottom of record 0; block 9, after block 10, is skipped
-  pub step-7 : stepOf 2 2 keys W (0, 1) (0 ∷ 0 ∷ 0 ∷ []) ≡ afterStep (stepped.Opened 7 0 1 1 0) (2 ∷ 0 ∷ 0 ∷ [])
-  pub step-10 : stepOf 2 2 keys W (0, 2) (2 ∷ 0 ∷ 0 ∷ []) ≡ afterStep (stepped.Opened 10 1 4 1 0) (2 ∷ 2 ∷ 2 ∷ [])
-  pub step-9 : stepOf 2 2 keys W (1, 1) (2 ∷ 2 ∷ 2 ∷ []) ≡ afterStep stepped.Skipped (2 ∷ 2 ∷ 2 ∷ [])
+  pub step-7 : stepOf 2 2 keys W (0, 1) (0 ∷ 0 ∷ 0 ∷ []) ≡ after (stepped.Opened 7 0 1 1 0) (2 ∷ 0 ∷ 0 ∷ [])
+  pub step-10 : stepOf 2 2 keys W (0, 2) (2 ∷ 0 ∷ 0 ∷ []) ≡ after (stepped.Opened 10 1 4 1 0) (2 ∷ 2 ∷ 2 ∷ [])
+  pub step-9 : stepOf 2 2 keys W (1, 1) (2 ∷ 2 ∷ 2 ∷ []) ≡ after stepped.Skipped (2 ∷ 2 ∷ 2 ∷ [])
   -- borders of two and of three cells, answer slices of 11 and of 12 cells
-  pub narrow : openOf 2 keys 7 W (take 2 old) old ≡ after (Refused 7 3) (take 2 old) old
-  pub short : openOf 2 keys 7 W (take 3 old) (take 11 old) ≡ after (Refused 8 12) (3 ∷ 3 ∷ 3 ∷ []) (take 11 old)
-  pub done : openOf 2 keys 7 W (take 4 old) old ≡ after (Done 4 7) (3 ∷ 3 ∷ 3 ∷ 93 ∷ []) (7 ∷ 0 ∷ 1 ∷ 10 ∷ 1 ∷ 4 ∷ 17 ∷ 5 ∷ 1 ∷ 21 ∷ 6 ∷ 1 ∷ 102 ∷ [])
+  pub narrow : openOf 2 keys 7 W (take 2 old) old ≡ after (Refused 7 3) (take 2 old, old)
+  pub short : openOf 2 keys 7 W (take 3 old) (take 11 old) ≡ after (Refused 8 12) (3 ∷ 3 ∷ 3 ∷ [], take 11 old)
+  pub done : openOf 2 keys 7 W (take 4 old) old ≡ after (Done 4 7) (3 ∷ 3 ∷ 3 ∷ 93 ∷ [], 7 ∷ 0 ∷ 1 ∷ 10 ∷ 1 ∷ 4 ∷ 17 ∷ 5 ∷ 1 ∷ 21 ∷ 6 ∷ 1 ∷ 102 ∷ [])
   -- the openings that stand in those cells; and three border cells are enough, two are not
   pub in-cells : openingsIn (7 ∷ 0 ∷ 1 ∷ 10 ∷ 1 ∷ 4 ∷ 17 ∷ 5 ∷ 1 ∷ 21 ∷ 6 ∷ 1 ∷ []) ≡ openings 2 2 keys W
   pub answerable : Answerable 2 keys 7 W 3
@@ -63,19 +66,19 @@ pub record Examples : Type 0 where
   -- two of them bring a record
   pub two : bringing (openings 2 2 gapped W) ≡ made 10 0 1 ∷ made 21 1 1 ∷ []
   -- an empty block raises its own column
-  pub step-none : stepOf 2 2 gapped W (0, 1) (0 ∷ 0 ∷ 0 ∷ []) ≡ afterStep (stepped.Opened 7 0 0 0 0) (1 ∷ 0 ∷ 0 ∷ [])
+  pub step-none : stepOf 2 2 gapped W (0, 1) (0 ∷ 0 ∷ 0 ∷ []) ≡ after (stepped.Opened 7 0 0 0 0) (1 ∷ 0 ∷ 0 ∷ [])
   -- with blocks of one pixel and no larger, P1's records 1 to 4 take an opening each, and record 6 one still
   pub pixels : openings 2 0 keys W ≡ made 7 0 1 ∷ made 11 1 1 ∷ made 12 2 1 ∷ made 13 3 1 ∷ made 14 4 1 ∷ made 17 5 1 ∷ made 21 6 1 ∷ []
   -- refusals in their order: the map's, then the window's, then the border's
-  pub map-first : openOf 2 (take 6 keys) 6 (window 0 0 0 0) [] [] ≡ after (Refused 5 6) [] []
-  pub window-next : openOf 2 keys 7 (window 2 0 3 1) [] [] ≡ after (Refused 6 0) [] []
-  pub large : openOf 13 [] 7 (window 0 0 0 0) [] [] ≡ after (Refused 1 0) [] []
+  pub map-first : openOf 2 (take 6 keys) 6 (window 0 0 0 0) [] [] ≡ after (Refused 5 6) ([], [])
+  pub window-next : openOf 2 keys 7 (window 2 0 3 1) [] [] ≡ after (Refused 6 0) ([], [])
+  pub large : openOf 13 [] 7 (window 0 0 0 0) [] [] ≡ after (Refused 1 0) ([], [])
 
 pub examples : Examples
-unfolding answer wrongCount sizeRows overwrite upFrom spreadTo spread place pixelKey blockKey from formOf beyond outside windowRows keep floor lies
+unfolding pictureRefusals countRefusals borderRefusals roomRefusals roomFor answer wrongCount sizeRefusals overwrite upFrom spreadTo spread place pixelKey blockKey from formOf beyond outside windowRefusals keep floor lies
     fits greatest exponent corner across rows isCorner maximal keyOf keysOf spans.malformed spans.exponent spans.start spans.end spans.holds
-    spans.overlap late rowsFrom mapRows before howMany recordOf exponentOf runOf any indices within isHanded opening openFrom handedAfter openings
-    handsOut cellsOf openingsIn bringing filled raised closed stepOf useRows spent usedFor openOf
+    spans.overlap late refusalsFrom mapRefusals before howMany recordOf exponentOf runOf any within isHanded opening openFrom handedAfter openings
+    handedCount cellsOf openingsIn bringing filled raised closed stepOf useRefusals spent usedFor openOf
 examples = record {
   single = refl;
   step-7 = refl;

@@ -19,12 +19,12 @@ use Rattle.window.specs.Decompose.{keyOf, keysOf}
 use Rattle.window.proofs.Laws.{before-irrefl, trichotomy, keys-of, blocks-few, blocks-capped}
 use Rattle.map.specs.Sound.{Spaced}
 use Rattle.map.proofs.Laws.{tiles}
-use Rattle.border.specs.Openings.{met, Opening, openings, handsOut}
+use Rattle.border.specs.Openings.{met, Opening, openings, handedCount, hands}
 use Rattle.border.specs.Step.{Corner}
-use Rattle.border.specs.Promises.{Overlaps, openingAt, hands, allHands, HandedOut, bringing, Enough}
+use Rattle.border.specs.Promises.{Overlaps, openingAt, allHands, HandedOut, bringing, Enough}
 use Rattle.border.proofs.Sweep.{clash}
 use Rattle.border.proofs.Overlaps.{met-pixels}
-use Rattle.border.proofs.Fold.{opening-hands, opening-own}
+use Rattle.border.proofs.Fold.{opening-own}
 use Rattle.border.proofs.Hands.{in-hands, hands-count, bringing-in, bringing-hands, bringing-map, bringing-most}
 use Rattle.border.proofs.Handing.{listed-corner}
 use Rattle.border.proofs.Chosen.{Chosen, chosen}
@@ -77,7 +77,7 @@ module _ {m top : ℕ} {keys : List ℕ} (F : Spaced m 0 keys) {W : Window} (I :
           let first : List·Memᴰ (o .first) (hands o) = up-in (o .first) (o .count) (o .first) .1 (omega (arith, ltb-true 0 (o .count) (keep-true some-count (C .corners) l))) in
           let listed : List·Memᴰ o (openings m top keys W) = rw (C .are) (Memᴰ·map (openingAt m top keys W) (keep-in some-count (C .corners) l)) in
           let t = E .brings (o .first) (hands-all F I small (o .first) .1 (record { by = o; listed = listed; hands = first })) in
-          (t .0, t .1, (o .first, rw (opening-hands m keys (keyOf m top W b)) at first, E .blocks (t .0) (t .1), t .2))
+          (t .0, t .1, (o .first, first, E .blocks (t .0) (t .1), t .2))
 
       not-both : {b b′ : Px} {k : ℕ} → List·Memᴰ b (keep some-count (C .corners)) → List·Memᴰ b′ (keep some-count (C .corners)) → Brings b k → Brings b′ k → ¬ Before b b′
       not-both l l′ (n, h, i, g) (n′, h′, i′, g′) =
@@ -100,7 +100,7 @@ module _ {m top : ℕ} {keys : List ℕ} (F : Spaced m 0 keys) {W : Window} (I :
       (pigeon _≡_ (maximal W top) (ordered-imp (λ x y h. before-irrefl h) (C .order)) (λ b l. (b, C .from b l, refl)) (λ b b′ x l l′ e d. e ∙ sym d))
 
   -- and they hand out no more records than there are
-  pub records-most : handsOut (openings m top keys W) ≤ length keys
+  pub records-most : handedCount (openings m top keys W) ≤ length keys
   records-most =
       let below : (n : ℕ) → List·Memᴰ n (allHands (openings m top keys W)) → n < length keys = λ n l. hands-all F I small n .1 (in-hands (openings m top keys W) n .0 l) .1 in
       let all = upFrom 0 (length keys) in

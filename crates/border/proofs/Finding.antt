@@ -20,7 +20,7 @@ use Rattle.border.specs.Openings.{Opening, made, opening, handedAfter, o
 use Rattle.border.specs.Border.{Stated, Covered}
 use Rattle.border.specs.Cells.{filled}
 use Rattle.border.specs.Step.{Corner, Usable}
-use Rattle.border.specs.Found.{leftOver, madeFrom, leftFrom, walk, spot, Reached, Kept, Finds}
+use Rattle.border.specs.Found.{stepsLeave, walkMakes, walkLeaves, walk, spot, Reached, Kept, Finds}
 use Rattle.border.specs.Found as finds
 use Rattle.border.specs.Open.{spent}
 use Rattle.border.proofs.Filled.{filled-length, filled-beyond}
@@ -37,8 +37,8 @@ pub use Rattle.border.proofs.Stepping.{filled-spent}
 pub record Finding (m top : ℕ) (keys : List ℕ) (W : Window) (border₀ border : List ℕ) (at : Walk) (done : List Opening) : Type 0 where
   pub reached : Reached m top keys W at border
   pub kept : Kept W border₀ border
-  pub all : openings m top keys W ≡ done ++ madeFrom m top keys W border (spot at)
-  pub left : leftFrom m top keys W border (spot at) ≡ spent W border₀
+  pub all : openings m top keys W ≡ done ++ walkMakes m top keys W border (spot at)
+  pub left : walkLeaves m top keys W border (spot at) ≡ spent W border₀
 
 -- at first, behind a border that is filled anew
 module _ {m top : ℕ} {keys : List ℕ} {W : Window} (cells : List ℕ) {border : List ℕ} (U : Usable m top keys W (length cells)) (e : border ≡ filled 0 (W .w) (W .r0) cells) where
@@ -64,7 +64,7 @@ module _ {m top : ℕ} {keys : List ℕ} {W : Window} (cells : List ℕ) {border
     kept = kept-none;
     all = openings-are m top keys W ∙ rw (← walked .all) (sym (A .openings));
     left =
-        let t = ends (leftOver m top keys W border (maximal W top)) (λ p v. all-covered (U .spaced) (U .inside) (U .cap) v) (omega (arith, fresh-usable .wide, A .kept .same)) (A .stated) in
+        let t = ends (stepsLeave m top keys W border (maximal W top)) (λ p v. all-covered (U .spaced) (U .inside) (U .cap) v) (omega (arith, fresh-usable .wide, A .kept .same)) (A .stated) in
         let l : length (replicate (W .w) (W .r0 + W .h)) ≡ W .w = length-replicate (W .w) (W .r0 + W .h) in
         rw (← walked .all) (sym (take-append-drop (W .w) _) ∙ rw (t, A .kept .beyond) (rw l at (overwrite-part (replicate (W .w) (W .r0 + W .h)) border)));
   }
@@ -116,7 +116,7 @@ module _ {m top : ℕ} {keys : List ℕ} {W : Window} {at : Walk} {cells border 
       → Finds m top keys W at cells (found.Opening row col i key first count far on) border → Opens m top keys W (row, col) first count far
   unfolding opening
   finds-opens {done = done} U F (finds.opening K x n f R k e l) =
-      let listed : List·Memᴰ (made key first count) (openings m top keys W) = rw (F .all, e) (Memᴰ·append-right done (List·Memᴰ·head {xs = madeFrom m top keys W border (spot on)} refl)) in
+      let listed : List·Memᴰ (made key first count) (openings m top keys W) = rw (F .all, e) (Memᴰ·append-right done (List·Memᴰ·head {xs = walkMakes m top keys W border (spot on)} refl)) in
       let t = opening-block m top keys W listed in
       let d : keyOf m top W (t .0) ≡ keyOf m top W (row, col) = sym (ap (λ (o : Opening). o .key) (t .2)) ∙ n in
       let far-own = far-is (U .spaced) (U .inside) (U .cap) K in
@@ -128,5 +128,5 @@ module _ {m top : ℕ} {keys : List ℕ} {W : Window} {at : Walk} {cells border 
   finds-exponent (finds.opening K x n f R k e l) = (x, n)
 
   pub finds-less : Finds m top keys W at cells (found.Opening row col i key first count far on) border
-      → length (madeFrom m top keys W border (spot on)) < length (madeFrom m top keys W cells (spot at))
+      → length (walkMakes m top keys W border (spot on)) < length (walkMakes m top keys W cells (spot at))
   finds-less (finds.opening K x n f R k e l) = rw e (omega arith)

@@ -1,6 +1,6 @@
 -- What has been handed out when some maximal blocks have been gone through: the records of their pixels, whichever were skipped; in the end, the records that overlap the window.
 -- Assumes nothing.
-use mathlib.Core.Path.{_≡_, refl, sym, ap, _∙_}
+use mathlib.Core.Path.{_≡_, refl, sym, ap}
 use mathlib.Core.Logic.{_↔_, _⊎_, inl, inr, ⊎-elim}
 use mathlib.Core.Bool.{Bool, true}
 use mathlib.Core.List.{List, [], map, List·Memᴰ, Memᴰ·cast, Memᴰ·map}
@@ -20,13 +20,14 @@ use Rattle.window.proofs.Laws.{same-up, corner-in, corner-corner, corner→same
 use Rattle.map.specs.Sound.{Spaced}
 use Rattle.map.specs.Records.{Holder, Free, pixelTile, pixelExponent}
 use Rattle.map.proofs.Laws.{tiles, find, tile-of, tile-none, record-tile}
-use Rattle.border.specs.Openings.{met, within, isHanded, opening, openFrom}
+use Rattle.border.specs.Openings.{met, isHanded, opening, openFrom, hands}
+use Rattle.map.specs.Spans.{within}
 use Rattle.border.specs.Border.{handedBy}
 use Rattle.border.specs.Step.{Corner}
-use Rattle.border.specs.Promises.{Overlaps, hands}
+use Rattle.border.specs.Promises.{Overlaps}
 use Rattle.border.proofs.Sweep.{joined}
 use Rattle.border.proofs.Overlaps.{met-pixels, in-record}
-use Rattle.border.proofs.Fold.{opening-hands, hands-opens, opens-or-lies, opened-block}
+use Rattle.border.proofs.Fold.{hands-opens, opens-or-lies, opened-block}
 use Rattle.border.proofs.Hands.{in-hands}
 
 -- tile n is that of a pixel of one of the blocks with these corners
@@ -52,7 +53,7 @@ module _ {m top : ℕ} {keys : List ℕ} (F : Spaced m 0 keys) {W : Window} (I :
     handed-brought n l =
         let h = in-hands (openFrom m keys [] ks) n .0 (rw (hands-opens m keys [] ks) at l) in
         let t = opened-block m top keys W bs (h .listed) in
-        let e : hands (h .by) ≡ met m keys (keyOf m top W (t .0)) = ap hands (t .2) ∙ opening-hands m keys (keyOf m top W (t .0)) in
+        let e : hands (h .by) ≡ met m keys (keyOf m top W (t .0)) = ap hands (t .2) in
         let o = met-pixels F I small (C (t .0) (t .1)) n .0 (rw e at (h .hands)) in
         (record { at = o .0 .at; inside = o .0 .inside; listed = rw (o .0 .block) (t .1); is = o .0 .is }, o .1)
 
@@ -92,7 +93,7 @@ module _ {m top : ℕ} {keys : List ℕ} (F : Spaced m 0 keys) {W : Window} (I :
             opened : List·Memᴰ (opening m keys (keyOf m top W (corner W top (o .at)))) (openFrom m keys [] ks) → List·Memᴰ n (handedBy m top keys W bs)
             opened x =
                 let own = met-pixels F I small K n .1 (record { at = o .at; inside = o .inside; block = refl; is = o .is }, l) in
-                let hand = in-hands (openFrom m keys [] ks) n .1 (record { by = _; listed = x; hands = rw (opening-hands m keys (keyOf m top W (corner W top (o .at)))) own }) in
+                let hand = in-hands (openFrom m keys [] ks) n .1 (record { by = _; listed = x; hands = own }) in
                 rw (hands-opens m keys [] ks) hand
 
   -- in the end the records that overlap the window

@@ -14,8 +14,8 @@ use lib.ListN.{length, length-append}
 use borrow.Author.Tests.{lt-ltb, le-ltb}
 use Rattle.lists.specs.Lists.{keep}
 use Rattle.lists.proofs.Laws.{up-in, up-length, keep-empty, keep-taken, keep-passed, keep-in, in-keep, keep-map, keep-all}
-use Rattle.border.specs.Openings.{Opening, handsOut, cellsOf}
-use Rattle.border.specs.Promises.{hands, openingsIn, allHands, HandedOut, bringing}
+use Rattle.border.specs.Openings.{Opening, handedCount, cellsOf, hands}
+use Rattle.border.specs.Promises.{openingsIn, allHands, HandedOut, bringing}
 
 pub hands-none : allHands [] ≡ []
 unfolding allHands
@@ -44,8 +44,8 @@ in-hands (o ∷ os) n = let ih = in-hands os n in (λ l. to (ih .0) (List·Mem�
     from ih h (inr l) = Memᴰ·append-right (hands o) (ih (record { by = h .by; listed = l; hands = h .hands }))
 
 -- their number is that of the records
-pub hands-count : (os : List Opening) → handsOut os ≡ length (allHands os)
-unfolding handsOut allHands
+pub hands-count : (os : List Opening) → handedCount os ≡ length (allHands os)
+unfolding handedCount allHands
 hands-count [] = refl
 hands-count (o ∷ os) = omega (arith, length-append (hands o) (allHands os), up-length (o .first) (o .count), hands-count os)
 
@@ -67,13 +67,13 @@ unfolding openingsIn cellsOf
 openings-in [] = refl
 openings-in (o ∷ os) = rw (openings-in os)
 
-pub count-append : (os os′ : List Opening) → handsOut (os ++ os′) ≡ handsOut os + handsOut os′
-unfolding handsOut
+pub count-append : (os os′ : List Opening) → handedCount (os ++ os′) ≡ handedCount os + handedCount os′
+unfolding handedCount
 count-append [] os′ = omega arith
 count-append (o ∷ os) os′ = omega (arith, count-append os os′)
 
-pub count-one : (o : Opening) → handsOut (o ∷ []) ≡ o .count
-unfolding handsOut
+pub count-one : (o : Opening) → handedCount (o ∷ []) ≡ o .count
+unfolding handedCount
 count-one o = omega arith
 
 -- ---- the openings that bring a record
@@ -102,11 +102,11 @@ unfolding bringing
 bringing-map f l = keep-map some f l
 
 -- they are no more than the records
-pub bringing-most : (os : List Opening) → length (bringing os) ≤ handsOut os
-unfolding bringing handsOut
+pub bringing-most : (os : List Opening) → length (bringing os) ≤ handedCount os
+unfolding bringing handedCount
 bringing-most [] = rw (keep-empty some) (omega arith)
 bringing-most (o ∷ os) = go (decLt 0 (o .count)) (bringing-most os)
   where
-    go : Dec (0 < o .count) → length (keep some os) ≤ handsOut os → length (keep some (o ∷ os)) ≤ o .count + handsOut os
+    go : Dec (0 < o .count) → length (keep some os) ≤ handedCount os → length (keep some (o ∷ os)) ≤ o .count + handedCount os
     go (yes h) ih = rw (keep-taken some os (lt-ltb 0 (o .count) h)) (omega arith)
     go (no h) ih = rw (keep-passed some os (le-ltb 0 (o .count) (omega arith))) (omega arith)

@@ -13,13 +13,13 @@ use Rattle.window.specs.Decompose.{keyOf}
 use Rattle.map.specs.Sound.{Spaced}
 use Rattle.map.specs.Records.{pixelTile}
 use Rattle.map.proofs.Laws.{tiles}
-use Rattle.border.specs.Openings.{met, Opening, openings}
+use Rattle.border.specs.Openings.{met, Opening, openings, hands}
 use Rattle.border.specs.Border.{handedBy}
 use Rattle.border.specs.Step.{Corner}
-use Rattle.border.specs.Promises.{Overlaps, openingAt, hands, allHands, HandedOut, Apart}
+use Rattle.border.specs.Promises.{Overlaps, openingAt, allHands, HandedOut, Apart}
 use Rattle.border.proofs.Sweep.{Out, Now, now-fresh}
 use Rattle.border.proofs.Overlaps.{met-pixels}
-use Rattle.border.proofs.Fold.{opening-hands, openings-are, handed-opened}
+use Rattle.border.proofs.Fold.{openings-are, handed-opened}
 use Rattle.border.proofs.Hands.{in-hands}
 use Rattle.border.proofs.Handing.{listed-corner, handed-all}
 use Rattle.border.proofs.Chosen.{chosen}
@@ -55,9 +55,9 @@ module _ {m top : ℕ} {keys : List ℕ} (F : Spaced m 0 keys) {W : Window} (I :
   blocks-apart : {b b′ : Px} → Corner W top b → Corner W top b′ → Before b b′ → ¬ Out W top (pixelTile m keys) b′ b′
       → Apart (openingAt m top keys W b) (openingAt m top keys W b′)
   blocks-apart {b} {b′} C C′ h f n l l′ =
-      let o = met-pixels F I small C n .0 (rw (opening-hands m keys (keyOf m top W b)) at l) .0 in
+      let o = met-pixels F I small C n .0 l .0 in
       now-fresh I (tiles F) C′ (o .inside) f
-      (met-now n C′ (rw (opening-hands m keys (keyOf m top W b′)) at l′) (o .is))
+      (met-now n C′ l′ (o .is))
       (record { at = o .at; inside = o .inside; early = rw (o .block) h; same = refl })
 
   -- no record is handed out twice

@@ -2,15 +2,12 @@
 -- Assumes nothing.
 use mathlib.Core.Path.{_≡_, sym, _∙_}
 use mathlib.Core.Logic.{_↔_}
-use mathlib.Core.Bool.{true, _&&_}
+use mathlib.Core.Bool.{true}
 use mathlib.Core.List.{List, List·Memᴰ}
 use Prim.Native.Nat.{ℕ, max, _+_, _^_, _≤_, _<_}
 use native.Mathlib.Decide.{decLt}
 use native.Mathlib.Omega.{arith}
-use lib.Dec.{leb}
-use borrow.Author.Tests.{leb-true, le-leb}
 use lib.ListN.{length, getD}
-use Rattle.lists.proofs.Tests.{both}
 use Rattle.key.specs.Picture.{Pixel, place, PixelAt}
 use Rattle.key.specs.Form.{formOf}
 use Rattle.key.specs.Blocks.{Names, Among, Inside as Covers, Stand, within as lies-in, around, after, before}
@@ -20,26 +17,14 @@ use Rattle.window.specs.Window.{Px, In, Inside}
 use Rattle.window.specs.Blocks.{Same, exponent, corner}
 use Rattle.window.specs.Decompose.{keyOf}
 use Rattle.window.proofs.Laws.{same-div, fits-all, exponent-fits, same→corner, corner→same, pixel-in, key-named}
-use Rattle.map.specs.Spans.{holds}
+use Rattle.map.specs.Spans.{holds, within}
 use Rattle.map.specs.Sound.{Spaced}
 use Rattle.map.specs.Records.{Record, SomeRecord, Holder, pixelTile, pixelExponent}
 use Rattle.map.specs.Runs.{runOf, BlockOf, Overlap, Meets}
-use Rattle.map.proofs.Laws.{record-at, apart, block-records, reach-is, tile-of, tile-holder, exponent-of, start-is, end-is, holds-is}
-use Rattle.border.specs.Openings.{met, within}
+use Rattle.map.proofs.Laws.{record-at, apart, block-records, reach-is, tile-of, tile-holder, exponent-of, holds-is, within-is}
+use Rattle.border.specs.Openings.{met}
 use Rattle.border.specs.Step.{Corner, reach}
 use Rattle.border.proofs.Fold.{met-in}
-
--- ---- a block in another
-
-pub within-is : {m a i s b j t : ℕ} → Names m a i s → Names m b j t → (within (formOf m a) (formOf m b) ≡ true) ↔ Covers t (4 ^ j) s (4 ^ i)
-unfolding within
-within-is {i = i} {s = s} {j = j} {t = t} x y = rw (start-is x, end-is x, start-is y, end-is y) (
-  λ e. let h = tests .0 e in record { least = leb-true t s (h .0); most = leb-true (s + 4 ^ i) (t + 4 ^ j) (h .1) },
-  λ h. tests .1 (le-leb t s (h .least), le-leb (s + 4 ^ i) (t + 4 ^ j) (h .most)),
-)
-  where
-    tests : (leb t s && leb (s + 4 ^ i) (t + 4 ^ j) ≡ true) ↔ ((leb t s ≡ true) × (leb (s + 4 ^ i) (t + 4 ^ j) ≡ true))
-    tests = both _ _
 
 -- ---- the records of a block
 

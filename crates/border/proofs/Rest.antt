@@ -12,7 +12,7 @@ use Rattle.border.specs.declared.Stepped.{Stepped}
 use Rattle.border.specs.Openings.{openFrom, handedAfter}
 use Rattle.border.specs.Border.{Stated, handedBy, Covered}
 use Rattle.border.specs.Step.{Corner, Usable, Step}
-use Rattle.border.specs.Found.{madeOver, leftOver, Kept}
+use Rattle.border.specs.Found.{stepsMake, stepsLeave, Kept}
 use Rattle.border.proofs.Fold.{opens-none, opens-append, handed-append}
 use Rattle.border.proofs.Earlier.{own-corner}
 use Rattle.border.proofs.Making.{made-is, stated-step}
@@ -20,13 +20,13 @@ use Rattle.border.proofs.Stepping.{kept-none, kept-more, step-kept, mad
 
 -- when the blocks of `past` are past, steps over those of `bs`, which are to come, make the rest of the openings and leave a border on which all is out
 pub record Ahead (m top : ℕ) (keys : List ℕ) (W : Window) (past bs : List Px) (cells : List ℕ) : Type 0 where
-  pub openings : madeOver m top keys W cells bs ≡ openFrom m keys (handedBy m top keys W past) (map (keyOf m top W) bs)
-  pub stated : Stated W (Covered m top keys W (maximal W top)) (leftOver m top keys W cells bs)
-  pub kept : Kept W cells (leftOver m top keys W cells bs)
+  pub openings : stepsMake m top keys W cells bs ≡ openFrom m keys (handedBy m top keys W past) (map (keyOf m top W) bs)
+  pub stated : Stated W (Covered m top keys W (maximal W top)) (stepsLeave m top keys W cells bs)
+  pub kept : Kept W cells (stepsLeave m top keys W cells bs)
 
 pub ahead-is : {m top : ℕ} {keys : List ℕ} {W : Window} (past bs : List Px) (cells : List ℕ) → Usable m top keys W (length cells) → maximal W top ≡ past ++ bs
     → Stated W (Covered m top keys W past) cells → Ahead m top keys W past bs cells
-unfolding madeOver leftOver
+unfolding stepsMake stepsLeave
 ahead-is {m} {top} {keys} {W} past [] cells U split st = record {
   openings = rw opens-none;
   stated = rw (split, append-nil) st;

@@ -1,22 +1,19 @@
 -- Three cells for each record of the map are room for every answer.
 -- Assumes nothing.
-use mathlib.Core.Path.{_≡_, sym, ap, _∙_}
+use mathlib.Core.Path.{_≡_}
 use mathlib.Core.List.{List}
 use Prim.Native.Nat.{ℕ, _*_, _≤_}
 use native.Mathlib.Omega.{arith}
 use lib.ListN.{length}
 use Rattle.answers.specs.declared.Verdict.the-variants as verdict-of
-use Rattle.answers.specs.Rows.{verdict}
+use Rattle.answers.specs.Refusals.{verdict}
 use Rattle.window.specs.declared.Window.{Window}
 use Rattle.window.specs.Window.{Inside}
 use Rattle.map.specs.Sound.{Follow}
 use Rattle.map.proofs.Laws.{spaced}
-use Rattle.border.specs.declared.Opened.{Opened}
-use Rattle.border.specs.declared.Opened.the-variants.{Done, Refused}
-use Rattle.border.specs.Openings.{openings, handsOut, cellsOf}
-use Rattle.border.specs.Open.{useRows, After, after, accepted, openOf}
+use Rattle.border.specs.Openings.{openings, cellsOf}
+use Rattle.border.specs.Open.{useRefusals}
 use Rattle.border.proofs.Use.{use-known, use-whole}
-use Rattle.border.proofs.Tables.{open-done}
 use Rattle.border.proofs.Hands.{cells-length}
 use Rattle.border.proofs.Fewest.{bringing-records}
 use Rattle.border.proofs.Whole.{all-bring}
@@ -26,24 +23,12 @@ pub openings-records : {m top : ℕ} {keys : List ℕ} → Follow m 0 keys → {
 openings-records F I small = rw (← all-bring F I small) (bringing-records (spaced F) I small)
 
 -- so three cells for each record hold the openings with a cap
-pub capped-fit : (m top : ℕ) (keys : List ℕ) (classes : ℕ) (W : Window) (border : ℕ) → top ≤ m → verdict (useRows m keys classes W border) ≡ verdict-of.Passed
+pub capped-fit : (m top : ℕ) (keys : List ℕ) (classes : ℕ) (W : Window) (border : ℕ) → top ≤ m → verdict (useRefusals m keys classes W border) ≡ verdict-of.Passed
     → (length (openings m top keys W) ≤ length keys) × (length (cellsOf (openings m top keys W)) ≡ 3 * length (openings m top keys W))
 capped-fit m top keys classes W border small e =
     (openings-records (use-whole m keys classes W border e) (use-known m keys classes W border e .inside) small, cells-length (openings m top keys W))
 
 -- and without one
-pub openings-fit : (m : ℕ) (keys : List ℕ) (classes : ℕ) (W : Window) (border : ℕ) → verdict (useRows m keys classes W border) ≡ verdict-of.Passed
+pub openings-fit : (m : ℕ) (keys : List ℕ) (classes : ℕ) (W : Window) (border : ℕ) → verdict (useRefusals m keys classes W border) ≡ verdict-of.Passed
     → (length (openings m m keys W) ≤ length keys) × (length (cellsOf (openings m m keys W)) ≡ 3 * length (openings m m keys W))
 openings-fit m keys classes W border = capped-fit m m keys classes W border (omega arith)
-
--- so 8 is not given
-pub roomy : (m : ℕ) (keys : List ℕ) (classes : ℕ) (W : Window) (border out : List ℕ) {n p : ℕ} {border′ out′ : List ℕ}
-    → verdict (useRows m keys classes W (length border)) ≡ verdict-of.Passed → 3 * length keys ≤ length out
-    → openOf m keys classes W border out ≡ after (Refused n p) border′ out′ → ⊥
-unfolding accepted
-roomy m keys classes W border out {n} {p} e l r =
-    let os = openings m m keys W in
-    let done = open-done m keys classes W border out e (omega (arith, openings-fit m keys classes W (length border) e .0)) in
-    let d : Refused n p ≡ Done (length os) (handsOut os) = ap (λ (x : After Opened). x .answer) (sym r ∙ done) in
-    let z : _≡_ {A = ℕ} 0 1 = cc in
-    omega arith

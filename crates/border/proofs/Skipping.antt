@@ -15,18 +15,19 @@ use Rattle.border.specs.declared.Stepped.the-variants as stepped
 use Rattle.border.specs.declared.Walk.{Walk}
 use Rattle.border.specs.declared.Found.the-variants as found
 use Rattle.border.specs.Step.{madeBy, Corner, Usable, Ready, Step}
-use Rattle.border.specs.Found.{madeOver, leftOver, madeFrom, leftFrom, columnsLeft, walk, spot, Reached, Kept, Finds}
+use Rattle.border.specs.Found.{stepsMake, stepsLeave, walkMakes, walkLeaves, columnsLeft, walk, spot, Reached, Kept, Finds}
 use Rattle.border.specs.Found as finds
 use Rattle.border.proofs.Columns.{left-none}
 use Rattle.border.proofs.Handing.{listed-corner}
 use Rattle.border.proofs.Making.{high-is, stated-step}
 use Rattle.border.proofs.Stepping.{kept-none, kept-more, step-kept, step-key, made-step, left-step, shutBy, step-left}
+use Rattle.border.specs.declared.Opened.{Opened}
 
 -- ---- where no column is left, every block is skipped
 
 module _ (m top : ℕ) (keys : List ℕ) {W : Window} {cells : List ℕ} (none : columnsLeft W cells ≡ 0) where
-  all-skipped : (bs : List Px) → ((b : Px) → List·Memᴰ b bs → In W b) → (madeOver m top keys W cells bs ≡ []) × (leftOver m top keys W cells bs ≡ cells)
-  unfolding madeOver leftOver madeBy
+  all-skipped : (bs : List Px) → ((b : Px) → List·Memᴰ b bs → In W b) → (stepsMake m top keys W cells bs ≡ []) × (stepsLeave m top keys W cells bs ≡ cells)
+  unfolding stepsMake stepsLeave madeBy
   all-skipped [] v = (refl, refl)
   all-skipped (b ∷ bs) v =
       let u = v b (List·Memᴰ·head refl) in
@@ -63,25 +64,25 @@ module _ {m top : ℕ} {keys : List ℕ} {W : Window} {at : Walk} {cells : List 
 -- ---- one block on
 
 module _ (m top : ℕ) (keys : List ℕ) {W : Window} (cells : List ℕ) {s : Px} where
-  none-next : Goes W top s End → (madeFrom m top keys W cells s ≡ []) × (leftFrom m top keys W cells s ≡ cells)
-  unfolding madeOver leftOver
+  none-next : Goes W top s End → (walkMakes m top keys W cells s ≡ []) × (walkLeaves m top keys W cells s ≡ cells)
+  unfolding stepsMake stepsLeave
   none-next (end e) = (rw e, rw e)
 
 module _ {m top : ℕ} {keys : List ℕ} {W : Window} {cells : List ℕ} {s : Px} where
   module _ {r c i d : ℕ} {border : List ℕ} {answer : Stepped} where
     made-next : Goes W top s (Block r c i d) → Step m top keys W (r, c) cells answer border
-        → madeFrom m top keys W cells s ≡ madeBy answer ++ madeFrom m top keys W border (r, d)
+        → walkMakes m top keys W cells s ≡ madeBy answer ++ walkMakes m top keys W border (r, d)
     made-next (block v e f k split) S = rw split (made-step S _)
 
-    left-next : Goes W top s (Block r c i d) → Step m top keys W (r, c) cells answer border → leftFrom m top keys W cells s ≡ leftFrom m top keys W border (r, d)
+    left-next : Goes W top s (Block r c i d) → Step m top keys W (r, c) cells answer border → walkLeaves m top keys W cells s ≡ walkLeaves m top keys W border (r, d)
     left-next (block v e f k split) S = rw split (left-step S _)
 
 -- the blocks from one place of the walk up to another were skipped
 pub record Skipping (m top : ℕ) (keys : List ℕ) (W : Window) (cells border : List ℕ) (at to : Walk) : Type 0 where
   pub reached : Reached m top keys W to border
   pub kept : Kept W cells border
-  pub made-as : madeFrom m top keys W cells (spot at) ≡ madeFrom m top keys W border (spot to)
-  pub left-as : leftFrom m top keys W cells (spot at) ≡ leftFrom m top keys W border (spot to)
+  pub made-as : walkMakes m top keys W cells (spot at) ≡ walkMakes m top keys W border (spot to)
+  pub left-as : walkLeaves m top keys W cells (spot at) ≡ walkLeaves m top keys W border (spot to)
 
 module _ {m top : ℕ} {keys : List ℕ} {W : Window} {cells : List ℕ} {at : Walk} where
   pub skipping-first : Reached m top keys W at cells → Skipping m top keys W cells cells at at

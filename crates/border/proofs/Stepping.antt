@@ -8,6 +8,7 @@ use native.Mathlib.Nat.{add-zero}
 use native.Mathlib.Omega.{arith}
 use lib.ListN.{length, getD, take, drop, replicate, length-replicate}
 use Rattle.answers.proofs.Laws.{overwrite-part, overwrite-same}
+use Rattle.answers.specs.After.{After}
 use Rattle.window.specs.declared.Window.{Window}
 use Rattle.window.specs.Window.{Px}
 use Rattle.window.specs.Blocks.{exponent, maximal}
@@ -18,8 +19,8 @@ use Rattle.border.specs.declared.Stepped.{Stepped}
 use Rattle.border.specs.declared.Stepped.the-variants as stepped
 use Rattle.border.specs.Border.{Stated, Covered}
 use Rattle.border.specs.Cells.{filled}
-use Rattle.border.specs.Step.{reach, AfterStep, stepOf, madeBy, Corner, Usable, Ready, Step}
-use Rattle.border.specs.Found.{madeOver, leftOver, columnsLeft, Kept}
+use Rattle.border.specs.Step.{reach, stepOf, madeBy, Corner, Usable, Ready, Step}
+use Rattle.border.specs.Found.{stepsMake, stepsLeave, columnsLeft, Kept}
 use Rattle.border.specs.Open.{spent}
 use Rattle.border.proofs.Filled.{raised-length, raised-beyond}
 use Rattle.border.proofs.Columns.{left-raised}
@@ -28,6 +29,7 @@ use Rattle.border.proofs.Stays.{skip-iff, fresh-high}
 use Rattle.border.proofs.Making.{low-is, high-is}
 use Rattle.border.proofs.Steps.{opened-not-skipped, step-skipped, step-opened}
 use Rattle.border.proofs.Earlier.{stated-out}
+use Rattle.border.specs.declared.Opened.{Opened}
 
 pub kept-none : {W : Window} {cells : List ℕ} → Kept W cells cells
 kept-none = record { same = refl; beyond = refl }
@@ -54,9 +56,9 @@ filled-spent W cells l =
 
 module _ {m top : ℕ} {keys : List ℕ} {W : Window} {b : Px} {cells border : List ℕ} {answer : Stepped} (S : Step m top keys W b cells answer border) where
   pub step-kept : Corner W top b → W .w ≤ length cells → Kept W cells border
-  step-kept K wide = rw (ap (λ (x : AfterStep). x .border) (S .is)) (go (decLt (b .0) (getD cells (b .1 - W .c0) 0)))
+  step-kept K wide = rw (ap (λ (x : After Stepped (List ℕ)). x .lent) (S .is)) (go (decLt (b .0) (getD cells (b .1 - W .c0) 0)))
     where
-      go : Dec (b .0 < getD cells (b .1 - W .c0) 0) → Kept W cells (stepOf m top keys W b cells .border)
+      go : Dec (b .0 < getD cells (b .1 - W .c0) 0) → Kept W cells (stepOf m top keys W b cells .lent)
       go (yes l) = rw (high-is m top keys W b cells l) kept-none
       go (no h) = rw (low-is m top keys W b cells (omega (arith, h))) (record {
         same = raised-length (reach W top (pixelExponent m keys) b) cells (K .inside) wide;
@@ -70,16 +72,16 @@ module _ {m top : ℕ} {keys : List ℕ} {W : Window} {b : Px} {cells border : L
       go : Dec (b .0 < getD cells (b .1 - W .c0) 0) → (key ≡ keyOf m top W b) × (far ≡ reach W top (pixelExponent m keys) b)
       go (yes l) = absurd (opened-not-skipped (sym e ∙ S .skips .1 l))
       go (no h) =
-          let d : answer ≡ _ = ap (λ (x : AfterStep). x .answer) (S .is ∙ low-is m top keys W b cells (omega (arith, h))) in
+          let d : answer ≡ _ = ap (λ (x : After Stepped (List ℕ)). x .answer) (S .is ∙ low-is m top keys W b cells (omega (arith, h))) in
           (cc, cc)
 
-  pub made-step : (bs : List Px) → madeOver m top keys W cells (b ∷ bs) ≡ madeBy answer ++ madeOver m top keys W border bs
-  unfolding madeOver
-  made-step bs = ap (λ (x : AfterStep). madeBy (x .answer) ++ madeOver m top keys W (x .border) bs) (sym (S .is))
+  pub made-step : (bs : List Px) → stepsMake m top keys W cells (b ∷ bs) ≡ madeBy answer ++ stepsMake m top keys W border bs
+  unfolding stepsMake
+  made-step bs = ap (λ (x : After Stepped (List ℕ)). madeBy (x .answer) ++ stepsMake m top keys W (x .lent) bs) (sym (S .is))
 
-  pub left-step : (bs : List Px) → leftOver m top keys W cells (b ∷ bs) ≡ leftOver m top keys W border bs
-  unfolding leftOver
-  left-step bs = ap (λ (x : AfterStep). leftOver m top keys W (x .border) bs) (sym (S .is))
+  pub left-step : (bs : List Px) → stepsLeave m top keys W cells (b ∷ bs) ≡ stepsLeave m top keys W border bs
+  unfolding stepsLeave
+  left-step bs = ap (λ (x : After Stepped (List ℕ)). stepsLeave m top keys W (x .lent) bs) (sym (S .is))
 
 -- how many columns a step closes
 unfoldable pub shutBy : Stepped → ℕ
@@ -97,10 +99,10 @@ step-left {m} {top} {keys} {W} {b} {cells} {border} {answer} past rest U K split
     o = stated-out (U .spaced) (U .inside) (U .cap) past b rest split st
 
     go : Dec (b .0 < getD cells (b .1 - W .c0) 0) → columnsLeft W border + shutBy answer ≡ columnsLeft W cells
-    go (yes l) = ap (λ (x : AfterStep). columnsLeft W (x .border) + shutBy (x .answer)) (S .is ∙ high-is m top keys W b cells l) ∙ add-zero (columnsLeft W cells)
+    go (yes l) = ap (λ (x : After Stepped (List ℕ)). columnsLeft W (x .lent) + shutBy (x .answer)) (S .is ∙ high-is m top keys W b cells l) ∙ add-zero (columnsLeft W cells)
     go (no h) =
         let fresh : ¬ Out W top (pixelTile m keys) b b = λ z. h (skip-iff (U .inside) (tiles (U .spaced)) K o .1 z) in
-        ap (λ (x : AfterStep). columnsLeft W (x .border) + shutBy (x .answer)) (S .is ∙ low-is m top keys W b cells (omega (arith, h)))
+        ap (λ (x : After Stepped (List ℕ)). columnsLeft W (x .lent) + shutBy (x .answer)) (S .is ∙ low-is m top keys W b cells (omega (arith, h)))
         ∙ left-raised (reach W top (pixelExponent m keys) b) cells (K .inside) (U .wide) (λ c x y e. omega (arith, fresh-high (U .inside) (tiles (U .spaced)) K fresh o x y e, K .inside))
 
 -- a step, as it is made

@@ -5,6 +5,7 @@ use mathlib.Core.List.{List}
 use Prim.Native.Nat.{ℕ, _-_, _≤_, _<_}
 use native.Mathlib.Omega.{arith}
 use lib.ListN.{length, getD}
+use Rattle.answers.specs.After.{after}
 use Rattle.key.specs.Picture.{Pixel}
 use Rattle.key.specs.Key.{blockKey}
 use Rattle.window.specs.declared.Window.{Window}
@@ -17,7 +18,7 @@ use Rattle.map.specs.Runs.{runOf, BlockOf}
 use Rattle.map.proofs.Laws.{tiles}
 use Rattle.border.specs.declared.Stepped.the-variants.{Skipped, Opened}
 use Rattle.border.specs.Cells.{raised, closed}
-use Rattle.border.specs.Step.{reach, afterStep, stepOf, Ready, Step}
+use Rattle.border.specs.Step.{reach, stepOf, Ready, Step}
 use Rattle.border.proofs.Sweep.{Out}
 use Rattle.border.proofs.Stays.{skip-iff, skips, raises}
 use Rattle.border.proofs.Overlaps.{block-key, far-is}
@@ -58,24 +59,24 @@ module _ {m top : ℕ} {keys : List ℕ} {W : Window} {b : Px} {i room : ℕ} (K
   module _ (cells : List ℕ) where
     pub step-skipped : b .0 < getD cells (b .1 - W .c0) 0 → Step m top keys W b cells Skipped cells
     step-skipped l =
-        let is : afterStep Skipped cells ≡ stepOf m top keys W b cells = sym (high-is m top keys W b cells l) in
+        let is : after Skipped cells ≡ stepOf m top keys W b cells = sym (high-is m top keys W b cells l) in
         record {
           is = is;
           skips = (λ e. l, λ h. refl);
-          stays = λ before after split st.
-              let o = stated-out (K .given .spaced) (K .given .inside) (K .given .cap) before b after split st in
+          stays = λ before later split st.
+              let o = stated-out (K .given .spaced) (K .given .inside) (K .given .cap) before b later split st in
               let now = skips (K .given .inside) (tiles (K .given .spaced)) (K .corner) (skip-iff (K .given .inside) (tiles (K .given .spaced)) (K .corner) o .0 l) o in
-              stated-made (K .given .spaced) (K .given .inside) (K .given .cap) before b after split st is now;
+              stated-made (K .given .spaced) (K .given .inside) (K .given .cap) before b later split st is now;
         }
 
-    pub step-opened : {key : ℕ} {run : Run} {shut : ℕ} {after : List ℕ} → getD cells (b .1 - W .c0) 0 ≤ b .0 → W .w ≤ length cells
+    pub step-opened : {key : ℕ} {run : Run} {shut : ℕ} {cells′ : List ℕ} → getD cells (b .1 - W .c0) 0 ≤ b .0 → W .w ≤ length cells
         → key ≡ keyOf m top W b → run ≡ runOf m keys key
-        → shut ≡ closed W (run .reach) b → after ≡ raised W (run .reach) b cells → Step m top keys W b cells (Opened key (run .first) (run .count) (run .reach) shut) after
-    step-opened {key} {run} {shut} {after} l wide name e x f =
+        → shut ≡ closed W (run .reach) b → cells′ ≡ raised W (run .reach) b cells → Step m top keys W b cells (Opened key (run .first) (run .count) (run .reach) shut) cells′
+    step-opened {key} {run} {shut} {cells′} l wide name e x f =
         let d = step-reach name e in
         let up : _ ≡ raised W (reach W top (pixelExponent m keys) b) b cells = f ∙ ap (λ (x : ℕ). raised W x b cells) d in
         let shuts : _ ≡ closed W (reach W top (pixelExponent m keys) b) b = x ∙ ap (λ (y : ℕ). closed W y b) d in
-        let is : afterStep (Opened key (run .first) (run .count) (run .reach) shut) after ≡ stepOf m top keys W b cells = rw (low-is m top keys W b cells l, up, shuts, d, found name e, name) in
+        let is : after (Opened key (run .first) (run .count) (run .reach) shut) cells′ ≡ stepOf m top keys W b cells = rw (low-is m top keys W b cells l, up, shuts, d, found name e, name) in
         record {
           is = is;
           skips = (λ z. absurd (opened-not-skipped z), λ h. absurd (omega arith));

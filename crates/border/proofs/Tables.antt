@@ -2,26 +2,26 @@
 -- Assumes nothing.
 use mathlib.Core.Path.{_≡_, refl, sym, ap, _∙_}
 use mathlib.Core.Logic.{_↔_}
-use mathlib.Core.List.{List, [], _∷_, _++_}
+use mathlib.Core.List.{List, [], _++_}
 use Prim.Native.Nat.{ℕ, _+_, _*_, _/_, _≤_, _<_}
 use native.Mathlib.Omega.{arith}
-use lib.Dec.{ltb}
 use lib.ListN.{length, take, replicate, length-take, length-replicate}
 use lib.Seq.{take-all}
-use borrow.Author.Tests.{lt-ltb, le-ltb, ltb-false}
+use Rattle.answers.specs.declared.Verdict.{Verdict}
 use Rattle.answers.specs.declared.Verdict.the-variants as verdict-of
-use Rattle.answers.specs.Rows.{row, answer, verdict}
+use Rattle.answers.specs.Refusals.{answer, verdict}
 use Rattle.answers.specs.Cells.{overwrite}
+use Rattle.answers.specs.After.{After, after, roomRefusals, roomFor}
 use Rattle.answers.proofs.Laws as Answers
-use Rattle.answers.proofs.Laws.{answer-none, answer-part, answer-append, row-held, row-clear, on-passed, on-refused, passed-row, passed-append}
-use Rattle.answers.proofs.Laws.{overwrite-length, overwrite-part, overwrite-again}
-use Rattle.answers.proofs.Numbered.{Numbered, none, numbered-row, numbered-append}
+use Rattle.answers.proofs.Laws.{answer-part, answer-append, on-passed, on-refused, passed-append, overwrite-length, overwrite-part, overwrite-again}
+use Rattle.answers.proofs.Room.{room-passed, room-short, room-done, room-by-lengths, room-said, room-told}
+use Rattle.answers.proofs.Numbered.{Numbered, numbered-append, numbered-room}
 use Rattle.window.specs.declared.Window.{Window}
 use Rattle.border.specs.declared.Opened.the-variants.{Done, Refused}
 use Rattle.border.specs.declared.Totals.{Totals}
-use Rattle.border.specs.Openings.{openings, handsOut, cellsOf}
+use Rattle.border.specs.Openings.{openings, handedCount, cellsOf}
 use Rattle.border.specs.Cells.{fitting}
-use Rattle.border.specs.Open.{useRows, spent, Passed, After, after, usedFor, openOf, accepted}
+use Rattle.border.specs.Open.{useRefusals, spent, Passed, usedFor, openOf, accepted}
 use Rattle.border.specs.Promises.{Answerable}
 use Rattle.border.proofs.Use.{use-answerable, numbered-use}
 use Rattle.border.proofs.Hands.{cells-length}
@@ -29,99 +29,106 @@ use Rattle.border.proofs.Hands.{cells-length}
 -- ---- refusal 8, and an accepted call
 
 module _ {A : Type 0} (refuse : ℕ → ℕ → A) (done : A) (cells : List ℕ) (m : ℕ) (keys : List ℕ) (classes : ℕ) (W : Window) (border out : List ℕ) where
-  pub used-refused : {n p : ℕ} → verdict (useRows m keys classes W (length border)) ≡ verdict-of.Refused n p
-      → usedFor refuse done cells m keys classes W border out ≡ after (refuse n p) border out
+  pub used-refused : {n p : ℕ} → verdict (useRefusals m keys classes W (length border)) ≡ verdict-of.Refused n p
+      → usedFor refuse done cells m keys classes W border out ≡ after (refuse n p) (border, out)
   unfolding usedFor
-  used-refused e = on-refused _ (useRows m keys classes W (length border)) _ e
+  used-refused e = on-refused _ (useRefusals m keys classes W (length border)) _ e
 
-  module _ (e : verdict (useRows m keys classes W (length border)) ≡ verdict-of.Passed) where
-    pub used-short : length out < length cells → usedFor refuse done cells m keys classes W border out ≡ after (refuse 8 (length cells)) (spent W border) out
+  -- behind refusals 1 to 7 the border is spent, and only the room counts
+  module _ (e : verdict (useRefusals m keys classes W (length border)) ≡ verdict-of.Passed) where
+    pub used-passed : {a : A} {left out′ : List ℕ} → left ≡ spent W border → after a out′ ≡ roomFor refuse done cells out
+        → after a (left, out′) ≡ usedFor refuse done cells m keys classes W border out
     unfolding usedFor
-    used-short l =
-        on-passed _ (useRows m keys classes W (length border)) _ e
-        ∙ row-held (λ n p. after (refuse n p) (spent W border) out) 8 _ [] _ (lt-ltb (length out) _ l)
+    used-passed d r = rw d (ap (λ (x : After A (List ℕ)). after (x .answer) (spent W border, x .lent)) r ∙ sym (on-passed _ (useRefusals m keys classes W (length border)) _ e))
 
-    pub used-done : length cells ≤ length out → usedFor refuse done cells m keys classes W border out ≡ after done (spent W border) (overwrite cells out)
-    unfolding usedFor
-    used-done l =
-        on-passed _ (useRows m keys classes W (length border)) _ e
-        ∙ row-clear (λ n p. after (refuse n p) (spent W border) out) 8 _ [] _ (le-ltb (length out) _ l)
-        ∙ answer-none (λ n p. after (refuse n p) (spent W border) out) _
+    pub used-short : length out < length cells → usedFor refuse done cells m keys classes W border out ≡ after (refuse 8 (length cells)) (spent W border, out)
+    used-short l = sym (used-passed refl (sym (room-short refuse done cells out l)))
+
+    pub used-done : length cells ≤ length out → usedFor refuse done cells m keys classes W border out ≡ after done (spent W border, overwrite cells out)
+    used-done l = sym (used-passed refl (sym (room-done refuse done cells out l)))
 
   -- the same outcome, its answer said in other words
-  pub used-said : {B : Type 0} (say : A → B) → (let o = usedFor refuse done cells m keys classes W border out in after (say (o .answer)) (o .border) (o .out))
+  pub used-said : {B : Type 0} (say : A → B) → (let o = usedFor refuse done cells m keys classes W border out in after (say (o .answer)) (o .lent))
       ≡ usedFor (λ n p. say (refuse n p)) (say done) cells m keys classes W border out
   unfolding usedFor
   used-said {B} say =
-      let eight = row (ltb (length out) (length cells)) 8 (length cells) ∷ [] in
-      let part : After A → After B = λ x. after (say (x .answer)) (x .border) (x .out) in
-      answer-part part (λ n p. after (refuse n p) border out) (useRows m keys classes W (length border)) _
-      ∙ ap (λ (x : After B). answer (λ n p. after (say (refuse n p)) border out) (useRows m keys classes W (length border)) x)
-      (answer-part part (λ n p. after (refuse n p) (spent W border) out) eight _)
+      answer-part (λ (x : After A (List ℕ × List ℕ)). after (say (x .answer)) (x .lent)) (λ n p. after (refuse n p) (border, out)) (useRefusals m keys classes W (length border)) _
+      ∙ ap (λ (x : After B (List ℕ)). answer (λ n p. after (say (refuse n p)) (border, out)) (useRefusals m keys classes W (length border)) (after (x .answer) (spent W border, x .lent)))
+      (room-said refuse done cells out say)
 
   -- the answer is the first of refusals 1 to 8, or `done`; of the border and of the answer slice only the lengths count
   pub used-by-lengths : usedFor refuse done cells m keys classes W border out .answer
-      ≡ answer refuse (useRows m keys classes W (length border) ++ (row (ltb (length out) (length cells)) 8 (length cells) ∷ [])) done
+      ≡ answer refuse (useRefusals m keys classes W (length border) ++ roomRefusals (length out) (length cells)) done
   unfolding usedFor
   used-by-lengths =
-      let eight = row (ltb (length out) (length cells)) 8 (length cells) ∷ [] in
-      answer-part (λ (x : After A). x .answer) (λ n p. after (refuse n p) border out) (useRows m keys classes W (length border)) _
-      ∙ ap (λ (a : A). answer refuse (useRows m keys classes W (length border)) a) (answer-part (λ (x : After A). x .answer) (λ n p. after (refuse n p) (spent W border) out) eight _)
-      ∙ sym (answer-append refuse (useRows m keys classes W (length border)) eight done)
+      answer-part (λ (x : After A (List ℕ × List ℕ)). x .answer) (λ n p. after (refuse n p) (border, out)) (useRefusals m keys classes W (length border)) _
+      ∙ ap (λ (a : A). answer refuse (useRefusals m keys classes W (length border)) a) (room-by-lengths refuse done cells out)
+      ∙ sym (answer-append refuse (useRefusals m keys classes W (length border)) (roomRefusals (length out) (length cells)) done)
 
-  pub numbered-used : Numbered 8 (useRows m keys classes W (length border) ++ (row (ltb (length out) (length cells)) 8 (length cells) ∷ []))
-  numbered-used = numbered-append (numbered-use m keys classes W (length border) (omega arith)) (numbered-row 8 (omega arith) (omega arith) none)
+  pub numbered-used : Numbered 8 (useRefusals m keys classes W (length border) ++ roomRefusals (length out) (length cells))
+  numbered-used = numbered-append (numbered-use m keys classes W (length border) (omega arith)) (numbered-room (length out) (length cells) (omega arith))
 
   -- refusals 1 to 8 pass exactly what is answerable and has room for its cells
-  pub used-answerable : (verdict (useRows m keys classes W (length border) ++ (row (ltb (length out) (length cells)) 8 (length cells) ∷ [])) ≡ verdict-of.Passed)
+  pub used-answerable : (verdict (useRefusals m keys classes W (length border) ++ roomRefusals (length out) (length cells)) ≡ verdict-of.Passed)
       ↔ (Answerable m keys classes W (length border) × (length cells ≤ length out))
   used-answerable =
-      let both = passed-append (useRows m keys classes W (length border)) (row (ltb (length out) (length cells)) 8 (length cells) ∷ []) in
-      let eight = passed-row (ltb (length out) (length cells)) 8 (length cells) [] in
+      let both = passed-append (useRefusals m keys classes W (length border)) (roomRefusals (length out) (length cells)) in
+      let eight = room-passed (length out) (length cells) in
       let seven = use-answerable m keys classes W (length border) in (
-        λ e. let t = both .0 e in (seven .0 (t .0), ltb-false (length out) (length cells) (eight .0 (t .1) .0)),
-        λ t. both .1 (seven .1 (t .0), eight .1 (le-ltb (length out) (length cells) (t .1), answer-none _ _)),
+        λ e. let t = both .0 e in (seven .0 (t .0), eight .0 (t .1)),
+        λ t. both .1 (seven .1 (t .0), eight .1 (t .1)),
       )
 
   -- an answer that is no refusal: nothing was refused, and `done` and `cells` are what was answered and written
   pub record Told (a : A) (border′ out′ : List ℕ) : Type 0 where
-    pub passed : verdict (useRows m keys classes W (length border)) ≡ verdict-of.Passed
+    pub passed : verdict (useRefusals m keys classes W (length border)) ≡ verdict-of.Passed
     pub room : length cells ≤ length out
     pub says : done ≡ a
     pub leaves : spent W border ≡ border′
     pub writes : overwrite cells out ≡ out′
 
   pub used-told : {a : A} {border′ out′ : List ℕ} → ((n p : ℕ) → refuse n p ≡ a → ⊥)
-      → usedFor refuse done cells m keys classes W border out ≡ after a border′ out′ → Told a border′ out′
+      → usedFor refuse done cells m keys classes W border out ≡ after a (border′, out′) → Told a border′ out′
   unfolding usedFor
-  used-told other e =
-      let x = Answers.accepted (λ n p. after (refuse n p) border out) (useRows m keys classes W (length border)) _ (λ n p q. other n p (ap (λ (t : After A). t .answer) q)) e in
-      let y = Answers.accepted (λ n p. after (refuse n p) (spent W border) out) _ _ (λ n p q. other n p (ap (λ (t : After A). t .answer) q)) (x .1) in
-      record {
-        passed = x .0;
-        room = ltb-false (length out) (length cells) (passed-row _ 8 _ [] .0 (y .0) .0);
-        says = ap (λ (t : After A). t .answer) (y .1);
-        leaves = ap (λ (t : After A). t .border) (y .1);
-        writes = ap (λ (t : After A). t .out) (y .1);
-      }
+  used-told {a} {border′} {out′} other e =
+      let room = roomFor refuse done cells out in
+      let x = Answers.accepted (λ n p. after (refuse n p) (border, out)) (useRefusals m keys classes W (length border)) (after (room .answer) (spent W border, room .lent))
+      (λ n p q. other n p (ap (λ (t : After A (List ℕ × List ℕ)). t .answer) q)) e in
+      let y = room-told refuse done cells out other (ap (λ (t : After A (List ℕ × List ℕ)). after (t .answer) (t .lent .1)) (x .1)) in
+      record { passed = x .0; room = y .room; says = y .says; leaves = ap (λ (t : After A (List ℕ × List ℕ)). t .lent .0) (x .1); writes = y .writes }
+
+  -- with room for its cells, a refusal is one of 1 to 7
+  pub used-roomy : ((n p : ℕ) → refuse n p ≡ done → ⊥) → length cells ≤ length out → {n p : ℕ} {border′ out′ : List ℕ}
+      → usedFor refuse done cells m keys classes W border out ≡ after (refuse n p) (border′, out′)
+      → (n′ : ℕ) × (p′ : ℕ) × (verdict (useRefusals m keys classes W (length border)) ≡ verdict-of.Refused n′ p′) × (refuse n′ p′ ≡ refuse n p)
+  used-roomy other room {n} {p} {border′} {out′} e = go (verdict (useRefusals m keys classes W (length border))) refl
+    where
+      says : {a : A} {bs os : List ℕ} → usedFor refuse done cells m keys classes W border out ≡ after a (bs, os) → a ≡ refuse n p
+      says d = ap (λ (t : After A (List ℕ × List ℕ)). t .answer) (sym d ∙ e)
+
+      go : (v : Verdict) → verdict (useRefusals m keys classes W (length border)) ≡ v
+          → (n′ : ℕ) × (p′ : ℕ) × (verdict (useRefusals m keys classes W (length border)) ≡ verdict-of.Refused n′ p′) × (refuse n′ p′ ≡ refuse n p)
+      go verdict-of.Passed q = absurd (other n p (sym (says (used-done q room))))
+      go (verdict-of.Refused n′ p′) q = (n′, p′, q, says (used-refused q))
 
 module _ (m : ℕ) (keys : List ℕ) (classes : ℕ) (W : Window) (border out : List ℕ) where
   -- opening is such a use
   pub open-is : openOf m keys classes W border out
-      ≡ (let os = openings m m keys W in usedFor Refused (Done (length os) (handsOut os)) (cellsOf os) m keys classes W border out)
+      ≡ (let os = openings m m keys W in usedFor Refused (Done (length os) (handedCount os)) (cellsOf os) m keys classes W border out)
   unfolding openOf
   open-is = refl
 
-  pub open-refused : {n p : ℕ} → verdict (useRows m keys classes W (length border)) ≡ verdict-of.Refused n p → openOf m keys classes W border out ≡ after (Refused n p) border out
+  pub open-refused : {n p : ℕ} → verdict (useRefusals m keys classes W (length border)) ≡ verdict-of.Refused n p → openOf m keys classes W border out ≡ after (Refused n p) (border, out)
   unfolding openOf
   open-refused e = used-refused Refused _ _ m keys classes W border out e
 
-  module _ (e : verdict (useRows m keys classes W (length border)) ≡ verdict-of.Passed) where
-    pub open-short : {needed : ℕ} → needed ≡ 3 * length (openings m m keys W) → length out < needed → openOf m keys classes W border out ≡ after (Refused 8 needed) (spent W border) out
+  module _ (e : verdict (useRefusals m keys classes W (length border)) ≡ verdict-of.Passed) where
+    pub open-short : {needed : ℕ} {left out′ : List ℕ} → needed ≡ 3 * length (openings m m keys W) → length out < needed → left ≡ spent W border → out′ ≡ out
+        → after (Refused 8 needed) (left, out′) ≡ openOf m keys classes W border out
     unfolding openOf
-    open-short d l =
+    open-short d l spends same =
         let n = d ∙ sym (cells-length (openings m m keys W)) in
-        rw n (used-short Refused _ _ m keys classes W border out e (omega (arith, n)))
+        rw (n, spends, same) (sym (used-short Refused _ _ m keys classes W border out e (omega (arith, n))))
 
     pub open-done : 3 * length (openings m m keys W) ≤ length out → openOf m keys classes W border out ≡ accepted m keys W border out
     unfolding openOf accepted
@@ -131,7 +138,7 @@ module _ (m : ℕ) (keys : List ℕ) (classes : ℕ) (W : Window) (border out : 
 pub accepted-again : (m : ℕ) (keys : List ℕ) (W : Window) (border out : List ℕ) → accepted m keys W (spent W border) out ≡ accepted m keys W border out
 unfolding accepted spent
 accepted-again m keys W border out =
-    ap (λ (t : List ℕ). after (Done (length (openings m m keys W)) (handsOut (openings m m keys W))) t (overwrite (cellsOf (openings m m keys W)) out))
+    ap (λ (t : List ℕ). after (Done (length (openings m m keys W)) (handedCount (openings m m keys W))) (t, overwrite (cellsOf (openings m m keys W)) out))
     (overwrite-again (replicate (W .w) (W .r0 + W .h)) border)
 
 -- a pass over a slice with no room
@@ -153,7 +160,7 @@ passed-same {m} {top} {keys} {W} {border₀} {out₀} p wide =
 
 -- a pass over a slice with room for all
 pub passed-all : {m : ℕ} {keys : List ℕ} {W : Window} {border₀ out₀ border out : List ℕ} {totals : Totals} → Passed m m keys W border₀ out₀ totals border out
-    → 3 * length (openings m m keys W) ≤ length out₀ → after (Done (totals .openings) (totals .records)) border out ≡ accepted m keys W border₀ out₀
+    → 3 * length (openings m m keys W) ≤ length out₀ → after (Done (totals .openings) (totals .records)) (border, out) ≡ accepted m keys W border₀ out₀
 unfolding accepted fitting
 passed-all {m} {keys} {W} {out₀ = out₀} p l =
     let os = openings m m keys W in

@@ -38,12 +38,12 @@ module _ {m top : ℕ} {keys : List ℕ} (F : Follow m 0 keys) {W : Window} (I :
   )
 
   -- so cells that are stated by the records handed out before a step are so after it, by those and the ones that the step hands out
-  pub stays-whole : {b : Px} {cells border : List ℕ} {answer : Stepped} → Step m top keys W b cells answer border → (before after : List Px) → maximal W top ≡ before ++ b ∷ after
+  pub stays-whole : {b : Px} {cells border : List ℕ} {answer : Stepped} → Step m top keys W b cells answer border → (before later : List Px) → maximal W top ≡ before ++ b ∷ later
       → Stated W (Handed m keys (handedBy m top keys W before)) cells → Stated W (Handed m keys (handedBy m top keys W before ++ handsBy answer)) border
-  stays-whole {b} S before after split st =
-      let c = stated-as (λ p v. let h = covered-whole before (earlier-corner before b after split) v in (h .1, h .0)) st in
-      rw (← handed-step (spaced F) I small before b after split c (S .is))
-      (stated-as (λ p v. covered-whole (before ++ b ∷ []) (each-corner before b after split) v) (stated-step (spaced F) I small before b after split c S))
+  stays-whole {b} S before later split st =
+      let c = stated-as (λ p v. let h = covered-whole before (earlier-corner before b later split) v in (h .1, h .0)) st in
+      rw (← handed-step (spaced F) I small before b later split c (S .is))
+      (stated-as (λ p v. covered-whole (before ++ b ∷ []) (each-corner before b later split) v) (stated-step (spaced F) I small before b later split c S))
 
   -- ---- the openings
 

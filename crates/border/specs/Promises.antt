@@ -5,13 +5,13 @@ use mathlib.Core.List.{List, [], _∷_, _++_, List·Memᴰ}
 use Prim.Native.Nat.{ℕ, _*_, _≤_, _<_}
 use lib.Dec.{ltb}
 use lib.ListN.{length, take}
-use Rattle.lists.specs.Lists.{upFrom, keep}
+use Rattle.lists.specs.Lists.{keep}
 use Rattle.window.specs.declared.Window.{Window}
 use Rattle.window.specs.Window.{Px, In, Inside}
 use Rattle.window.specs.Decompose.{keyOf, keysOf}
 use Rattle.map.specs.Sound.{Follow, SoundMap}
 use Rattle.map.specs.Records.{pixelRecord}
-use Rattle.border.specs.Openings.{met, Opening, made, opening, openings, handsOut, cellsOf}
+use Rattle.border.specs.Openings.{met, Opening, made, opening, hands, openings, handedCount, cellsOf}
 
 -- what refusals 1 to 7 pass: a sound map, a window inside the picture, and a border of at least w cells. Of m, the keys, the number of classes, the window and the number of cells
 pub record Answerable (m : ℕ) (keys : List ℕ) (classes : ℕ) (W : Window) (cells : ℕ) : Type 0 where
@@ -32,10 +32,6 @@ Overlaps m keys W n = Touches m keys W n × (n < length keys)
 -- the opening of the block with corner b
 abbrev pub openingAt : ℕ → ℕ → List ℕ → Window → Px → Opening
 openingAt m top keys W b = opening m keys (keyOf m top W b)
-
--- the records that an opening hands out
-abbrev pub hands : Opening → List ℕ
-hands o = upFrom (o .first) (o .count)
 
 -- the openings that stand in cells, three cells to each
 unfoldable pub openingsIn : List ℕ → List Opening
@@ -73,5 +69,5 @@ pub record Answered (m : ℕ) (keys : List ℕ) (W : Window) (count records : �
   pub sound : Follow m 0 keys
   pub inside : Inside m W
   pub many : count ≡ length (openings m m keys W)
-  pub records-are : records ≡ handsOut (openings m m keys W)
+  pub records-are : records ≡ handedCount (openings m m keys W)
   pub list : take (3 * count) out ≡ cellsOf (openings m m keys W)

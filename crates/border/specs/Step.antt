@@ -7,6 +7,7 @@ use mathlib.Core.List.{List, [], _∷_, _++_}
 use Prim.Native.Nat.{ℕ, max, _-_, _≤_, _<_}
 use lib.Dec.{ltb}
 use lib.ListN.{length, getD}
+use Rattle.answers.specs.After.{After, after}
 use Rattle.window.specs.declared.Window.{Window}
 use Rattle.window.specs.Window.{Px, In, Inside}
 use Rattle.window.specs.Blocks.{exponent, corner, maximal}
@@ -25,20 +26,13 @@ use Rattle.border.specs.Promises.{allHands}
 abbrev pub reach : Window → ℕ → (ℕ → ℕ → ℕ) → Px → ℕ
 reach W top ex b = max (exponent W top b) (ex (b .0) (b .1))
 
-pub record AfterStep : Type 0 where
-  pub answer : Stepped
-  pub border : List ℕ
-
-abbrev pub afterStep : Stepped → List ℕ → AfterStep
-afterStep answer border = record { answer = answer; border = border }
-
 -- the cell of the corner's column decides; an opened block raises the cells of its columns, or of those of the record that contains it
-unfoldable pub stepOf : ℕ → ℕ → List ℕ → Window → Px → List ℕ → AfterStep
+unfoldable pub stepOf : ℕ → ℕ → List ℕ → Window → Px → List ℕ → After Stepped (List ℕ)
 stepOf m top keys W b cells =
     let key = keyOf m top W b in
     let run = runOf m keys key in
     let n = reach W top (pixelExponent m keys) b in
-    cond (ltb (b .0) (getD cells (b .1 - W .c0) 0)) (afterStep Skipped cells) (afterStep (Opened key (run .first) (run .count) n (closed W n b)) (raised W n b cells))
+    cond (ltb (b .0) (getD cells (b .1 - W .c0) 0)) (after Skipped cells) (after (Opened key (run .first) (run .count) n (closed W n b)) (raised W n b cells))
 
 -- b is the corner of a maximal block
 pub record Corner (W : Window) (top : ℕ) (b : Px) : Type 0 where
@@ -72,7 +66,7 @@ handsBy answer = allHands (madeBy answer)
 -- what a step promises: for any cells, what it answers and leaves, and when it skips; and cells that are as stated before the step, by the openings made till then, are so after it,
 -- by those and what the step itself has made
 pub record Step (m top : ℕ) (keys : List ℕ) (W : Window) (b : Px) (cells : List ℕ) (answer : Stepped) (border : List ℕ) : Type 0 where
-  pub is : afterStep answer border ≡ stepOf m top keys W b cells
+  pub is : after answer border ≡ stepOf m top keys W b cells
   pub skips : (answer ≡ Skipped) ↔ (b .0 < getD cells (b .1 - W .c0) 0)
-  pub stays : (before after : List Px) → maximal W top ≡ before ++ b ∷ after
+  pub stays : (before later : List Px) → maximal W top ≡ before ++ b ∷ later
       → Stated W (CoveredBy m keys (openedBy m top keys W before)) cells → Stated W (CoveredBy m keys (openedBy m top keys W before ++ madeBy answer)) border

@@ -6,13 +6,14 @@ use window::Window;
 ghost use mathlib.Core.Path.{_≡_};
 ghost use Prim.Native.Nat.{_-_, _≤_};
 ghost use lib.ListN.{length};
-ghost use Rattle.answers.specs.Rows.{verdict};
+ghost use Rattle.answers.specs.Refusals.{verdict};
+ghost use Rattle.answers.specs.After.{after};
 ghost use Rattle.key.specs.Spread.{spreads};
 ghost use Rattle.window.specs.Window.{In, Inside};
 ghost use Rattle.border.specs.Cells.{filled, raised, closed, entered};
 ghost use Rattle.border.specs.Step.{Usable, Ready, Step};
 ghost use Rattle.border.specs.Found.{walk, Reached, Finds};
-ghost use Rattle.border.specs.Open.{Passed, useRows, after, openOf};
+ghost use Rattle.border.specs.Open.{Passed, useRefusals, openOf};
 
 // What a step answers: the block was skipped, or opened, by its key, with so many records from the first on, which reach so far; that closed so many columns.
 pub enum Stepped {
@@ -246,7 +247,7 @@ fn pass(
 
 // Refusals 1 to 7: whoever uses a map and a window asks this first.
 pub fn usable(m: u32, keys: &[u32], classes: &[u8], window: Window, cells: usize) -> Verdict
-    ensures { λ r. ⌜ r ≡ verdict (useRows m (now (keys .entry)) (length (now (classes .entry))) window cells) ⌝ }
+    ensures { λ r. ⌜ r ≡ verdict (useRefusals m (now (keys .entry)) (length (now (classes .entry))) window cells) ⌝ }
 {
     let sound = map::sound(m, keys, classes);
     if let Verdict::Refused { number, place } = sound {
@@ -278,7 +279,7 @@ pub fn open(
     border: &mut [u16],
     out: &mut [u32],
 ) -> Opened
-    ensures { λ r. ⌜ after r (now (border .exit)) (now (out .exit)) ≡ openOf m (now (keys .entry)) (length (now (classes .entry))) window (now (border .entry)) (now (out .entry)) ⌝ }
+    ensures { λ r. ⌜ after r (now (border .exit), now (out .exit)) ≡ openOf m (now (keys .entry)) (length (now (classes .entry))) window (now (border .entry)) (now (out .entry)) ⌝ }
 {
     let verdict = usable(m, keys, classes, window, border.len());
     if let Verdict::Refused { number, place } = verdict {

@@ -7,7 +7,9 @@ use native.Mathlib.Omega.{arith}
 use lib.ListN.{getD}
 use Rattle.key.specs.declared.Spot.{Spot}
 use Rattle.key.specs.Along.{ones, Finds, pixelAt, Stands, Begins}
-use Rattle.key.proofs.Laws.{block-lies, pow-least, fits-key}
+use Rattle.key.proofs.Laws.{block-lies}
+use Rattle.key.proofs.Powers.{pow-least}
+use Rattle.key.proofs.Along.{fits-key}
 
 module _ {m : ℕ} {s : Spot} {key : ℕ} (S : Stands m s) (B : Begins m (s .place) key) where
   -- the walk does not stand behind the last place

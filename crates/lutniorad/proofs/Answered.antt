@@ -8,19 +8,19 @@ use mathlib.Core.List.{List}
 use Prim.Native.Nat.{ℕ, _+_, _*_, _≤_}
 use native.Mathlib.Omega.{arith}
 use lib.ListN.{length}
-use Rattle.answers.specs.Rows.{answer}
+use Rattle.answers.specs.Refusals.{answer}
 use Rattle.answers.specs.Sizes.{Sized}
 use Rattle.answers.proofs.Laws.{answer-part, on-passed}
 use Rattle.window.specs.declared.Window.{Window}
 use Rattle.window.specs.declared.Decomposed.the-variants as decomposed
 use Rattle.window.specs.Window.{Inside}
-use Rattle.window.specs.Decompose.{keysOf, decomposeRows}
+use Rattle.window.specs.Decompose.{keysOf, decomposeRefusals}
 use Rattle.window.proofs.Laws.{numbered-decompose, decompose-passed, decompose-by-length, decompose-untouched}
 use Rattle.map.specs.declared.Checked.the-variants as checked
 use Rattle.map.specs.Sound.{SoundMap}
-use Rattle.map.specs.Check.{mapRows}
+use Rattle.map.specs.Check.{mapRefusals}
 use Rattle.map.proofs.Laws.{sound-map, check-is, numbered-map}
-use Rattle.border.specs.Open.{useRows}
+use Rattle.border.specs.Open.{useRefusals}
 use Rattle.border.specs.Promises.{Answerable}
 use Rattle.border.proofs.Laws.{use-answerable, numbered-use}
 use Rattle.query.specs.declared.Existence.the-variants as existence
@@ -28,7 +28,7 @@ use Rattle.query.specs.Classes.{exists}
 use Rattle.query.proofs.Laws.{exist-by-lengths, exist-untouched}
 use Rattle.house.specs.declared.Reading.the-variants as reading
 use Rattle.house.specs.declared.Writing.the-variants as writing
-use Rattle.house.specs.File.{readRows, writeRows, fileM, fileQ}
+use Rattle.house.specs.File.{readRefusals, writeRefusals, fileM, fileQ}
 use Rattle.house.specs.Promises.{Readable}
 use Rattle.house.proofs.Laws.{numbered-read, read-passed, read-by-lengths, read-untouched, numbered-write, write-passed, write-by-length, write-untouched}
 use Rattle.lutniorad.specs.declared.Answer.{Answer}
@@ -38,9 +38,9 @@ use Rattle.lutniorad.proofs.Told.{told-most, told-when}
 
 -- ---- checking
 
-module _ {m : ℕ} {keys classes : List ℕ} {r : Answer} (call : Check m keys classes r) where
-  pub check-says : r ≡ answer refused (mapRows m keys (length classes)) (values (length keys) 0)
-  check-says = call .answer ∙ ap ofChecked (check-is m keys (length classes)) ∙ answer-part ofChecked checked.Refused (mapRows m keys (length classes)) _
+module _ (m : ℕ) (keys classes : List ℕ) {r : Answer} (call : Check m keys classes r) where
+  pub check-says : r ≡ answer refused (mapRefusals m keys (length classes)) (values (length keys) 0)
+  check-says = call .answer ∙ ap ofChecked (check-is m keys (length classes)) ∙ answer-part ofChecked checked.Refused (mapRefusals m keys (length classes)) _
 
   pub check-numbered : r .refusal ≤ 5
   check-numbered = told-most _ refl (numbered-map (omega arith) m keys (length classes)) check-says
@@ -53,12 +53,12 @@ module _ {m : ℕ} {keys classes : List ℕ} {r : Answer} (call : Check m keys c
 
 -- ---- decomposing
 
-module _ {m : ℕ} {W : Window} {out out′ : List ℕ} {r : Answer} (call : Decompose m W out r out′) where
+module _ (m : ℕ) (W : Window) (out : List ℕ) {out′ : List ℕ} {r : Answer} (call : Decompose m W out r out′) where
   abbrev many : ℕ
   many = length (keysOf m m W)
 
-  pub decompose-says : r ≡ answer refused (decomposeRows m W many (length out)) (values many 0)
-  decompose-says = call .answer ∙ ap ofDecomposed (decompose-by-length m W out) ∙ answer-part ofDecomposed decomposed.Refused (decomposeRows m W many (length out)) _
+  pub decompose-says : r ≡ answer refused (decomposeRefusals m W many (length out)) (values many 0)
+  decompose-says = call .answer ∙ ap ofDecomposed (decompose-by-length m W out) ∙ answer-part ofDecomposed decomposed.Refused (decomposeRefusals m W many (length out)) _
 
   pub decompose-numbered : r .refusal ≤ 8
   decompose-numbered = told-most _ refl (numbered-decompose m W many (length out)) decompose-says
@@ -67,7 +67,7 @@ module _ {m : ℕ} {W : Window} {out out′ : List ℕ} {r : Answer} (call : Dec
   decompose-answered = told-when _ refl (numbered-decompose m W many (length out)) decompose-says (decompose-passed m W many (length out))
 
   pub decompose-kept : (r .refusal ≡ 0 → ⊥) → out′ ≡ out
-  decompose-kept held = call .out-after ∙ decompose-untouched m W out (λ e. held (decompose-answered .1 (decompose-passed m W many (length out) .0 e)))
+  decompose-kept held = call .cells ∙ decompose-untouched m W out (λ e. held (decompose-answered .1 (decompose-passed m W many (length out) .0 e)))
 
 -- ---- exist
 
@@ -75,12 +75,12 @@ module _ {m : ℕ} {W : Window} {out out′ : List ℕ} {r : Answer} (call : Dec
 abbrev pub sayExists : ℕ → List ℕ → List ℕ → Window → ℕ → Answer
 sayExists m keys classes W class = ofExistence (cond (exists m keys classes W class) existence.Yes existence.No)
 
-module _ {m : ℕ} {keys classes : List ℕ} {W : Window} {class : ℕ} {border border′ : List ℕ} {r : Answer} (call : Exist m keys classes W class border r border′) where
-  pub exist-says : r ≡ answer refused (useRows m keys (length classes) W (length border)) (sayExists m keys classes W class)
+module _ (m : ℕ) (keys classes : List ℕ) (W : Window) (class : ℕ) (border : List ℕ) {border′ : List ℕ} {r : Answer} (call : Exist m keys classes W class border r border′) where
+  pub exist-says : r ≡ answer refused (useRefusals m keys (length classes) W (length border)) (sayExists m keys classes W class)
   exist-says =
       call .answer
       ∙ ap ofExistence (exist-by-lengths m keys classes W class border)
-      ∙ answer-part ofExistence existence.Refused (useRows m keys (length classes) W (length border)) _
+      ∙ answer-part ofExistence existence.Refused (useRefusals m keys (length classes) W (length border)) _
 
   -- yes and no are no refusals
   clear : sayExists m keys classes W class .refusal ≡ 0
@@ -100,13 +100,13 @@ module _ {m : ℕ} {keys classes : List ℕ} {W : Window} {class : ℕ} {border 
 
   pub exist-kept : (r .refusal ≡ 0 → ⊥) → border′ ≡ border
   exist-kept held =
-      call .border-after ∙ exist-untouched m keys classes W class border (λ e. held (exist-answered .1 (use-answerable m keys (length classes) W (length border) .0 e)))
+      call .cells ∙ exist-untouched m keys classes W class border (λ e. held (exist-answered .1 (use-answerable m keys (length classes) W (length border) .0 e)))
 
 -- ---- files
 
-module _ {file keys classes keys′ classes′ : List ℕ} {r : Answer} (call : Read file keys classes r keys′ classes′) where
-  pub read-says : r ≡ answer refused (readRows file (length keys) (length classes)) (values (fileM file) (fileQ file))
-  read-says = call .answer ∙ ap ofReading (read-by-lengths file keys classes) ∙ answer-part ofReading reading.Refused (readRows file (length keys) (length classes)) _
+module _ (file keys classes : List ℕ) {keys′ classes′ : List ℕ} {r : Answer} (call : Read file keys classes r keys′ classes′) where
+  pub read-says : r ≡ answer refused (readRefusals file (length keys) (length classes)) (values (fileM file) (fileQ file))
+  read-says = call .answer ∙ ap ofReading (read-by-lengths file keys classes) ∙ answer-part ofReading reading.Refused (readRefusals file (length keys) (length classes)) _
 
   pub read-numbered : r .refusal ≤ 9
   read-numbered = told-most _ refl (numbered-read file (length keys) (length classes)) read-says
@@ -116,15 +116,15 @@ module _ {file keys classes keys′ classes′ : List ℕ} {r : Answer} (call : 
 
   pub read-kept : (r .refusal ≡ 0 → ⊥) → (keys′ ≡ keys) × (classes′ ≡ classes)
   read-kept held =
-      let same = read-untouched file keys classes (λ R. held (read-answered .1 R)) in
-      (call .keys-after ∙ same .0, call .classes-after ∙ same .1)
+      let same = call .cells ∙ read-untouched file keys classes (λ R. held (read-answered .1 R)) in
+      (ap (λ (x : List ℕ × List ℕ). x .0) same, ap (λ (x : List ℕ × List ℕ). x .1) same)
 
-module _ {m : ℕ} {keys classes out out′ : List ℕ} {r : Answer} (call : Write m keys classes out r out′) where
-  pub write-says : r ≡ answer refused (writeRows m (length keys) (length classes) (length out)) (values (20 + 5 * length keys) 0)
+module _ (m : ℕ) (keys classes out : List ℕ) {out′ : List ℕ} {r : Answer} (call : Write m keys classes out r out′) where
+  pub write-says : r ≡ answer refused (writeRefusals m (length keys) (length classes) (length out)) (values (20 + 5 * length keys) 0)
   write-says =
       call .answer
       ∙ ap ofWriting (write-by-length m keys classes out)
-      ∙ answer-part ofWriting writing.Refused (writeRows m (length keys) (length classes) (length out)) _
+      ∙ answer-part ofWriting writing.Refused (writeRefusals m (length keys) (length classes) (length out)) _
 
   pub write-numbered : r .refusal ≤ 8
   write-numbered = told-most _ refl (numbered-write m (length keys) (length classes) (length out)) write-says
@@ -133,4 +133,4 @@ module _ {m : ℕ} {keys classes out out′ : List ℕ} {r : Answer} (call : Wri
   write-answered = told-when _ refl (numbered-write m (length keys) (length classes) (length out)) write-says (write-passed m (length keys) (length classes) (length out))
 
   pub write-kept : (r .refusal ≡ 0 → ⊥) → out′ ≡ out
-  write-kept held = call .out-after ∙ write-untouched m keys classes out (λ t. held (write-answered .1 t))
+  write-kept held = call .cells ∙ write-untouched m keys classes out (λ t. held (write-answered .1 t))

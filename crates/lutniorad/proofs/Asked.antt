@@ -3,27 +3,27 @@
 use mathlib.Core.Path.{_≡_, refl, sym, ap, _∙_}
 use mathlib.Core.Logic.{_↔_}
 use mathlib.Core.Bool.{Bool, true, false}
-use mathlib.Core.List.{List, [], _∷_, _++_}
+use mathlib.Core.List.{List, [], _++_}
 use Prim.Native.Nat.{ℕ, _+_, _*_, _≤_}
 use native.Mathlib.Omega.{arith}
-use lib.Dec.{ltb}
 use lib.ListN.{length, getD, take}
 use lib.Seq.{getD-take}
 use Rattle.lists.specs.Lists.{sum}
 use Rattle.lists.proofs.Tests.{never}
-use Rattle.answers.specs.Rows.{row, answer}
+use Rattle.answers.specs.Refusals.{refusal, answer}
 use Rattle.answers.specs.Cells.{overwrite}
+use Rattle.answers.specs.After.{after, roomRefusals}
 use Rattle.answers.proofs.Laws.{on-passed, take-overwrite, drop-overwrite}
+use Rattle.window.specs.Blocks.{pixels}
 use Rattle.window.specs.declared.Window.{Window}
 use Rattle.map.proofs.Laws.{spaced}
-use Rattle.border.specs.Open.{useRows, after, spent, usedFor}
+use Rattle.border.specs.Open.{useRefusals, spent, usedFor}
 use Rattle.border.specs.Promises.{Answerable}
 use Rattle.border.proofs.Laws.{use-answerable}
 use Rattle.query.specs.declared.Queried.the-variants.{Done, Refused}
 use Rattle.query.specs.Classes.{exists, totals}
 use Rattle.query.specs.Select.{selection}
-use Rattle.query.proofs.Laws.{exists-means, exist-leaves, report-is, totals-length, totals-at, totals-sum}
-use Rattle.query.proofs.Laws.{select-is, selection-pixels, selection-one, selection-once, selection-few}
+use Rattle.query.proofs.Laws.{exists-means, exist-leaves, report-is, totals-length, totals-at, totals-sum, select-is, selection-pixels, selection-one, selection-once, selection-few}
 use Rattle.lutniorad.specs.declared.Answer.{Answer}
 use Rattle.lutniorad.specs.Numbers.{values, refused, ofQueried}
 use Rattle.lutniorad.specs.Calls.{Exist, Report, Select}
@@ -36,13 +36,13 @@ use Rattle.lutniorad.proofs.Using.{used-crossed, used-says, used-number
 one-not-zero : values 1 0 ≡ values 0 0 → ⊥
 one-not-zero e = let d : _≡_ {A = ℕ} 1 0 = ap (λ (x : Answer). x .first) e in omega arith
 
-module _ {m : ℕ} {keys classes : List ℕ} {W : Window} {class : ℕ} {border border′ : List ℕ} {r : Answer} (call : Exist m keys classes W class border r border′) (z : r .refusal ≡ 0) where
+module _ (m : ℕ) (keys classes : List ℕ) (W : Window) (class : ℕ) (border : List ℕ) {border′ : List ℕ} {r : Answer} (call : Exist m keys classes W class border r border′) (z : r .refusal ≡ 0) where
   pub exist-promise : ExistPromise m keys classes W class border r border′
   exist-promise =
-      let passed = use-answerable m keys (length classes) W (length border) .1 (exist-answered call .0 z) in
+      let passed = use-answerable m keys (length classes) W (length border) .1 (exist-answered m keys classes W class border call .0 z) in
       let means = exists-means m keys classes class W in
-      let two = go (exists m keys classes W class) refl means (exist-says call ∙ on-passed refused _ _ passed) in
-      record { yes = two .0; no = two .1; border-after = call .border-after ∙ exist-leaves m keys classes W class border passed }
+      let two = go (exists m keys classes W class) refl means (exist-says m keys classes W class border call ∙ on-passed refused _ _ passed) in
+      record { yes = two .0; no = two .1; border-after = call .cells ∙ exist-leaves m keys classes W class border passed }
     where
       go : (b : Bool) → exists m keys classes W class ≡ b → (exists m keys classes W class ≡ true) ↔ SomePixel m keys classes W class → r ≡ sayExists m keys classes W class
           → ((r ≡ values 1 0) ↔ SomePixel m keys classes W class) × ((r ≡ values 0 0) ↔ (¬ SomePixel m keys classes W class))
@@ -61,11 +61,11 @@ module _ (m : ℕ) (keys classes : List ℕ) (W : Window) (border out : List ℕ
   counts = totals m keys classes W
 
   -- the call in numbers
-  reported : after r border′ out′ ≡ usedFor refused (values (W .h * W .w) 0) counts m keys (length classes) W border out
+  reported : after r (border′, out′) ≡ usedFor refused (values (W .h * W .w) 0) counts m keys (length classes) W border out
   reported = used-crossed ofQueried Refused (Done (W .h * W .w)) counts m keys (length classes) W border out (report-is m keys classes W border out) call
 
   pub report-says : r
-      ≡ answer refused (useRows m keys (length classes) W (length border) ++ (row (ltb (length out) (length counts)) 8 (length counts) ∷ [])) (values (W .h * W .w) 0)
+      ≡ answer refused (useRefusals m keys (length classes) W (length border) ++ roomRefusals (length out) (length counts)) (values (W .h * W .w) 0)
   report-says = used-says (W .h * W .w) 0 counts m keys (length classes) W border out reported
 
   -- answered exactly when the map is sound, the window inside, the border has w cells and the slice 256
@@ -99,10 +99,10 @@ module _ (m : ℕ) (keys classes : List ℕ) (W : Window) (class : ℕ) (border 
   ks = selection m m keys classes W class
 
   -- the call in numbers
-  selects : after r border′ out′ ≡ usedFor refused (values (length ks) 0) ks m keys (length classes) W border out
+  selects : after r (border′, out′) ≡ usedFor refused (values (length ks) 0) ks m keys (length classes) W border out
   selects = used-crossed ofQueried Refused (Done (length ks)) ks m keys (length classes) W border out (select-is m keys classes W class border out) call
 
-  pub select-says : r ≡ answer refused (useRows m keys (length classes) W (length border) ++ (row (ltb (length out) (length ks)) 8 (length ks) ∷ [])) (values (length ks) 0)
+  pub select-says : r ≡ answer refused (useRefusals m keys (length classes) W (length border) ++ roomRefusals (length out) (length ks)) (values (length ks) 0)
   select-says = used-says (length ks) 0 ks m keys (length classes) W border out selects
 
   -- answered exactly when the map is sound, the window inside, and there is room in the border and for the keys

@@ -4,28 +4,30 @@ use mathlib.Core.Path.{refl}
 use mathlib.Core.List.{List, [], _∷_}
 use Prim.Native.Nat.{ℕ}
 use Rattle.lists.specs.Lists.{upFrom, any, keep, before, howMany, greatest}
-use Rattle.answers.specs.Rows.{answer}
-use Rattle.answers.specs.Sizes.{wrongCount, sizeRows}
+use Rattle.answers.specs.Refusals.{answer}
+use Rattle.answers.specs.Sizes.{wrongCount, sizeRefusals, pictureRefusals, countRefusals}
 use Rattle.answers.specs.Cells.{overwrite}
+use Rattle.answers.specs.After.{roomRefusals, roomFor}
 use Rattle.key.specs.Spread.{spreadTo, spread}
 use Rattle.key.specs.Picture.{place}
 use Rattle.key.specs.Key.{pixelKey, blockKey}
 use Rattle.key.specs.Form.{from, formOf}
-use Rattle.window.specs.Window.{beyond, outside, windowRows}
+use Rattle.window.specs.Window.{beyond, outside, windowRefusals}
 use Rattle.window.specs.Blocks.{floor, lies, fits, exponent, corner, across, rows, isCorner, maximal}
-use Rattle.window.specs.Decompose.{keyOf, keysOf, decomposeRows, decomposeOf}
+use Rattle.window.specs.Decompose.{keyOf, keysOf, decomposeRefusals, decomposeOf}
 use Rattle.map.specs.Spans as spans
-use Rattle.map.specs.Check.{late, rowsFrom, mapRows}
+use Rattle.map.specs.Check.{late, refusalsFrom, mapRefusals}
 use Rattle.map.specs.Records.{recordOf, exponentOf}
 use Rattle.map.specs.Runs.{runOf}
-use Rattle.border.specs.Openings.{indices, within, isHanded, made, opening, openFrom, openings, handsOut, cellsOf}
-use Rattle.border.specs.Open.{useRows, spent, usedFor, openOf}
+use Rattle.border.specs.Openings.{isHanded, made, opening, openFrom, openings, handedCount, cellsOf}
+use Rattle.map.specs.Spans.{within}
+use Rattle.border.specs.Open.{useRefusals, spent, usedFor, openOf, borderRefusals}
 use Rattle.border.specs.Promises.{openingsIn}
 use Rattle.lutniorad.specs.Numbers.{values}
 use Rattle.lutniorad.specs.Calls.{Decompose, Open}
 use Rattle.lutniorad.specs.Promises.{DecomposePromise, OpenPromise}
 use Rattle.lutniorad.proofs.Table.{keys, classes, W, old}
-use Rattle.lutniorad.proofs.Laws.{decompose-promise, open-promise}
+use Rattle.lutniorad.proofs.Promised.{decompose-promise, open-promise}
 
 abbrev cells : List ℕ
 cells = 7 ∷ 0 ∷ 1 ∷ 10 ∷ 1 ∷ 4 ∷ 17 ∷ 5 ∷ 1 ∷ 21 ∷ 6 ∷ 1 ∷ []
@@ -38,15 +40,15 @@ record Called : Type 0 where
   p2 : Decompose 2 W (old 6) (values 6 0) blocks
 
 called : Called
-unfolding answer wrongCount sizeRows overwrite upFrom spreadTo spread place pixelKey blockKey from formOf beyond outside windowRows keep floor lies
-    fits greatest exponent corner across rows isCorner maximal keyOf keysOf decomposeRows decomposeOf spans.malformed spans.exponent spans.start
-    spans.end spans.holds spans.overlap late rowsFrom mapRows before howMany recordOf exponentOf runOf any indices within isHanded opening openFrom
-    openings handsOut cellsOf useRows spent usedFor openOf
-called = record { p1 = record { answer = refl; border-after = refl; out-after = refl }; p2 = record { answer = refl; out-after = refl } }
+unfolding pictureRefusals countRefusals roomRefusals borderRefusals roomFor answer wrongCount sizeRefusals overwrite upFrom spreadTo spread place pixelKey blockKey from formOf beyond outside windowRefusals keep floor lies
+    fits greatest exponent corner across rows isCorner maximal keyOf keysOf decomposeRefusals decomposeOf spans.malformed spans.exponent spans.start
+    spans.end spans.holds spans.overlap late refusalsFrom mapRefusals before howMany recordOf exponentOf runOf any within isHanded opening openFrom
+    openings handedCount cellsOf useRefusals spent usedFor openOf
+called = record { p1 = record { answer = refl; cells = refl }; p2 = record { answer = refl; cells = refl } }
 
 p1-promise : OpenPromise 2 keys W (old 3) (old 12) (made 7 0 1 ∷ made 10 1 4 ∷ made 17 5 1 ∷ made 21 6 1 ∷ []) (values 4 7) (3 ∷ 3 ∷ 3 ∷ []) cells
 unfolding openingsIn
 p1-promise = open-promise 2 keys classes W (old 3) (old 12) (called .p1) refl
 
 p2-promise : DecomposePromise 2 W (old 6) (values 6 0) blocks
-p2-promise = decompose-promise (called .p2) refl
+p2-promise = decompose-promise 2 W (old 6) (called .p2) refl

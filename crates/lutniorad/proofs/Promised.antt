@@ -2,14 +2,14 @@
 -- Assumes nothing.
 use mathlib.Core.Path.{_≡_, refl, sym, ap, _∙_}
 use mathlib.Core.Logic.{_↔_}
-use mathlib.Core.List.{List, [], _∷_, _++_, List·Memᴰ, map, map-map, Memᴰ·map, Memᴰ·of-map}
+use mathlib.Core.List.{List, [], _++_, List·Memᴰ, map, map-map, Memᴰ·map, Memᴰ·of-map}
 use Prim.Native.Nat.{ℕ, _+_, _*_, _≤_}
 use native.Mathlib.Omega.{arith}
-use lib.Dec.{ltb}
 use lib.ListN.{length, take, length-map}
 use Rattle.lists.proofs.Laws.{ordered-map, map-same}
-use Rattle.answers.specs.Rows.{row, answer}
+use Rattle.answers.specs.Refusals.{refusal, answer}
 use Rattle.answers.specs.Cells.{overwrite}
+use Rattle.answers.specs.After.{after, roomRefusals}
 use Rattle.answers.proofs.Laws.{on-passed, take-overwrite}
 use Rattle.key.specs.Key.{blockKey}
 use Rattle.window.specs.declared.Window.{Window}
@@ -19,8 +19,8 @@ use Rattle.window.specs.Decompose.{keysOf}
 use Rattle.window.proofs.Laws.{maximal-listed, listed-ordered, blocks-few, keys-of, keys-length, key-at, decompose-passed, decompose-leaves}
 use Rattle.map.proofs.Laws.{spaced}
 use Rattle.border.specs.declared.Opened.the-variants.{Done, Refused}
-use Rattle.border.specs.Openings.{Opening, openings, handsOut, cellsOf}
-use Rattle.border.specs.Open.{useRows, after, spent, usedFor}
+use Rattle.border.specs.Openings.{Opening, openings, handedCount, cellsOf}
+use Rattle.border.specs.Open.{useRefusals, spent, usedFor}
 use Rattle.border.specs.Promises.{Answerable, openingsIn}
 use Rattle.border.proofs.Laws.{open-is, openings-in, cells-length, hands-count, hands-all, hands-once, openings-few, hands-some, fewest-whole}
 use Rattle.lutniorad.specs.declared.Answer.{Answer}
@@ -64,23 +64,23 @@ module _ (m : ℕ) (W : Window) where
   unfolding listed
   many = keys-length m m W ∙ sym (length-map (maximal W m) sized)
 
-pub decompose-promise : {m : ℕ} {W : Window} {out out′ : List ℕ} {r : Answer} → Decompose m W out r out′ → r .refusal ≡ 0 → DecomposePromise m W out r out′
+pub decompose-promise : (m : ℕ) (W : Window) (out : List ℕ) {out′ : List ℕ} {r : Answer} → Decompose m W out r out′ → r .refusal ≡ 0 → DecomposePromise m W out r out′
 unfolding listed sized
-decompose-promise {m} {W} {out} call z =
-    let t = decompose-answered call .0 z in
+decompose-promise m W out call z =
+    let t = decompose-answered m W out call .0 z in
     let passed = decompose-passed m W (length (keysOf m m W)) (length out) .1 t in
     record {
       blocks = listed m W;
       exactly = exactly m W;
       in-order = ordered-map (sized m W) (listed-ordered W m) (λ p q k l b. b);
       few = omega (arith, many m W, keys-length m m W, blocks-few W m (t .1));
-      number = decompose-says call ∙ on-passed refused _ _ passed ∙ ap (λ (n : ℕ). values n 0) (many m W);
-      cells = call .out-after ∙ decompose-leaves m W out passed ∙ ap (λ (ks : List ℕ). overwrite ks out) (their-keys m W);
+      number = decompose-says m W out call ∙ on-passed refused _ _ passed ∙ ap (λ (n : ℕ). values n 0) (many m W);
+      cells = call .cells ∙ decompose-leaves m W out passed ∙ ap (λ (ks : List ℕ). overwrite ks out) (their-keys m W);
     }
 
 -- 4 (w + h) cells are always enough
-pub decompose-enough : {m : ℕ} {W : Window} {out out′ : List ℕ} {r : Answer} → Decompose m W out r out′ → m ≤ 12 → Inside m W → 4 * (W .w + W .h) ≤ length out → r .refusal ≡ 0
-decompose-enough {m} {W} call l I room = decompose-answered call .1 (l, I, omega (arith, keys-length m m W, blocks-few W m I))
+pub decompose-enough : (m : ℕ) (W : Window) (out : List ℕ) {out′ : List ℕ} {r : Answer} → Decompose m W out r out′ → m ≤ 12 → Inside m W → 4 * (W .w + W .h) ≤ length out → r .refusal ≡ 0
+decompose-enough m W out call l I room = decompose-answered m W out call .1 (l, I, omega (arith, keys-length m m W, blocks-few W m I))
 
 -- ---- opening
 
@@ -89,32 +89,32 @@ module _ (m : ℕ) (keys classes : List ℕ) (W : Window) (border out : List ℕ
   os = openings m m keys W
 
   -- the call in numbers
-  opened : after r border′ out′ ≡ usedFor refused (values (length os) (handsOut os)) (cellsOf os) m keys (length classes) W border out
+  opened : after r (border′, out′) ≡ usedFor refused (values (length os) (handedCount os)) (cellsOf os) m keys (length classes) W border out
   opened =
-      let numbers = Done (length os) (handsOut os) in
+      let numbers = Done (length os) (handedCount os) in
       used-crossed ofOpened Refused numbers (cellsOf os) m keys (length classes) W border out (open-is m keys (length classes) W border out) call
 
   pub open-says : r
-      ≡ answer refused (useRows m keys (length classes) W (length border) ++ (row (ltb (length out) (length (cellsOf os))) 8 (length (cellsOf os)) ∷ [])) (values (length os) (handsOut os))
-  open-says = used-says (length os) (handsOut os) (cellsOf os) m keys (length classes) W border out opened
+      ≡ answer refused (useRefusals m keys (length classes) W (length border) ++ roomRefusals (length out) (length (cellsOf os))) (values (length os) (handedCount os))
+  open-says = used-says (length os) (handedCount os) (cellsOf os) m keys (length classes) W border out opened
 
   -- answered exactly when the map is sound, the window inside, and there is room in the border and for the openings
   pub open-answered : (r .refusal ≡ 0) ↔ (Answerable m keys (length classes) W (length border) × (3 * length os ≤ length out))
-  open-answered = rw (← cells-length os) (used-answered (length os) (handsOut os) (cellsOf os) m keys (length classes) W border out opened)
+  open-answered = rw (← cells-length os) (used-answered (length os) (handedCount os) (cellsOf os) m keys (length classes) W border out opened)
 
   -- as it is with 12 (w + h) cells
   pub open-enough : Answerable m keys (length classes) W (length border) → 12 * (W .w + W .h) ≤ length out → r .refusal ≡ 0
   open-enough A l = open-answered .1 (A, omega (arith, openings-few (spaced (A .sound .records)) (A .inside)))
 
   pub open-numbered : r .refusal ≤ 8
-  open-numbered = used-numbered (length os) (handsOut os) (cellsOf os) m keys (length classes) W border out opened
+  open-numbered = used-numbered (length os) (handedCount os) (cellsOf os) m keys (length classes) W border out opened
 
   pub open-kept : (r .refusal ≡ 0 → ⊥) → RefusalLeaves W border out r border′ out′
-  open-kept = used-kept (length os) (handsOut os) (cellsOf os) m keys (length classes) W border out opened
+  open-kept = used-kept (length os) (handedCount os) (cellsOf os) m keys (length classes) W border out opened
 
   module _ (z : r .refusal ≡ 0) where
-    left : (r ≡ values (length os) (handsOut os)) × (border′ ≡ spent W border) × (out′ ≡ overwrite (cellsOf os) out)
-    left = used-leaves (length os) (handsOut os) (cellsOf os) m keys (length classes) W border out opened z
+    left : (r ≡ values (length os) (handedCount os)) × (border′ ≡ spent W border) × (out′ ≡ overwrite (cellsOf os) out)
+    left = used-leaves (length os) (handedCount os) (cellsOf os) m keys (length classes) W border out opened z
 
     stand : openingsIn (take (3 * r .first) out′) ≡ os
     stand =

@@ -5,12 +5,12 @@ use mathlib.Core.Logic.{_↔_}
 use mathlib.Core.List.{List}
 use Prim.Native.Nat.{ℕ, _≤_}
 use Rattle.answers.specs.declared.Verdict.the-variants.{Passed}
-use Rattle.answers.specs.Rows.{Row, answer, verdict}
+use Rattle.answers.specs.Refusals.{Refusal, answer, verdict}
 use Rattle.answers.proofs.Numbered.{Numbered, number-zero, number-most}
 use Rattle.lutniorad.specs.declared.Answer.{Answer}
 use Rattle.lutniorad.specs.Numbers.{refused}
 
-module _ {most : ℕ} {rs : List Row} {r : Answer} (a : Answer) (clear : a .refusal ≡ 0) (N : Numbered most rs) (says : r ≡ answer refused rs a) where
+module _ {most : ℕ} {rs : List Refusal} {r : Answer} (a : Answer) (clear : a .refusal ≡ 0) (N : Numbered most rs) (says : r ≡ answer refused rs a) where
   pub told-most : r .refusal ≤ most
   told-most = rw says (number-most refused (λ (x : Answer). x .refusal) (λ n p. refl) N clear)
 

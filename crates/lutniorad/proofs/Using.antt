@@ -2,41 +2,41 @@
 -- Assumes nothing.
 use mathlib.Core.Path.{_≡_, refl, ap, _∙_}
 use mathlib.Core.Logic.{_↔_}
-use mathlib.Core.List.{List, [], _∷_, _++_}
+use mathlib.Core.List.{List, [], _++_}
 use Prim.Native.Nat.{ℕ, _≤_, _<_}
 use native.Mathlib.Decide.{decLt}
 use native.Mathlib.Omega.{arith}
-use lib.Dec.{ltb}
 use lib.ListN.{length}
 use Rattle.answers.specs.declared.Verdict.{Verdict}
 use Rattle.answers.specs.declared.Verdict.the-variants as verdict-of
-use Rattle.answers.specs.Rows.{row, answer, verdict}
+use Rattle.answers.specs.Refusals.{refusal, answer, verdict}
 use Rattle.answers.specs.Cells.{overwrite}
+use Rattle.answers.specs.After.{After, after, roomRefusals}
 use Rattle.answers.proofs.Laws.{on-refused}
 use Rattle.window.specs.declared.Window.{Window}
-use Rattle.border.specs.Open.{useRows, spent, After, after, usedFor}
+use Rattle.border.specs.Open.{useRefusals, spent, usedFor}
 use Rattle.border.specs.Promises.{Answerable}
 use Rattle.border.proofs.Laws.{use-answerable, numbered-use, numbered-used, used-answerable, used-said, used-by-lengths, used-refused, used-short, used-done}
 use Rattle.lutniorad.specs.declared.Answer.{Answer}
 use Rattle.lutniorad.specs.Numbers.{values, refused}
-use Rattle.lutniorad.specs.Calls.{Used}
+use Rattle.lutniorad.specs.Calls.{Call}
 use Rattle.lutniorad.specs.Promises.{RefusalLeaves}
+use Rattle.lutniorad.proofs.Crossing.{crossed}
 use Rattle.lutniorad.proofs.Told.{told-most, told-when}
 
 -- from the contract of such a call to one outcome in numbers
 pub used-crossed : {A : Type 0} (say : A → Answer) (refuse : ℕ → ℕ → A) (done : A) (cells : List ℕ) (m : ℕ) (keys : List ℕ) (classes : ℕ) (W : Window) (border out : List ℕ)
-    {o : After A} {r : Answer} {border′ out′ : List ℕ} → o ≡ usedFor refuse done cells m keys classes W border out → Used say o r border′ out′
-    → after r border′ out′ ≡ usedFor (λ n p. say (refuse n p)) (say done) cells m keys classes W border out
+    {o : After A (List ℕ × List ℕ)} {r : Answer} {border′ out′ : List ℕ} → o ≡ usedFor refuse done cells m keys classes W border out → Call say o r (border′, out′)
+    → after r (border′, out′) ≡ usedFor (λ n p. say (refuse n p)) (say done) cells m keys classes W border out
 used-crossed {A} say refuse done cells m keys classes W border out is call =
-    rw (call .answer, call .border-after, call .out-after)
-    (ap (λ (x : After A). after (say (x .answer)) (x .border) (x .out)) is ∙ used-said refuse done cells m keys classes W border out say)
+    crossed say call ∙ ap (λ (x : After A (List ℕ × List ℕ)). after (say (x .answer)) (x .lent)) is ∙ used-said refuse done cells m keys classes W border out say
 
 -- a call that answers two values and writes cells
 module _ (first second : ℕ) (cells : List ℕ) (m : ℕ) (keys : List ℕ) (classes : ℕ) (W : Window) (border out : List ℕ) {r : Answer} {border′ out′ : List ℕ}
-    (call : after r border′ out′ ≡ usedFor refused (values first second) cells m keys classes W border out) where
+    (call : after r (border′, out′) ≡ usedFor refused (values first second) cells m keys classes W border out) where
   -- the first of refusals 1 to 8, or the values; of the two slices only the lengths count
-  pub used-says : r ≡ answer refused (useRows m keys classes W (length border) ++ (row (ltb (length out) (length cells)) 8 (length cells) ∷ [])) (values first second)
-  used-says = ap (λ (x : After Answer). x .answer) call ∙ used-by-lengths refused (values first second) cells m keys classes W border out
+  pub used-says : r ≡ answer refused (useRefusals m keys classes W (length border) ++ roomRefusals (length out) (length cells)) (values first second)
+  used-says = ap (λ (x : After Answer (List ℕ × List ℕ)). x .answer) call ∙ used-by-lengths refused (values first second) cells m keys classes W border out
 
   pub used-numbered : r .refusal ≤ 8
   used-numbered = told-most (values first second) refl (numbered-used refused (values first second) cells m keys classes W border out) used-says
@@ -51,36 +51,36 @@ module _ (first second : ℕ) (cells : List ℕ) (m : ℕ) (keys : List ℕ) (cl
   used-leaves z =
       let t = used-answered .0 z in
       let d = call ∙ used-done refused (values first second) cells m keys classes W border out (use-answerable m keys classes W (length border) .1 (t .0)) (t .1) in
-      (ap (λ (x : After Answer). x .answer) d, ap (λ (x : After Answer). x .border) d, ap (λ (x : After Answer). x .out) d)
+      (ap (λ (x : After Answer (List ℕ × List ℕ)). x .answer) d, ap (λ (x : After Answer (List ℕ × List ℕ)). x .lent .0) d, ap (λ (x : After Answer (List ℕ × List ℕ)). x .lent .1) d)
 
   -- a refused one leaves the slice as it was, and the border too, but that 8 spends it
   pub used-kept : (r .refusal ≡ 0 → ⊥) → RefusalLeaves W border out r border′ out′
-  used-kept held = go (verdict (useRows m keys classes W (length border))) refl
+  used-kept held = go (verdict (useRefusals m keys classes W (length border))) refl
     where
-      small : {n p : ℕ} → verdict (useRows m keys classes W (length border)) ≡ verdict-of.Refused n p → n ≤ 7
+      small : {n p : ℕ} → verdict (useRefusals m keys classes W (length border)) ≡ verdict-of.Refused n p → n ≤ 7
       small e =
-          rw (ap (λ (x : Answer). x .refusal) (on-refused refused (useRows m keys classes W (length border)) (values 0 0) e))
+          rw (ap (λ (x : Answer). x .refusal) (on-refused refused (useRefusals m keys classes W (length border)) (values 0 0) e))
           at (told-most {most = 7} (values 0 0) refl (numbered-use m keys classes W (length border) (omega arith)) refl)
 
-      room : verdict (useRows m keys classes W (length border)) ≡ verdict-of.Passed → Dec (length out < length cells)
+      room : verdict (useRefusals m keys classes W (length border)) ≡ verdict-of.Passed → Dec (length out < length cells)
           → RefusalLeaves W border out r border′ out′
       room e (yes l) =
           let d = call ∙ used-short refused (values first second) cells m keys classes W border out e l in
           record {
-            out-kept = ap (λ (x : After Answer). x .out) d;
-            border-spent = λ h. ap (λ (x : After Answer). x .border) d;
-            border-kept = λ n. absurd (n (ap (λ (x : After Answer). x .answer .refusal) d));
+            out-kept = ap (λ (x : After Answer (List ℕ × List ℕ)). x .lent .1) d;
+            border-spent = λ h. ap (λ (x : After Answer (List ℕ × List ℕ)). x .lent .0) d;
+            border-kept = λ n. absurd (n (ap (λ (x : After Answer (List ℕ × List ℕ)). x .answer .refusal) d));
           }
       room e (no n) = absurd (held (used-answered .1 (use-answerable m keys classes W (length border) .0 e, omega (arith, n))))
 
-      go : (v : Verdict) → verdict (useRows m keys classes W (length border)) ≡ v
+      go : (v : Verdict) → verdict (useRefusals m keys classes W (length border)) ≡ v
           → RefusalLeaves W border out r border′ out′
       go verdict-of.Passed e = room e (decLt (length out) (length cells))
       go (verdict-of.Refused n p) e =
           let d = call ∙ used-refused refused (values first second) cells m keys classes W border out e in
-          let number : r .refusal ≡ n = ap (λ (x : After Answer). x .answer .refusal) d in
+          let number : r .refusal ≡ n = ap (λ (x : After Answer (List ℕ × List ℕ)). x .answer .refusal) d in
           record {
-            out-kept = ap (λ (x : After Answer). x .out) d;
+            out-kept = ap (λ (x : After Answer (List ℕ × List ℕ)). x .lent .1) d;
             border-spent = λ h. absurd (omega (arith, small e, number, h));
-            border-kept = λ h. ap (λ (x : After Answer). x .border) d;
+            border-kept = λ h. ap (λ (x : After Answer (List ℕ × List ℕ)). x .lent .0) d;
           }

@@ -7,14 +7,14 @@ use Prim.Native.Nat.{ℕ}
 use Rattle.lists.specs.Lists.{before, howMany}
 use Rattle.answers.specs.declared.Verdict.the-variants.{Passed}
 use Rattle.answers.specs.declared.Verdict.the-variants as refusal
-use Rattle.answers.specs.Rows.{answer, verdict}
-use Rattle.answers.specs.Sizes.{wrongCount, sizeRows}
+use Rattle.answers.specs.Refusals.{answer, verdict}
+use Rattle.answers.specs.Sizes.{wrongCount, sizeRefusals, pictureRefusals, countRefusals}
 use Rattle.key.specs.Spread.{spreadTo, spread}
 use Rattle.key.specs.Picture.{place}
 use Rattle.key.specs.Form.{from, formOf}
 use Rattle.map.specs.declared.Checked.the-variants.{Sound, Refused}
 use Rattle.map.specs.Spans.{malformed, exponent, start, end, holds, overlap}
-use Rattle.map.specs.Check.{late, rowsFrom, mapRows, checkOf}
+use Rattle.map.specs.Check.{late, refusalsFrom, mapRefusals, checkOf}
 use Rattle.map.specs.Records.{recordOf, exponentOf, tileOf}
 use Rattle.map.specs.Runs.{run, runOf}
 
@@ -41,10 +41,10 @@ pub record Examples : Type 0 where
   pub run-9 : runOf 2 keys 9 ≡ run 0 1 1
   pub run-0 : runOf 2 keys 0 ≡ run 0 7 2
   -- a map with gaps passes unless it is to be whole
-  pub gaps : verdict (rowsFrom false 2 0 0 gapped) ≡ Passed
-  pub not-whole : verdict (rowsFrom true 2 0 0 gapped) ≡ refusal.Refused 5 0
-  pub nothing : verdict (rowsFrom false 2 0 0 []) ≡ Passed
-  pub back : verdict (rowsFrom false 2 0 0 (20 ∷ 11 ∷ [])) ≡ refusal.Refused 4 1
+  pub gaps : verdict (refusalsFrom false 2 0 0 gapped) ≡ Passed
+  pub not-whole : verdict (refusalsFrom true 2 0 0 gapped) ≡ refusal.Refused 5 0
+  pub nothing : verdict (refusalsFrom false 2 0 0 []) ≡ Passed
+  pub back : verdict (refusalsFrom false 2 0 0 (20 ∷ 11 ∷ [])) ≡ refusal.Refused 4 1
   -- there block 7 meets no record, and its pixel is a tile of its own; block 10 meets one that does not contain it, and block 22 one that does
   pub run-none : runOf 2 gapped 7 ≡ run 0 0 0
   pub run-part : runOf 2 gapped 10 ≡ run 0 1 1
@@ -54,7 +54,7 @@ pub record Examples : Type 0 where
   pub tile : tileOf 2 gapped 1 ≡ 3
 
 pub examples : Examples
-unfolding answer wrongCount sizeRows spreadTo spread place from formOf malformed exponent start end holds overlap late rowsFrom mapRows checkOf before howMany recordOf exponentOf tileOf runOf
+unfolding pictureRefusals countRefusals answer wrongCount sizeRefusals spreadTo spread place from formOf malformed exponent start end holds overlap late refusalsFrom mapRefusals checkOf before howMany recordOf exponentOf tileOf runOf
 examples = record {
   sound = refl;
   pixel = refl;

@@ -6,7 +6,7 @@ use Prim.Native.Nat.{ℕ, suc, max, _+_, _-_, _^_, _≤_, _<_}
 use native.Mathlib.Decide.{decLt}
 use native.Mathlib.Omega.{arith}
 use lib.ListN.{getD}
-use Rattle.key.specs.Blocks.{Names, Among, Inside, Stand, within, around, after, before}
+use Rattle.key.specs.Blocks.{Names, Among, Inside, Stand, around, after, before, within}
 use Rattle.key.proofs.Laws.{one-block, blocks-stand, nested, pow-least}
 use Rattle.map.specs.Sound.{Spaced}
 use Rattle.map.specs.Records.{Record, SomeRecord}

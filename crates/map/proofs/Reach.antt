@@ -7,7 +7,7 @@ use Prim.Native.Nat.{ℕ, max, _+_, _^_, _≤_, _<_}
 use native.Mathlib.Nat.{eq-or-lt-of-le}
 use native.Mathlib.Omega.{arith}
 use lib.ListN.{length, getD}
-use Rattle.key.specs.Blocks.{Names, Among, Inside, Stand, within, around, after, before}
+use Rattle.key.specs.Blocks.{Names, Among, Inside, Stand, around, after, before, within}
 use Rattle.key.proofs.Laws.{one-block, block-lies, blocks-stand, whole-named, pow-least, size-le}
 use Rattle.map.specs.declared.Run.{Run}
 use Rattle.map.specs.Sound.{Follow, Spaced}

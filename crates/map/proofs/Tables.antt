@@ -10,10 +10,10 @@ use native.Mathlib.Omega.{arith}
 use lib.ListN.{length}
 use Rattle.answers.specs.declared.Verdict.the-variants.{Passed}
 use Rattle.answers.specs.declared.Verdict.the-variants as refusal
-use Rattle.answers.specs.Rows.{answer, verdict}
-use Rattle.answers.specs.Sizes.{sizeRows}
+use Rattle.answers.specs.Refusals.{answer, verdict}
+use Rattle.answers.specs.Sizes.{sizeRefusals}
 use Rattle.answers.proofs.Laws.{on-passed, on-refused, append-refused, append-passed, refused-not-passed, passed-append, sized}
-use Rattle.answers.proofs.Numbered.{Numbered, none, numbered-row, numbered-append, numbered-sizes}
+use Rattle.answers.proofs.Numbered.{Numbered, none, numbered-next, numbered-append, numbered-sizes}
 use Rattle.key.specs.declared.Form.{Form}
 use Rattle.key.specs.declared.Form.the-variants.{Block, Malformed}
 use Rattle.key.specs.Form.{formOf}
@@ -21,43 +21,43 @@ use Rattle.key.specs.Blocks.{Names}
 use Rattle.key.proofs.Laws.{one-block, block-lies}
 use Rattle.map.specs.declared.Checked.the-variants.{Sound, Refused}
 use Rattle.map.specs.Spans.{end}
-use Rattle.map.specs.Check.{late, rowsFrom, recordRows, mapRows, checkOf}
+use Rattle.map.specs.Check.{late, refusalsFrom, recordRefusals, mapRefusals, checkOf}
 use Rattle.map.specs.Sound.{Follow, full, next, Spaced, ended, later, SoundMap}
 use Rattle.map.proofs.Steps.{late-not, late-never, not-late, step-malformed, step-early, step-late, step-next, step-short, step-full}
 
 module _ (m : ℕ) (keys : List ℕ) (classes : ℕ) where
-  pub sizes-refused : {n p : ℕ} → verdict (sizeRows m (length keys) classes) ≡ refusal.Refused n p → verdict (mapRows m keys classes) ≡ refusal.Refused n p
-  unfolding mapRows
+  pub sizes-refused : {n p : ℕ} → verdict (sizeRefusals m (length keys) classes) ≡ refusal.Refused n p → verdict (mapRefusals m keys classes) ≡ refusal.Refused n p
+  unfolding mapRefusals
   sizes-refused e = append-refused refusal.Refused _ _ _ e
 
-  pub sizes-passed : verdict (sizeRows m (length keys) classes) ≡ Passed → verdict (mapRows m keys classes) ≡ verdict (recordRows m 0 0 keys)
-  unfolding mapRows
+  pub sizes-passed : verdict (sizeRefusals m (length keys) classes) ≡ Passed → verdict (mapRefusals m keys classes) ≡ verdict (recordRefusals m 0 0 keys)
+  unfolding mapRefusals
   sizes-passed e = append-passed refusal.Refused _ _ _ e
 
-  pub check-refused : {n p : ℕ} → verdict (mapRows m keys classes) ≡ refusal.Refused n p → checkOf m keys classes ≡ Refused n p
+  pub check-refused : {n p : ℕ} → verdict (mapRefusals m keys classes) ≡ refusal.Refused n p → checkOf m keys classes ≡ Refused n p
   unfolding checkOf
   check-refused e = on-refused Refused _ _ e
 
-  pub check-passed : verdict (mapRows m keys classes) ≡ Passed → checkOf m keys classes ≡ Sound (length keys)
+  pub check-passed : verdict (mapRefusals m keys classes) ≡ Passed → checkOf m keys classes ≡ Sound (length keys)
   unfolding checkOf
   check-passed e = on-passed Refused _ _ e
 
-  pub check-is : checkOf m keys classes ≡ answer Refused (mapRows m keys classes) (Sound (length keys))
+  pub check-is : checkOf m keys classes ≡ answer Refused (mapRefusals m keys classes) (Sound (length keys))
   unfolding checkOf
   check-is = refl
 
 -- ---- the records
 
 module _ {most : ℕ} (h : 5 ≤ most) where
-  numbered-records : (whole : Bool) (m n at : ℕ) (keys : List ℕ) → Numbered most (rowsFrom whole m n at keys)
-  unfolding rowsFrom
-  numbered-records whole m n at [] = numbered-row 5 (omega arith) h none
+  numbered-records : (whole : Bool) (m n at : ℕ) (keys : List ℕ) → Numbered most (refusalsFrom whole m n at keys)
+  unfolding refusalsFrom
+  numbered-records whole m n at [] = numbered-next 5 (omega arith) h none
   numbered-records whole m n at (k ∷ ks) =
       let rest = numbered-records whole m (suc n) (end (formOf m k)) ks in
-      numbered-row 3 (omega arith) (omega arith) (numbered-row 4 (omega arith) (omega arith) (numbered-row 5 (omega arith) h rest))
+      numbered-next 3 (omega arith) (omega arith) (numbered-next 4 (omega arith) (omega arith) (numbered-next 5 (omega arith) h rest))
 
-  pub numbered-map : (m : ℕ) (keys : List ℕ) (classes : ℕ) → Numbered most (mapRows m keys classes)
-  unfolding mapRows
+  pub numbered-map : (m : ℕ) (keys : List ℕ) (classes : ℕ) → Numbered most (mapRefusals m keys classes)
+  unfolding mapRefusals
   numbered-map m keys classes = numbered-append (numbered-sizes m (length keys) classes (omega arith)) (numbered-records true m 0 0 keys)
 
 -- what the table asks of the records behind `at`: that they follow one another, or that they are spaced
@@ -66,41 +66,41 @@ module _ (whole : Bool) (m : ℕ) (Good : ℕ → List ℕ → Type 0)
     (some : (at k : ℕ) (ks : List ℕ) → Good at (k ∷ ks) → (i : ℕ) × (s : ℕ) × Names m k i s × (at ≤ s) × (late whole at s ≡ false) × Good (s + 4 ^ i) ks)
     (more : (at k : ℕ) (ks : List ℕ) (i s : ℕ) → Names m k i s → at ≤ s → late whole at s ≡ false → Good (s + 4 ^ i) ks → Good at (k ∷ ks)) where
   passes-on : (n at k : ℕ) (ks : List ℕ) (f : Form) → formOf m k ≡ f
-      → ((e : ℕ) → e ≤ 4 ^ m → (verdict (rowsFrom whole m (suc n) e ks) ≡ Passed) ↔ Good e ks)
-      → (verdict (rowsFrom whole m n at (k ∷ ks)) ≡ Passed) ↔ Good at (k ∷ ks)
+      → ((e : ℕ) → e ≤ 4 ^ m → (verdict (refusalsFrom whole m (suc n) e ks) ≡ Passed) ↔ Good e ks)
+      → (verdict (refusalsFrom whole m n at (k ∷ ks)) ≡ Passed) ↔ Good at (k ∷ ks)
   passes-on n at k ks Malformed e ih = (λ v. absurd (refused-not-passed (sym (step-malformed whole m n at k ks e) ∙ v)), from)
     where
-      from : Good at (k ∷ ks) → verdict (rowsFrom whole m n at (k ∷ ks)) ≡ Passed
+      from : Good at (k ∷ ks) → verdict (refusalsFrom whole m n at (k ∷ ks)) ≡ Passed
       from g = let t = some at k ks g in let d = t .2 .is in absurd (let z : _≡_ {A = ℕ} 0 1 = cc in omega arith)
   passes-on n at k ks (Block i s) e ih = (to (decLt s at) (late whole at s) refl, from)
     where
       b : Names m k i s
       b = record { is = e }
 
-      rest : (verdict (rowsFrom whole m (suc n) (s + 4 ^ i) ks) ≡ Passed) ↔ Good (s + 4 ^ i) ks
+      rest : (verdict (refusalsFrom whole m (suc n) (s + 4 ^ i) ks) ≡ Passed) ↔ Good (s + 4 ^ i) ks
       rest = ih (s + 4 ^ i) (block-lies b .span)
 
-      to : Dec (s < at) → (t : Bool) → late whole at s ≡ t → verdict (rowsFrom whole m n at (k ∷ ks)) ≡ Passed → Good at (k ∷ ks)
+      to : Dec (s < at) → (t : Bool) → late whole at s ≡ t → verdict (refusalsFrom whole m n at (k ∷ ks)) ≡ Passed → Good at (k ∷ ks)
       to (yes l) t d v = absurd (refused-not-passed (sym (step-early whole m n at k ks b l) ∙ v))
       to (no g) true d v = absurd (refused-not-passed (sym (step-late whole m n at k ks b d) ∙ v))
       to (no g) false d v = let l : at ≤ s = omega arith in more at k ks i s b l d (rest .0 (sym (step-next whole m n at k ks b l d) ∙ v))
 
-      from : Good at (k ∷ ks) → verdict (rowsFrom whole m n at (k ∷ ks)) ≡ Passed
+      from : Good at (k ∷ ks) → verdict (refusalsFrom whole m n at (k ∷ ks)) ≡ Passed
       from g =
           let t = some at k ks g in
           let o = one-block b (t .2) in
           step-next whole m n at k ks b (rw (o .1) (t .3)) (rw (o .1) (t .4)) ∙ rest .1 (rw (o .0, o .1) (t .5))
 
-  passes : (n at : ℕ) (keys : List ℕ) → at ≤ 4 ^ m → (verdict (rowsFrom whole m n at keys) ≡ Passed) ↔ Good at keys
+  passes : (n at : ℕ) (keys : List ℕ) → at ≤ 4 ^ m → (verdict (refusalsFrom whole m n at keys) ≡ Passed) ↔ Good at keys
   passes n at [] l = (λ v. none at l .0 (to (late whole at (4 ^ m)) refl v), λ g. step-full whole m n at (none at l .1 g))
     where
-      to : (t : Bool) → late whole at (4 ^ m) ≡ t → verdict (rowsFrom whole m n at []) ≡ Passed → t ≡ false
+      to : (t : Bool) → late whole at (4 ^ m) ≡ t → verdict (refusalsFrom whole m n at []) ≡ Passed → t ≡ false
       to true d v = absurd (refused-not-passed (sym (step-short whole m n at d) ∙ v))
       to false d v = refl
   passes n at (k ∷ ks) l = passes-on n at k ks (formOf m k) refl (λ e h. passes (suc n) e ks h)
 
 -- a whole map
-follow : (m n at : ℕ) (keys : List ℕ) → at ≤ 4 ^ m → (verdict (recordRows m n at keys) ≡ Passed) ↔ Follow m at keys
+follow : (m n at : ℕ) (keys : List ℕ) → at ≤ 4 ^ m → (verdict (recordRefusals m n at keys) ≡ Passed) ↔ Follow m at keys
 follow m = passes true m (Follow m) none some more
   where
     none : (at : ℕ) → at ≤ 4 ^ m → (late true at (4 ^ m) ≡ false) ↔ Follow m at []
@@ -116,15 +116,15 @@ follow m = passes true m (Follow m) none some more
     more at k ks i s b l e F = let q : s ≡ at = omega (arith, not-late at s e) in next (rw q at b) (ap (λ (x : ℕ). x + 4 ^ i) q) F
 
 -- a map that may have gaps
-pub spaced-records : (m n at : ℕ) (keys : List ℕ) → at ≤ 4 ^ m → (verdict (rowsFrom false m n at keys) ≡ Passed) ↔ Spaced m at keys
+pub spaced-records : (m n at : ℕ) (keys : List ℕ) → at ≤ 4 ^ m → (verdict (refusalsFrom false m n at keys) ≡ Passed) ↔ Spaced m at keys
 spaced-records m = passes false m (Spaced m) (λ at l. (λ e. ended, λ g. late-never at (4 ^ m))) some (λ at k ks i s b l e F. later l b refl F)
   where
     some : (at k : ℕ) (ks : List ℕ) → Spaced m at (k ∷ ks) → (i : ℕ) × (s : ℕ) × Names m k i s × (at ≤ s) × (late false at s ≡ false) × Spaced m (s + 4 ^ i) ks
     some at k ks (later {i = i} {s = s} l b q F) = (i, s, b, l, late-never at s, rw q at F)
 
 -- a map passes exactly when it is sound
-pub sound-map : (m : ℕ) (keys : List ℕ) (classes : ℕ) → (verdict (mapRows m keys classes) ≡ Passed) ↔ SoundMap m keys classes
-unfolding mapRows
+pub sound-map : (m : ℕ) (keys : List ℕ) (classes : ℕ) → (verdict (mapRefusals m keys classes) ≡ Passed) ↔ SoundMap m keys classes
+unfolding mapRefusals
 sound-map m keys classes = (
   λ e. let p = passed-append _ _ .0 e in record { sizes = sized .0 (p .0); records = follow m 0 0 keys (omega arith) .0 (p .1) },
   λ s. passed-append _ _ .1 (sized .1 (s .sizes), follow m 0 0 keys (omega arith) .1 (s .records)),

@@ -9,10 +9,10 @@ use native.Mathlib.Numerals.{add-one}
 use lib.ListN.{length, getD, drop, drop-of-length-le}
 use lib.Seq.{drop-cons}
 use Rattle.answers.specs.declared.Verdict.the-variants as refusal
-use Rattle.answers.specs.Rows.{verdict}
+use Rattle.answers.specs.Refusals.{verdict}
 use Rattle.key.specs.Blocks.{Names}
 use Rattle.key.proofs.Laws.{block-lies}
-use Rattle.map.specs.Check.{late, rowsFrom}
+use Rattle.map.specs.Check.{late, refusalsFrom}
 use Rattle.map.specs.declared.Taken.the-variants.{Behind, Refused}
 use Rattle.map.specs.Walk.{Takes, behind, refused, Walked}
 use Rattle.map.proofs.Steps.{step-next}
@@ -22,19 +22,19 @@ module _ {whole : Bool} {m at key place : ℕ} where
   pub taken-behind : {i s : ℕ} → Takes whole m at key place (Behind i s) → (whole ≡ false) × (at ≤ s) × Names m key i s
   taken-behind (behind e l b) = (e, l, b)
 
-  pub taken-refused : {n p : ℕ} → Takes whole m at key place (Refused n p) → (ks : List ℕ) → verdict (rowsFrom whole m place at (key ∷ ks)) ≡ refusal.Refused n p
+  pub taken-refused : {n p : ℕ} → Takes whole m at key place (Refused n p) → (ks : List ℕ) → verdict (refusalsFrom whole m place at (key ∷ ks)) ≡ refusal.Refused n p
   taken-refused (refused v) = v
 
 pub walked-first : (whole : Bool) (m : ℕ) (keys : List ℕ) → Walked whole m keys 0 0
 walked-first whole m keys = record { within = omega arith; most = omega arith; same = refl }
 
 module _ {whole : Bool} {m : ℕ} {keys : List ℕ} {at n : ℕ} (w : Walked whole m keys at n) where
-  from : {ks : List ℕ} → drop n keys ≡ ks → verdict (rowsFrom whole m 0 0 keys) ≡ verdict (rowsFrom whole m n at ks)
-  from e = w .same ∙ ap (λ (ks : List ℕ). verdict (rowsFrom whole m n at ks)) e
+  from : {ks : List ℕ} → drop n keys ≡ ks → verdict (refusalsFrom whole m 0 0 keys) ≡ verdict (refusalsFrom whole m n at ks)
+  from e = w .same ∙ ap (λ (ks : List ℕ). verdict (refusalsFrom whole m n at ks)) e
 
   module _ (h : n < length keys) where
     -- record n, and those behind it
-    pub walked-here : verdict (rowsFrom whole m 0 0 keys) ≡ verdict (rowsFrom whole m n at (getD keys n 0 ∷ drop (suc n) keys))
+    pub walked-here : verdict (refusalsFrom whole m 0 0 keys) ≡ verdict (refusalsFrom whole m n at (getD keys n 0 ∷ drop (suc n) keys))
     walked-here = from (drop-cons keys n 0 h)
 
     pub walked-next : {i s end : ℕ} → Names m (getD keys n 0) i s → at ≤ s → late whole at s ≡ false → end ≡ s + 4 ^ i → Walked whole m keys end (n + 1)
@@ -45,5 +45,5 @@ module _ {whole : Bool} {m : ℕ} {keys : List ℕ} {at n : ℕ} (w : Walked who
           same = walked-here ∙ step-next whole m n at _ _ b l e ∙ rw (q, add-one);
         }
 
-  pub walked-end : n ≡ length keys → verdict (rowsFrom whole m 0 0 keys) ≡ verdict (rowsFrom whole m n at [])
+  pub walked-end : n ≡ length keys → verdict (refusalsFrom whole m 0 0 keys) ≡ verdict (refusalsFrom whole m n at [])
   walked-end e = from (drop-of-length-le keys {i = n} (omega arith))

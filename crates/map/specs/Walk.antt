@@ -6,25 +6,25 @@ use mathlib.Core.List.{List, _∷_}
 use Prim.Native.Nat.{ℕ, _^_, _≤_, _<_}
 use lib.ListN.{length, getD, drop}
 use Rattle.answers.specs.declared.Verdict.the-variants as refusal
-use Rattle.answers.specs.Rows.{verdict}
+use Rattle.answers.specs.Refusals.{verdict}
 use Rattle.key.specs.declared.Fit.the-variants.{Other}
 use Rattle.key.specs.Blocks.{Names}
 use Rattle.key.specs.Along.{Stands, Fits}
 use Rattle.map.specs.declared.Taken.{Taken}
 use Rattle.map.specs.declared.Taken.the-variants.{Behind, Refused}
 use Rattle.map.specs.declared.Gone.{Gone}
-use Rattle.map.specs.Check.{rowsFrom}
+use Rattle.map.specs.Check.{refusalsFrom}
 
 -- record `place`, of this key, where the last span ended at `at`: it is a block behind a gap, and gaps are allowed; or it is refused, whatever follows
 pub data Takes (whole : Bool) (m at key place : ℕ) : Taken → Type 0 where
   behind : {i s : ℕ} → whole ≡ false → at ≤ s → Names m key i s → Takes whole m at key place (Behind i s)
-  refused : {n p : ℕ} → ((ks : List ℕ) → verdict (rowsFrom whole m place at (key ∷ ks)) ≡ refusal.Refused n p) → Takes whole m at key place (Refused n p)
+  refused : {n p : ℕ} → ((ks : List ℕ) → verdict (refusalsFrom whole m place at (key ∷ ks)) ≡ refusal.Refused n p) → Takes whole m at key place (Refused n p)
 
 -- the table says of all records what it says of those from n on, where the last span ended at `at`
 pub record Walked (whole : Bool) (m : ℕ) (keys : List ℕ) (at n : ℕ) : Type 0 where
   pub within : n ≤ length keys
   pub most : at ≤ 4 ^ m
-  pub same : verdict (rowsFrom whole m 0 0 keys) ≡ verdict (rowsFrom whole m n at (drop n keys))
+  pub same : verdict (refusalsFrom whole m 0 0 keys) ≡ verdict (refusalsFrom whole m n at (drop n keys))
 
 -- from record n and place `at` the walk goes on, and ends with the records or before one that does not start where it stands
 pub record Goes (m : ℕ) (keys : List ℕ) (at n : ℕ) (g : Gone) : Type 0 where

@@ -9,11 +9,11 @@ ghost use mathlib.Core.Bool.{true};
 ghost use mathlib.Core.List.{[]};
 ghost use Prim.Native.Nat.{_+_, _^_, _≤_, _<_};
 ghost use lib.ListN.{length};
-ghost use Rattle.answers.specs.Rows.{verdict};
+ghost use Rattle.answers.specs.Refusals.{verdict};
 ghost use Rattle.key.specs.declared.Fit.the-variants.{Other};
 ghost use Rattle.key.specs.Spread.{spreads};
 ghost use Rattle.key.specs.Along.{onesTable, Finds, Stands, Fits};
-ghost use Rattle.map.specs.Check.{rowsFrom, mapRows, checkOf};
+ghost use Rattle.map.specs.Check.{refusalsFrom, mapRefusals, checkOf};
 ghost use Rattle.map.specs.Walk.{Takes, Goes};
 ghost use Rattle.map.specs.Sound.{Spaced};
 ghost use Rattle.map.specs.Runs;
@@ -98,7 +98,7 @@ fn along(ones: &[u32; 13], digits: &[u8; 16], m: u32, keys: &[u32], from: Spot, 
 // Behind the last record: refused by 5 where the map is to be whole and the picture does not end there.
 fn ended(whole: bool, m: u32, at: u32, place: u32) -> Verdict
     requires { ⌜ m ≤ 12 ⌝ }
-    ensures { λ r. ⌜ r ≡ verdict (rowsFrom whole m place at []) ⌝ }
+    ensures { λ r. ⌜ r ≡ verdict (refusalsFrom whole m place at []) ⌝ }
 {
     if whole {
         if at < key::pow4(m) {
@@ -112,7 +112,7 @@ fn ended(whole: bool, m: u32, at: u32, place: u32) -> Verdict
 // Refusals 3 to 5: each record starts where the last one's span ended, and the last ends with the picture. Where the map need not be whole, there may be gaps, and 5 is not given.
 fn records(m: u32, keys: &[u32], whole: bool) -> Verdict
     requires { ⌜ (m ≤ 12) × (length (now keys) ≤ 65536) ⌝ }
-    ensures { λ r. ⌜ r ≡ verdict (rowsFrom whole m 0 0 (now (keys .entry))) ⌝ }
+    ensures { λ r. ⌜ r ≡ verdict (refusalsFrom whole m 0 0 (now (keys .entry))) ⌝ }
 {
     let ones = key::ones_table();
     let digits = key::digits_table();
@@ -141,7 +141,7 @@ fn records(m: u32, keys: &[u32], whole: bool) -> Verdict
 
 // Refusals 1 to 5, in their order. Whoever uses a map asks this first.
 pub fn sound(m: u32, keys: &[u32], classes: &[u8]) -> Verdict
-    ensures { λ r. ⌜ r ≡ verdict (mapRows m (now (keys .entry)) (length (now (classes .entry)))) ⌝ }
+    ensures { λ r. ⌜ r ≡ verdict (mapRefusals m (now (keys .entry)) (length (now (classes .entry)))) ⌝ }
 {
     let sizes = answers::sizes(m, keys.len(), classes.len());
     if let Verdict::Refused { number, place } = sizes {

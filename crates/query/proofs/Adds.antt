@@ -14,7 +14,7 @@ use Rattle.border.specs.declared.Found.the-variants as found
 use Rattle.border.specs.Openings.{Opening, made}
 use Rattle.border.specs.Promises.{allHands}
 use Rattle.border.specs.Step.{Usable}
-use Rattle.border.specs.Found.{madeFrom, walk, spot, Finds}
+use Rattle.border.specs.Found.{walkMakes, walk, spot, Finds}
 use Rattle.border.proofs.Laws.{hands-none, hands-one, hands-append, records-once}
 use Rattle.border.proofs.Finding.{Finding, finding-next, finding-last, finds-opens, finds-exponent}
 use Rattle.query.specs.Classes.{totals}
@@ -58,7 +58,7 @@ module _ {m : ℕ} {keys : List ℕ} (classes : List ℕ) {W : Window} where
       pub totalling-once : Gathering m keys classes W first count cells
       totalling-once =
           let os = T .done ++ (made key first count ∷ []) in
-          let all = rw (finding-next (T .finding) f .all, hands-append os (madeFrom m m keys W border′ (spot on))) at (records-once (U .spaced) (U .inside) (U .cap)) in
+          let all = rw (finding-next (T .finding) f .all, hands-append os (walkMakes m m keys W border′ (spot on))) at (records-once (U .spaced) (U .inside) (U .cap)) in
           record { past = allHands (T .done); is = T .is; once = rw now-done at (ordered-part (allHands os) _ all) }
 
       pub totalling-next : {cells′ : List ℕ} → cells′ ≡ gathered m keys classes W (upFrom first count) cells → Totalling m keys classes W border₀ border′ cells′ on

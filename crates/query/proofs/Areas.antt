@@ -22,7 +22,7 @@ use Rattle.key.proofs.Laws.{pow-least, pow-most, size-le}
 use Rattle.window.specs.declared.Window.{Window}
 use Rattle.window.specs.Window.{Px, In, Inside}
 use Rattle.window.specs.Blocks
-use Rattle.window.specs.Blocks.{floor, Same, Fits}
+use Rattle.window.specs.Blocks.{floor, Same, Fits, pixels}
 use Rattle.window.specs.Decompose.{keyOf}
 use Rattle.window.proofs.Laws.{floor-le, floor-lt, floor-eq, same-div, fits-same, fits-down, exponent-fits, corner→same, pixel-in, key-named, rows-count, side-square}
 use Rattle.map.specs.declared.Run.{Run}
@@ -34,7 +34,6 @@ use Rattle.map.proofs.Laws.{tiles, record-at, record-of, exponent-record, tile-
 use Rattle.border.specs.Openings.{met}
 use Rattle.border.specs.Step.{Corner}
 use Rattle.border.proofs.Laws.{met-in, met-pixels}
-use Rattle.query.specs.Classes.{pixels}
 use Rattle.query.specs.Gather.{area, shared, clipped}
 use Rattle.query.proofs.Totals.{in-pixels}
 

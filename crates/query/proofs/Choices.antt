@@ -14,8 +14,8 @@ use Rattle.lists.proofs.Laws.{up-in, any-has, has-any}
 use Rattle.key.specs.Form.{formOf}
 use Rattle.key.specs.Blocks.{Names, Inside as Covers}
 use Rattle.map.specs.Records.{Record}
-use Rattle.border.specs.Openings.{within}
-use Rattle.border.proofs.Laws.{within-is}
+use Rattle.map.specs.Spans.{within}
+use Rattle.map.proofs.Laws.{within-is}
 use Rattle.query.specs.Classes.{classed}
 use Rattle.query.specs.Select.{around, inside, selected}
 

@@ -14,7 +14,7 @@ use Rattle.border.specs.Openings.{Opening, made, openings}
 use Rattle.border.specs.Promises.{allHands}
 use Rattle.map.specs.Sound.{Follow}
 use Rattle.border.specs.Step.{Usable}
-use Rattle.border.specs.Found.{madeFrom, walk, spot, Finds}
+use Rattle.border.specs.Found.{walkMakes, walk, spot, Finds}
 use Rattle.border.proofs.Finding.{Finding, finding-next, finding-last}
 use Rattle.query.specs.Classes.{classed, exists}
 use Rattle.query.proofs.Found.{exists-hands, any-no-opening, any-opening, opening-any}
@@ -66,7 +66,7 @@ module _ {m : ℕ} {keys : List ℕ} (classes : List ℕ) {W : Window} (class : 
 
       pub seeking-found : any (classed classes class) (upFrom first count) ≡ true → exists m keys classes W class ≡ true
       seeking-found e =
-          let rest = madeFrom m m keys W border′ (spot on) in
+          let rest = walkMakes m m keys W border′ (spot on) in
           whole ∙ rw (finding-next (S .finding) f .all, append-assoc (S .done) (made key first count ∷ []) rest) (opening-any (classed classes class) (S .done) (made key first count) rest e)
 
     pub seeking-last : {border′ : List ℕ} → Finds m m keys W at border found.End border′ → exists m keys classes W class ≡ false

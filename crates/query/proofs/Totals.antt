@@ -12,8 +12,7 @@ use lib.Seq.{getD-set-same, getD-set-other, ext-getD}
 use borrow.Author.Tests.{eqb-true, eqb-false, eq-eqb}
 use Rattle.lists.specs.Lists.{upFrom, sum, any, keep, Ordered, howMany}
 use Rattle.lists.proofs.Tests.{agree}
-use Rattle.lists.proofs.Laws.{ordered-part, up-in, up-length, up-distinct, table-entry, keep-empty, keep-taken, keep-passed, keep-true, in-keep, ordered-keep}
-use Rattle.lists.proofs.Laws.{any-has, has-any, many-same, many-all, many-most, sum-none, sum-next, each-once}
+use Rattle.lists.proofs.Laws.{ordered-part, up-in, up-length, up-distinct, table-entry, keep-empty, keep-taken, keep-passed, keep-true, in-keep, ordered-keep, any-has, has-any, many-same, many-all, many-most, sum-none, sum-next, each-once}
 use Rattle.window.specs.declared.Window.{Window}
 use Rattle.window.specs.Window.{Px, In, Inside}
 use Rattle.window.proofs.Laws.{rows-in, in-rows, rows-length}
@@ -23,7 +22,8 @@ use Rattle.map.specs.Records.{pixelRecord}
 use Rattle.border.specs.Openings.{openings}
 use Rattle.border.specs.Promises.{allHands}
 use Rattle.border.proofs.Laws.{in-hands, hands-whole, records-once}
-use Rattle.query.specs.Classes.{classed, pixels, hasClass, total, totals}
+use Rattle.query.specs.Classes.{classed, hasClass, total, totals}
+use Rattle.window.specs.Blocks.{pixels}
 use Rattle.query.specs.Gather.{area, added, gathered}
 
 -- ---- the window's pixels

@@ -9,13 +9,12 @@ use lib.ListN.{getD, set, replicate}
 use Rattle.lists.specs.Lists.{upFrom, Ordered, howMany}
 use Rattle.window.specs.declared.Window.{Window}
 use Rattle.window.specs.Window.{Px}
-use Rattle.window.specs.Blocks.{floor, exponent}
+use Rattle.window.specs.Blocks.{floor, exponent, pixels}
 use Rattle.window.specs.Decompose.{keyOf}
 use Rattle.map.specs.Sound.{Follow}
 use Rattle.map.specs.Records.{pixelRecord}
 use Rattle.map.specs.Runs.{run, runOf}
 use Rattle.border.specs.Step.{Usable, Corner}
-use Rattle.query.specs.Classes.{pixels}
 
 -- how many pixels of the window are in record n
 unfoldable pub area : ℕ → List ℕ → Window → ℕ → ℕ

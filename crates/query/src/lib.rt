@@ -9,16 +9,17 @@ ghost use Prim.Native.Nat.{_+_, _≤_, _<_};
 ghost use lib.ListN.{length, replicate};
 ghost use Rattle.lists.specs.Lists.{upFrom, any};
 ghost use Rattle.answers.specs.Cells.{overwrite, Listed};
+ghost use Rattle.answers.specs.After.{after};
 ghost use Rattle.key.specs.Spread.{spreads};
 ghost use Rattle.key.specs.Along.{onesTable, Finds};
 ghost use Rattle.window.specs.Window.{In, Inside};
 ghost use Rattle.map.specs.Sound.{Follow};
 ghost use Rattle.border.specs.Step.{Usable};
-ghost use Rattle.border.specs.Open.{spent, after};
+ghost use Rattle.border.specs.Open.{spent};
 ghost use Rattle.query.specs.Classes.{classed, totals};
 ghost use Rattle.query.specs.Gather.{shared, clipped, gathered, Hands, Fills, Gathering};
 ghost use Rattle.query.specs.Select.{pickedRun, pickedAround, picked, Overlapped, selection};
-ghost use Rattle.query.specs.Query.{afterExist, existing, existOf, roomFor, reportOf, selectOf};
+ghost use Rattle.query.specs.Query.{existing, existOf, keysInto, reportOf, selectOf};
 
 // What exist answers.
 pub enum Existence {
@@ -60,7 +61,7 @@ fn seek(
     border: &mut [u16],
 ) -> Existence
     requires { ⌜ (now table ≡ spreads) × Usable m m (now keys) window (length (now border)) × (length (now keys) ≡ length (now classes)) × Follow m 0 (now keys) ⌝ }
-    ensures { λ r. ⌜ afterExist r (now (border .exit)) ≡ existing m (now (keys .entry)) (now (classes .entry)) window class (now (border .entry)) ⌝ }
+    ensures { λ r. ⌜ after r (now (border .exit)) ≡ existing m (now (keys .entry)) (now (classes .entry)) window class (now (border .entry)) ⌝ }
 {
     let w = window.w as usize;
     border::fill(border, 0, w, window.r0);
@@ -93,7 +94,7 @@ pub fn exist(
     class: u8,
     border: &mut [u16],
 ) -> Existence
-    ensures { λ r. ⌜ afterExist r (now (border .exit)) ≡ existOf m (now (keys .entry)) (now (classes .entry)) window class (now (border .entry)) ⌝ }
+    ensures { λ r. ⌜ after r (now (border .exit)) ≡ existOf m (now (keys .entry)) (now (classes .entry)) window class (now (border .entry)) ⌝ }
 {
     let verdict = border::usable(m, keys, classes, window, border.len());
     if let Verdict::Refused { number, place } = verdict {
@@ -272,7 +273,7 @@ pub fn report(
     border: &mut [u16],
     out: &mut [u32],
 ) -> Queried
-    ensures { λ r. ⌜ after r (now (border .exit)) (now (out .exit)) ≡ reportOf m (now (keys .entry)) (now (classes .entry)) window (now (border .entry)) (now (out .entry)) ⌝ }
+    ensures { λ r. ⌜ after r (now (border .exit), now (out .exit)) ≡ reportOf m (now (keys .entry)) (now (classes .entry)) window (now (border .entry)) (now (out .entry)) ⌝ }
 {
     let verdict = border::usable(m, keys, classes, window, border.len());
     if let Verdict::Refused { number, place } = verdict {
@@ -419,7 +420,7 @@ fn list_keys(
     out: &mut [u32],
 ) -> Queried
     requires { ⌜ (now table ≡ spreads) × Usable m m (now keys) window (window .w) × (length (now keys) ≡ length (now classes)) ⌝ }
-    ensures { λ r. ⌜ (r, now (out .exit)) ≡ roomFor (selection m m (now (keys .entry)) (now (classes .entry)) window class) (now (out .entry)) ⌝ }
+    ensures { λ r. ⌜ after r (now (out .exit)) ≡ keysInto (selection m m (now (keys .entry)) (now (classes .entry)) window class) (now (out .entry)) ⌝ }
 {
     let most = 4 * ((window.w as usize) + (window.h as usize)) + keys.len();
     if out.len() < most {
@@ -445,7 +446,7 @@ pub fn select(
     border: &mut [u16],
     out: &mut [u32],
 ) -> Queried
-    ensures { λ r. ⌜ after r (now (border .exit)) (now (out .exit)) ≡ selectOf m (now (keys .entry)) (now (classes .entry)) window class (now (border .entry)) (now (out .entry)) ⌝ }
+    ensures { λ r. ⌜ after r (now (border .exit), now (out .exit)) ≡ selectOf m (now (keys .entry)) (now (classes .entry)) window class (now (border .entry)) (now (out .entry)) ⌝ }
 {
     let verdict = border::usable(m, keys, classes, window, border.len());
     if let Verdict::Refused { number, place } = verdict {

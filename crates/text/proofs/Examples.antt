@@ -3,7 +3,8 @@
 use mathlib.Core.Path.{_≡_, refl}
 use mathlib.Core.List.{[], _∷_}
 use Rattle.answers.specs.Cells.{overwrite}
-use Rattle.text.specs.Text.{digits, digitsOf, spaced, lineOf, afterPut, putOf}
+use Rattle.answers.specs.After.{after}
+use Rattle.text.specs.Text.{digits, digitsOf, spaced, lineOf, putOf}
 
 pub record Examples : Type 0 where
   -- "0", "10" and "4294967295"
@@ -15,9 +16,9 @@ pub record Examples : Type 0 where
   pub opening : lineOf 79 (10 ∷ 1 ∷ 4 ∷ []) ≡ 79 ∷ 32 ∷ 49 ∷ 48 ∷ 32 ∷ 49 ∷ 32 ∷ 52 ∷ 10 ∷ []
   pub refusal : lineOf 82 (9 ∷ 0 ∷ []) ≡ 82 ∷ 32 ∷ 57 ∷ 32 ∷ 48 ∷ 10 ∷ []
   -- in a slice of three bytes, of two, and of one
-  pub fits : putOf (digitsOf 10) (1 ∷ 2 ∷ 3 ∷ []) ≡ afterPut 2 (49 ∷ 48 ∷ 3 ∷ [])
-  pub just : putOf (digitsOf 10) (1 ∷ 2 ∷ []) ≡ afterPut 2 (49 ∷ 48 ∷ [])
-  pub short : putOf (digitsOf 10) (1 ∷ []) ≡ afterPut 0 (1 ∷ [])
+  pub fits : putOf (digitsOf 10) (1 ∷ 2 ∷ 3 ∷ []) ≡ after 2 (49 ∷ 48 ∷ 3 ∷ [])
+  pub just : putOf (digitsOf 10) (1 ∷ 2 ∷ []) ≡ after 2 (49 ∷ 48 ∷ [])
+  pub short : putOf (digitsOf 10) (1 ∷ []) ≡ after 0 (1 ∷ [])
 
 pub examples : Examples
 unfolding overwrite digits digitsOf spaced lineOf putOf

@@ -11,8 +11,9 @@ use lib.ListN.{length, drop, getD, length-append, drop-of-length-le}
 use lib.Seq.{drop-cons}
 use borrow.Author.Tests.{lt-ltb, le-ltb, le-leb, lt-leb, ltb-true, ltb-false, leb-true, leb-false}
 use Rattle.answers.specs.Cells.{overwrite}
+use Rattle.answers.specs.After.{After, after}
 use Rattle.answers.proofs.Laws.{overwrite-length, overwrite-part}
-use Rattle.text.specs.Text.{digits, digitsOf, spaced, lineOf, AfterPut, afterPut, putOf}
+use Rattle.text.specs.Text.{digits, digitsOf, spaced, lineOf, putOf}
 
 -- ---- digits
 
@@ -105,23 +106,23 @@ line-most letter xs = omega (arith, line-length letter xs, spaced-most xs)
 
 -- ---- what is put
 
-pub put-all : (text out : List ℕ) → length text ≤ length out → putOf text out ≡ afterPut (length text) (overwrite text out)
+pub put-all : (text out : List ℕ) → length text ≤ length out → putOf text out ≡ after (length text) (overwrite text out)
 unfolding putOf
 put-all text out l = rw (le-leb (length text) (length out) l)
 
-pub put-none : (text out : List ℕ) → length out < length text → putOf text out ≡ afterPut 0 out
+pub put-none : (text out : List ℕ) → length out < length text → putOf text out ≡ after 0 out
 unfolding putOf
 put-none text out l = rw (lt-leb (length text) (length out) l)
 
-pub put-empty : (out : List ℕ) → putOf [] out ≡ afterPut 0 out
+pub put-empty : (out : List ℕ) → putOf [] out ≡ after 0 out
 put-empty out = put-all [] out (omega arith) ∙ rw (← overwrite-part [] out)
 
 -- what was put where there is room
-pub put-there : (text out : List ℕ) {r : ℕ} {ys : List ℕ} → afterPut r ys ≡ putOf text out → length text ≤ length out → (r ≡ length text) × (ys ≡ overwrite text out)
-put-there text out e l = let p = e ∙ put-all text out l in (ap (λ (a : AfterPut). a .count) p, ap (λ (a : AfterPut). a .out) p)
+pub put-there : (text out : List ℕ) {r : ℕ} {ys : List ℕ} → after r ys ≡ putOf text out → length text ≤ length out → (r ≡ length text) × (ys ≡ overwrite text out)
+put-there text out e l = let p = e ∙ put-all text out l in (ap (λ (a : After ℕ (List ℕ)). a .answer) p, ap (λ (a : After ℕ (List ℕ)). a .lent) p)
 
 -- no more bytes than there are, and no more than the text has
-module _ (text out : List ℕ) {r : ℕ} {ys : List ℕ} (p : afterPut r ys ≡ putOf text out) where
+module _ (text out : List ℕ) {r : ℕ} {ys : List ℕ} (p : after r ys ≡ putOf text out) where
   bounds : (r ≤ length ys) × (r ≤ length text)
   bounds = go (leb (length text) (length out)) refl
     where
@@ -131,7 +132,7 @@ module _ (text out : List ℕ) {r : ℕ} {ys : List ℕ} (p : afterPut r ys ≡ 
           let put = put-there text out p l in
           omega (arith, ap length (put .1), overwrite-length text out l, put .0)
       go false e =
-          let none : r ≡ 0 = ap (λ (a : AfterPut). a .count) (p ∙ put-none text out (leb-false _ _ e)) in
+          let none : r ≡ 0 = ap (λ (a : After ℕ (List ℕ)). a .answer) (p ∙ put-none text out (leb-false _ _ e)) in
           omega arith
 
   pub put-within : r ≤ length ys

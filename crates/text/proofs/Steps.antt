@@ -8,7 +8,8 @@ use native.Mathlib.Omega.{arith}
 use lib.ListN.{length, take, drop, set, length-set, drop-of-length-le}
 use lib.Seq.{set-split, append-snoc, drop-at, length-take-le}
 use Rattle.answers.proofs.Laws.{overwrite-part}
-use Rattle.text.specs.Text.{digitsOf, afterPut, putOf}
+use Rattle.answers.specs.After.{after}
+use Rattle.text.specs.Text.{digitsOf, putOf}
 use Rattle.text.proofs.Laws.{digits-small, digits-large, width-small, width-large, width-some, put-all}
 
 drop-set : (cells : List ℕ) (i y : ℕ) → i < length cells → drop i (set cells i y) ≡ y ∷ drop (i + 1) cells
@@ -48,5 +49,5 @@ module _ {x i rest : ℕ} {cells : List ℕ} (s : Spelling x i rest cells) where
       whole ∙ rw (digits-small rest l) at (s .is)
 
 -- the bytes that were put into the front of a slice
-pub put-front : (text out : List ℕ) {n : ℕ} {ys : List ℕ} → n ≡ length text → ys ≡ text → n ≤ length out → afterPut n (ys ++ drop n out) ≡ putOf text out
+pub put-front : (text out : List ℕ) {n : ℕ} {ys : List ℕ} → n ≡ length text → ys ≡ text → n ≤ length out → after n (ys ++ drop n out) ≡ putOf text out
 put-front text out {n} {ys} e w l = rw (put-all text out (omega arith), ← overwrite-part text out, w, e)

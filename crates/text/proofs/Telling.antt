@@ -7,7 +7,8 @@ use native.Mathlib.Omega.{arith}
 use lib.ListN.{length, set, length-append, length-drop}
 use lib.Seq.{append-snoc}
 use Rattle.answers.proofs.Filling.{lent, back, lent-is, Filling, filling, filling-first, filling-cell, filling-part}
-use Rattle.text.specs.Text.{afterPut, putOf}
+use Rattle.answers.specs.After.{after}
+use Rattle.text.specs.Text.{putOf}
 use Rattle.text.proofs.Laws.{put-all, put-there}
 
 -- of a whole text the bytes up to `at` are put, and the rest is not
@@ -22,7 +23,7 @@ pub telling-first : (all out : List ℕ) → length all ≤ length out → Telli
 telling-first all out l = record { done = []; whole = refl; filled = filling-first out; ends = refl; room = l }
 
 -- the first piece was put into the slice as it is
-pub telling-begin : (all piece rest out : List ℕ) {r : ℕ} {ys : List ℕ} → all ≡ piece ++ rest → length all ≤ length out → afterPut r ys ≡ putOf piece out → Telling all rest r out ys
+pub telling-begin : (all piece rest out : List ℕ) {r : ℕ} {ys : List ℕ} → all ≡ piece ++ rest → length all ≤ length out → after r ys ≡ putOf piece out → Telling all rest r out ys
 telling-begin all piece rest out e l p =
     let n : length all ≡ length piece + length rest = ap length e ∙ simp length-append in
     let put = put-there piece out p (omega arith) in
@@ -42,7 +43,7 @@ module _ {all rest : List ℕ} {at : ℕ} {out₀ out : List ℕ} (t : Telling a
       let n : length rest ≡ length piece + length rest′ = ap length e ∙ simp length-append in
       rw (lent-is at out, length-drop) (omega (arith, telling-room))
 
-  pub telling-part : (piece rest′ : List ℕ) {r : ℕ} {ys : List ℕ} → rest ≡ piece ++ rest′ → afterPut r ys ≡ putOf piece (lent at out) → Telling all rest′ (at + r) out₀ (back at out ys)
+  pub telling-part : (piece rest′ : List ℕ) {r : ℕ} {ys : List ℕ} → rest ≡ piece ++ rest′ → after r ys ≡ putOf piece (lent at out) → Telling all rest′ (at + r) out₀ (back at out ys)
   telling-part piece rest′ {r} {ys} e p =
       let put = put-there piece (lent at out) p (telling-lent piece rest′ e) in
       let n : length rest ≡ length piece + length rest′ = ap length e ∙ simp length-append in
@@ -66,7 +67,7 @@ module _ {all rest : List ℕ} {at : ℕ} {out₀ out : List ℕ} (t : Telling a
         room = t .room;
       }
 
-  pub telling-last : rest ≡ [] → afterPut at out ≡ putOf all out₀
+  pub telling-last : rest ≡ [] → after at out ≡ putOf all out₀
   telling-last e =
       let is : t .done ≡ all = sym (append-nil (t .done)) ∙ rw e at (t .whole) in
       rw (put-all all out₀ (t .room), ← is, t .filled .is, t .ends)

@@ -6,6 +6,7 @@ use mathlib.Core.List.{List, [], _∷_, _++_}
 use lib.Dec.{ltb, leb}
 use lib.ListN.{length}
 use Rattle.answers.specs.Cells.{overwrite}
+use Rattle.answers.specs.After.{After, after}
 
 -- the last n digits of a number, or all where it has fewer; the most significant first
 unfoldable pub digits : ℕ → ℕ → List ℕ
@@ -25,14 +26,6 @@ spaced (x ∷ xs) = 32 ∷ digitsOf x ++ spaced xs
 unfoldable pub lineOf : ℕ → List ℕ → List ℕ
 lineOf letter xs = letter ∷ spaced xs ++ (10 ∷ [])
 
--- how many bytes were put, and the lent slice afterwards
-pub record AfterPut : Type 0 where
-  pub count : ℕ
-  pub out : List ℕ
-
-abbrev pub afterPut : ℕ → List ℕ → AfterPut
-afterPut count out = record { count = count; out = out }
-
--- a text is put whole, and bytes beyond it keep their content; where there is no room for all of it, none is put
-unfoldable pub putOf : List ℕ → List ℕ → AfterPut
-putOf text out = cond (leb (length text) (length out)) (afterPut (length text) (overwrite text out)) (afterPut 0 out)
+-- how many bytes are put, and the lent slice afterwards: a text is put whole, and bytes beyond it keep their content; where there is no room for all of it, none is put
+unfoldable pub putOf : List ℕ → List ℕ → After ℕ (List ℕ)
+putOf text out = cond (leb (length text) (length out)) (after (length text) (overwrite text out)) (after 0 out)

@@ -2,7 +2,8 @@
 ghost use mathlib.Core.Path.{_≡_};
 ghost use Prim.Native.Nat.{min, _≤_};
 ghost use lib.ListN.{length};
-ghost use Rattle.text.specs.Text.{digitsOf, spaced, lineOf, afterPut, putOf};
+ghost use Rattle.answers.specs.After.{after};
+ghost use Rattle.text.specs.Text.{digitsOf, spaced, lineOf, putOf};
 
 // How many digits a number has.
 fn width(x: u32) -> usize
@@ -33,7 +34,7 @@ fn spell(x: u32, to: &mut [u8])
 }
 
 pub fn put_number(x: u32, out: &mut [u8]) -> usize
-    ensures { λ r. ⌜ afterPut r (now (out .exit)) ≡ putOf (digitsOf x) (now (out .entry)) ⌝ }
+    ensures { λ r. ⌜ after r (now (out .exit)) ≡ putOf (digitsOf x) (now (out .entry)) ⌝ }
 {
     let n = width(x);
     if out.len() < n {
@@ -63,7 +64,7 @@ fn span(numbers: &[u32], most: usize) -> usize
 // Puts numbers, each with a space before it, where there is room for all.
 fn put_numbers(numbers: &[u32], out: &mut [u8]) -> usize
     requires { ⌜ length (spaced (now numbers)) ≤ length (now out) ⌝ }
-    ensures { λ r. ⌜ afterPut r (now (out .exit)) ≡ putOf (spaced (now (numbers .entry))) (now (out .entry)) ⌝ }
+    ensures { λ r. ⌜ after r (now (out .exit)) ≡ putOf (spaced (now (numbers .entry))) (now (out .entry)) ⌝ }
 {
     let mut at: usize = 0;
     let mut i: usize = 0;
@@ -77,7 +78,7 @@ fn put_numbers(numbers: &[u32], out: &mut [u8]) -> usize
 }
 
 pub fn put_line(letter: u8, numbers: &[u32], out: &mut [u8]) -> usize
-    ensures { λ r. ⌜ afterPut r (now (out .exit)) ≡ putOf (lineOf letter (now (numbers .entry))) (now (out .entry)) ⌝ }
+    ensures { λ r. ⌜ after r (now (out .exit)) ≡ putOf (lineOf letter (now (numbers .entry))) (now (out .entry)) ⌝ }
 {
     if out.len() < 2 {
         return 0;

@@ -5,27 +5,27 @@ use mathlib.Core.List.{List, [], _∷_, _++_}
 use Prim.Native.Nat.{ℕ}
 use lib.ListN.{take}
 use Rattle.lists.specs.Lists.{upFrom, any, keep, before, howMany, greatest}
-use Rattle.answers.specs.Rows.{answer}
-use Rattle.answers.specs.Sizes.{wrongCount, sizeRows}
+use Rattle.answers.specs.Refusals.{answer}
+use Rattle.answers.specs.Sizes.{wrongCount, sizeRefusals, pictureRefusals, countRefusals}
 use Rattle.key.specs.Spread.{spreadTo, spread}
 use Rattle.key.specs.Picture.{place}
 use Rattle.key.specs.Key.{pixelKey, blockKey}
 use Rattle.key.specs.Form.{from, formOf}
-use Rattle.window.specs.Window.{window, beyond, outside, windowRows}
+use Rattle.window.specs.Window.{window, beyond, outside, windowRefusals}
 use Rattle.window.specs.Blocks.{floor, lies, fits, exponent, corner, across, rows, isCorner, maximal}
 use Rattle.window.specs.Decompose.{keyOf, keysOf}
 use Rattle.map.specs.Spans as spans
-use Rattle.map.specs.Check.{late, rowsFrom, mapRows}
+use Rattle.map.specs.Check.{late, refusalsFrom, mapRefusals}
 use Rattle.map.specs.Records.{recordOf, exponentOf}
 use Rattle.map.specs.Runs.{runOf}
-use Rattle.border.specs.Openings.{indices, within, isHanded, opening, openFrom, openings, handsOut, cellsOf}
-use Rattle.border.specs.Open.{useRows}
+use Rattle.border.specs.Openings.{isHanded, opening, openFrom, openings, handedCount, cellsOf}
+use Rattle.map.specs.Spans.{within}
+use Rattle.border.specs.Open.{useRefusals, borderRefusals}
 use Rattle.numbers.specs.Numbers.{bytes, number, bytesOf, numbers}
-use Rattle.house.specs.File.{header, fileOf, layoutRows, fileM, fileQ, readRows, fileKeys, fileClasses}
+use Rattle.house.specs.File.{header, fileOf, layoutRefusals, fileM, fileQ, readRefusals, fileKeys, fileClasses}
 use Rattle.query.specs.Classes.{hasClass, total, totals}
 use Rattle.text.specs.Text.{digits, digitsOf, spaced, lineOf}
-use Rattle.window_program.specs.Text.{windowOf, openingLines, classLine, classLines, foundLines, foundBy, resultOf, answerOf}
-use Rattle.window_program.specs.Text.{leftText, mapText, startRows, startText, announcedOf, wholeOf, fileIn}
+use Rattle.window_program.specs.Text.{windowOf, openingLines, classLine, classLines, foundLines, foundBy, resultOf, answerOf, leftText, mapText, startRefusals, startText, announcedOf, wholeOf, fileIn}
 
 abbrev keys : List ℕ
 keys = 5 ∷ 11 ∷ 12 ∷ 13 ∷ 14 ∷ 15 ∷ 20 ∷ []
@@ -71,11 +71,11 @@ pub record Examples : Type 0 where
   pub in-length : fileIn file 3 ≡ []
 
 pub examples : Examples
-unfolding answer wrongCount sizeRows upFrom spreadTo spread place pixelKey blockKey from formOf beyond outside windowRows keep floor lies fits
+unfolding pictureRefusals countRefusals borderRefusals answer wrongCount sizeRefusals upFrom spreadTo spread place pixelKey blockKey from formOf beyond outside windowRefusals keep floor lies fits
     greatest exponent corner across rows isCorner maximal keyOf keysOf spans.malformed spans.exponent spans.start spans.end spans.holds spans.overlap late
-    rowsFrom mapRows before howMany recordOf exponentOf runOf any indices within isHanded opening openFrom openings handsOut cellsOf useRows hasClass
+    refusalsFrom mapRefusals before howMany recordOf exponentOf runOf any within isHanded opening openFrom openings handedCount cellsOf useRefusals hasClass
     total totals digits digitsOf spaced lineOf openingLines classLine classLines foundLines foundBy resultOf answerOf
-    bytes number bytesOf numbers header fileOf layoutRows fileM fileQ readRows fileKeys fileClasses leftText mapText startRows startText announcedOf wholeOf
+    bytes number bytesOf numbers header fileOf layoutRefusals fileM fileQ readRefusals fileKeys fileClasses leftText mapText startRefusals startText announcedOf wholeOf
 examples = record {
   p1-window = refl;
   p1 = refl;

@@ -8,15 +8,16 @@ use lib.ListN.{length, take, length-append}
 use lib.Seq.{take-all}
 use Rattle.answers.specs.declared.Verdict.{Verdict}
 use Rattle.answers.specs.declared.Verdict.the-variants.{Passed, Refused}
-use Rattle.answers.specs.Rows.{verdict}
-use Rattle.answers.proofs.Laws.{on-passed, on-refused}
+use Rattle.answers.specs.Refusals.{verdict}
+use Rattle.answers.proofs.Laws.{on-passed, on-refused, refused-not-passed}
+use Rattle.answers.specs.After.{after}
 use Rattle.window.specs.declared.Window.{Window}
-use Rattle.border.specs.Openings.{openings, handsOut, cellsOf}
+use Rattle.border.specs.Openings.{openings, handedCount, cellsOf}
 use Rattle.border.specs.declared.Opened.{Opened}
 use Rattle.border.specs.declared.Opened.the-variants as opened
-use Rattle.border.specs.Open.{useRows, after, openOf}
+use Rattle.border.specs.Open.{useRefusals, openOf}
 use Rattle.border.specs.Promises.{Answered}
-use Rattle.border.proofs.Laws.{openings-fit, roomy, answered}
+use Rattle.border.proofs.Laws.{openings-fit, used-roomy, answered}
 use Rattle.query.specs.Classes.{totals}
 use Rattle.query.specs.declared.Queried.{Queried}
 use Rattle.query.specs.declared.Queried.the-variants as queried
@@ -37,15 +38,15 @@ module _ (m : ℕ) (keys classes : List ℕ) (W : Window) where
   -- what is said of a window on a map of 1,000 records or fewer
   pub result-most : length keys ≤ 1000 → length (resultOf m keys classes W) ≤ 42179
   unfolding resultOf foundBy
-  result-most few = go (verdict (useRows m keys (length classes) W 4096)) refl
+  result-most few = go (verdict (useRefusals m keys (length classes) W 4096)) refl
     where
-      go : (v : Verdict) → verdict (useRows m keys (length classes) W 4096) ≡ v → length (resultOf m keys classes W) ≤ 42179
+      go : (v : Verdict) → verdict (useRefusals m keys (length classes) W 4096) ≡ v → length (resultOf m keys classes W) ≤ 42179
       go Passed e =
           let os = openings m m keys W in
           let fit = openings-fit m keys (length classes) W 4096 e in
-          rw (on-passed refusalLine (useRows m keys (length classes) W 4096) _ e)
-          (omega (arith, found-most (cellsOf os) (totals m keys classes W) (length os) (handsOut os) (W .h * W .w), fit .0, fit .1, totals-length m keys classes W))
-      go (Refused n p) e = rw (on-refused refusalLine (useRows m keys (length classes) W 4096) _ e) (omega (arith, line-most 82 (n ∷ p ∷ [])))
+          rw (on-passed refusalLine (useRefusals m keys (length classes) W 4096) _ e)
+          (omega (arith, found-most (cellsOf os) (totals m keys classes W) (length os) (handedCount os) (W .h * W .w), fit .0, fit .1, totals-length m keys classes W))
+      go (Refused n p) e = rw (on-refused refusalLine (useRefusals m keys (length classes) W 4096) _ e) (omega (arith, line-most 82 (n ∷ p ∷ [])))
 
   pub answer-most : length keys ≤ 1000 → length (answerOf m keys classes W) ≤ 42225
   unfolding answerOf
@@ -53,23 +54,23 @@ module _ (m : ℕ) (keys classes : List ℕ) (W : Window) where
 
 -- ---- what the calls answer
 
-module _ (m : ℕ) (keys classes : List ℕ) (W : Window) (border out : List ℕ) {r : Queried} {border′ out′ : List ℕ} (e : after r border′ out′ ≡ reportOf m keys classes W border out)
+module _ (m : ℕ) (keys classes : List ℕ) (W : Window) (border out : List ℕ) {r : Queried} {border′ out′ : List ℕ} (e : after r (border′, out′) ≡ reportOf m keys classes W border out)
     (wide : length border ≡ 4096) (room : length out ≡ 256) where
-  told : {a : Queried} → r ≡ a → reportOf m keys classes W border out ≡ after a border′ out′
-  told d = sym e ∙ ap (λ (x : Queried). after x border′ out′) d
+  told : {a : Queried} → r ≡ a → reportOf m keys classes W border out ≡ after a (border′, out′)
+  told d = sym e ∙ ap (λ (x : Queried). after x (border′, out′)) d
 
   -- report refuses, with the number and place that are said
   pub report-refused : {n p : ℕ} → r ≡ queried.Refused n p → refusalLine n p ≡ resultOf m keys classes W
   unfolding resultOf
   report-refused d =
       let v = rw wide at (uncounted m keys classes W border out (omega arith) (told d)) in
-      sym (on-refused refusalLine (useRows m keys (length classes) W 4096) _ v)
+      sym (on-refused refusalLine (useRefusals m keys (length classes) W 4096) _ v)
 
   module _ {value : ℕ} (d : r ≡ queried.Done value) where
     C : Counted m keys classes W (length border) value out′
     C = counted m keys classes W border out (told d)
 
-    pub report-passed : {n : ℕ} → n ≡ length border → verdict (useRows m keys (length classes) W n) ≡ Passed
+    pub report-passed : {n : ℕ} → n ≡ length border → verdict (useRefusals m keys (length classes) W n) ≡ Passed
     report-passed l = rw l (C .passed)
 
     -- or it counts what is said with the openings
@@ -77,18 +78,28 @@ module _ (m : ℕ) (keys classes : List ℕ) (W : Window) (border out : List ℕ
     unfolding resultOf
     report-counted l =
         let list : out′ ≡ totals m keys classes W = sym (take-all 256 out′ (omega arith)) ∙ C .list in
-        rw (list, C .pixels) (sym (on-passed refusalLine (useRows m keys (length classes) W 4096) _ (rw wide at (C .passed))))
+        rw (list, C .pixels) (sym (on-passed refusalLine (useRefusals m keys (length classes) W 4096) _ (rw wide at (C .passed))))
 
 module _ (m : ℕ) (keys : List ℕ) (classes : ℕ) (W : Window) (border out : List ℕ) {r : Opened} {border′ out′ : List ℕ}
-    (e : after r border′ out′ ≡ openOf m keys classes W border out)
-    (passed : verdict (useRows m keys classes W (length border)) ≡ Passed) (few : length keys ≤ 1000) (room : length out ≡ 3000) where
+    (e : after r (border′, out′) ≡ openOf m keys classes W border out)
+    (passed : verdict (useRefusals m keys classes W (length border)) ≡ Passed) (few : length keys ≤ 1000) (room : length out ≡ 3000) where
   -- opening does not refuse
   pub open-never : {A : Type 0} {n p : ℕ} → r ≡ opened.Refused n p → A
-  open-never d = absurd (roomy m keys classes W border out passed (omega arith) (sym e ∙ ap (λ (x : Opened). after x border′ out′) d))
+  unfolding openOf
+  open-never {n = n} {p = p} d = absurd (go (used-roomy opened.Refused _ _ m keys classes W border out (λ n p f. let z : _≡_ {A = ℕ} 0 1 = cc in omega arith) fits told))
+    where
+      fits : length (cellsOf (openings m m keys W)) ≤ length out
+      fits = omega (arith, openings-fit m keys classes W (length border) passed)
+
+      told : openOf m keys classes W border out ≡ after (opened.Refused n p) (border′, out′)
+      told = sym e ∙ ap (λ (x : Opened). after x (border′, out′)) d
+
+      go : (n′ : ℕ) × (p′ : ℕ) × (verdict (useRefusals m keys classes W (length border)) ≡ Refused n′ p′) × (opened.Refused n′ p′ ≡ opened.Refused n p) → ⊥
+      go (n′, p′, v, same) = refused-not-passed (sym v ∙ passed)
 
   module _ {count records : ℕ} (d : r ≡ opened.Done count records) where
     T : Answered m keys W count records out′
-    T = answered m keys classes W border out (sym e ∙ ap (λ (x : Opened). after x border′ out′) d)
+    T = answered m keys classes W border out (sym e ∙ ap (λ (x : Opened). after x (border′, out′)) d)
 
     pub open-fits : 3 * count ≤ 3000
     open-fits = omega (arith, T .many, openings-fit m keys classes W (length border) passed .0)

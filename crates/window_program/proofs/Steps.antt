@@ -10,26 +10,27 @@ use lib.Seq.{length-take-le}
 use borrow.Author.Tests.{lt-ltb, le-ltb}
 use borrow.Rule.Slice.PartMut.{midOf, putMid, same-len-mid, mid-len, take-put}
 use Rattle.answers.specs.declared.Verdict.the-variants.{Passed, Refused}
-use Rattle.answers.specs.Rows.{verdict}
-use Rattle.answers.proofs.Laws.{answer-append, answer-part, row-held, on-refused}
-use Rattle.map.specs.Check.{mapRows}
+use Rattle.answers.specs.Refusals.{verdict}
+use Rattle.answers.proofs.Laws.{answer-append, answer-part, refusal-held, on-refused}
+use Rattle.answers.specs.After.{After, after}
+use Rattle.map.specs.Check.{mapRefusals}
 use Rattle.map.specs.Sound.{SoundMap}
 use Rattle.numbers.specs.Numbers.{number}
 use Rattle.numbers.proofs.Laws.{number-take}
 use Rattle.house.specs.declared.Reading.{Reading}
 use Rattle.house.specs.declared.Reading.the-variants as reading
-use Rattle.house.specs.File.{fileM, fileQ, fileKeys, fileClasses, FileMap, readRows, AfterRead, afterRead, readOf}
+use Rattle.house.specs.File.{fileM, fileQ, fileKeys, fileClasses, FileMap, readRefusals, readOf}
 use Rattle.house.proofs.Laws.{read-room, read-holds, read-by-lengths}
 use Rattle.text.proofs.Laws.{put-there}
 use Rattle.window_program.specs.declared.Begun.{Begun}
-use Rattle.window_program.specs.Text.{windowOf, refusalLine, answerOf, leftText, nextText, mapText, startRows, startText, Started, announcedOf, Received, wholeOf}
+use Rattle.window_program.specs.Text.{windowOf, refusalLine, answerOf, leftText, nextText, mapText, startRefusals, startText, Started, announcedOf, Received, wholeOf}
 use Rattle.window_program.proofs.Laws.{line-some, refused-most, silent, start-silent}
 
 -- ---- where a window should begin
 
 pub left-some : (got : ℕ) → 0 < got → leftText got ≡ refusalLine 10 got
 unfolding leftText
-left-some got l = row-held refusalLine 10 got [] [] (lt-ltb 0 got l)
+left-some got l = refusal-held refusalLine 10 got [] [] (lt-ltb 0 got l)
 
 module _ (m : ℕ) (keys classes : List ℕ) (got : ℕ) (bytes : List ℕ) where
   pub next-left : got < 8 → nextText m keys classes got bytes ≡ leftText got
@@ -43,11 +44,11 @@ module _ (m : ℕ) (keys classes : List ℕ) (got : ℕ) (bytes : List ℕ) wher
 -- ---- before the first window
 
 module _ (m : ℕ) (keys classes : List ℕ) where
-  pub map-passed : verdict (mapRows m keys (length classes)) ≡ Passed → mapText m keys classes ≡ []
+  pub map-passed : verdict (mapRefusals m keys (length classes)) ≡ Passed → mapText m keys classes ≡ []
   unfolding mapText
   map-passed e = silent _ .1 e
 
-  pub map-refused : {n p : ℕ} → verdict (mapRows m keys (length classes)) ≡ Refused n p → mapText m keys classes ≡ refusalLine n p
+  pub map-refused : {n p : ℕ} → verdict (mapRefusals m keys (length classes)) ≡ Refused n p → mapText m keys classes ≡ refusalLine n p
   unfolding mapText
   map-refused e = on-refused refusalLine _ [] e
 
@@ -57,15 +58,15 @@ by text (reading.Refused n p) = refusalLine n p
 by text (reading.Read m q) = text
 
 start-by : (file ks cs : List ℕ) → length ks ≡ 1000 → length cs ≡ 1000 → by (mapText (fileM file) (fileKeys file) (fileClasses file)) (readOf file ks cs .answer) ≡ startText file
-unfolding startText startRows mapText by
+unfolding startText startRefusals mapText by
 start-by file ks cs k c =
     let text = mapText (fileM file) (fileKeys file) (fileClasses file) in
     rw (read-by-lengths file ks cs, k, c)
-    (answer-part (by text) reading.Refused (readRows file 1000 1000) (reading.Read (fileM file) (fileQ file)) ∙ sym (answer-append refusalLine (readRows file 1000 1000) _ []))
+    (answer-part (by text) reading.Refused (readRefusals file 1000 1000) (reading.Read (fileM file) (fileQ file)) ∙ sym (answer-append refusalLine (readRefusals file 1000 1000) _ []))
 
-module _ (file ks cs : List ℕ) {r : Reading} {ks′ cs′ : List ℕ} (e : afterRead r ks′ cs′ ≡ readOf file ks cs) where
-  told : {a : Reading} → r ≡ a → readOf file ks cs ≡ afterRead a ks′ cs′
-  told d = sym e ∙ ap (λ (x : Reading). afterRead x ks′ cs′) d
+module _ (file ks cs : List ℕ) {r : Reading} {ks′ cs′ : List ℕ} (e : after r (ks′, cs′) ≡ readOf file ks cs) where
+  told : {a : Reading} → r ≡ a → readOf file ks cs ≡ after a (ks′, cs′)
+  told d = sym e ∙ ap (λ (x : Reading). after x (ks′, cs′)) d
 
   pub start-room : {m q : ℕ} → r ≡ reading.Read m q → (q ≤ length ks) × (q ≤ length cs)
   start-room d = read-room file ks cs (told d)
@@ -75,7 +76,7 @@ module _ (file ks cs : List ℕ) {r : Reading} {ks′ cs′ : List ℕ} (e : aft
 
   module _ (k : length ks ≡ 1000) (c : length cs ≡ 1000) where
     is : {a : Reading} → r ≡ a → by (mapText (fileM file) (fileKeys file) (fileClasses file)) a ≡ startText file
-    is d = rw (← ap (λ (x : AfterRead). x .answer) (told d)) (start-by file ks cs k c)
+    is d = rw (← ap (λ (x : After Reading (List ℕ × List ℕ)). x .answer) (told d)) (start-by file ks cs k c)
 
     pub start-refused : {n p : ℕ} → r ≡ reading.Refused n p → refusalLine n p ≡ startText file
     unfolding by
@@ -98,7 +99,7 @@ pub begun-sound : {file : List ℕ} {b : Begun} {keys classes out out′ : List 
     → SoundMap (b .m) (take (b .count) keys) (length (take (b .count) classes))
 unfolding startText
 begun-sound {file} {b} {out = out} g room e =
-    let put = put-there (startText file) out (g .text) (omega (arith, refused-most (startRows file))) in
+    let put = put-there (startText file) out (g .text) (omega (arith, refused-most (startRefusals file))) in
     let nothing = none (startText file) (sym (put .0) ∙ e) in
     let h = g .map nothing in
     rw (h .m-is, h .keys-are, h .classes-are) (start-silent file .0 nothing .1)

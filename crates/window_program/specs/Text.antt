@@ -8,16 +8,18 @@ use lib.Dec.{eqb, ltb}
 use lib.ListN.{length, take, getD}
 use Rattle.io.specs.Counts.{Counts}
 use Rattle.answers.specs.declared.Verdict.the-variants.{Passed}
-use Rattle.answers.specs.Rows.{Row, row, answer, verdict}
+use Rattle.answers.specs.Refusals.{Refusal, refusal, answer, verdict}
+use Rattle.answers.specs.After.{after}
+use Rattle.window.specs.Blocks.{pixels}
 use Rattle.window.specs.declared.Window.{Window}
 use Rattle.window.specs.Window.{window}
-use Rattle.map.specs.Check.{mapRows}
-use Rattle.border.specs.Openings.{openings, handsOut, cellsOf}
-use Rattle.border.specs.Open.{useRows}
+use Rattle.map.specs.Check.{mapRefusals}
+use Rattle.border.specs.Openings.{openings, handedCount, cellsOf}
+use Rattle.border.specs.Open.{useRefusals}
 use Rattle.numbers.specs.Numbers.{number}
-use Rattle.house.specs.File.{fileM, fileKeys, fileClasses, FileMap, readRows}
+use Rattle.house.specs.File.{fileM, fileKeys, fileClasses, FileMap, readRefusals}
 use Rattle.query.specs.Classes.{totals}
-use Rattle.text.specs.Text.{lineOf, afterPut, putOf}
+use Rattle.text.specs.Text.{lineOf, putOf}
 use Rattle.window_program.specs.declared.Begun.{Begun}
 
 -- the number of the two bytes from place i on, the lesser first
@@ -58,11 +60,11 @@ foundLines cells totals openings records pixels = openingLines cells ++ (classLi
 
 -- what is found in a window that is not refused, with its pixels counted by class and in all
 unfoldable pub foundBy : ℕ → List ℕ → Window → List ℕ → ℕ → List ℕ
-foundBy m keys W totals pixels = let os = openings m m keys W in foundLines (cellsOf os) totals (length os) (handsOut os) pixels
+foundBy m keys W totals pixels = let os = openings m m keys W in foundLines (cellsOf os) totals (length os) (handedCount os) pixels
 
 -- what is said of a window: a refusal, or what is found. No window of a picture is wider than 4,096, so 7 is never given
 unfoldable pub resultOf : ℕ → List ℕ → List ℕ → Window → List ℕ
-resultOf m keys classes W = answer refusalLine (useRows m keys (length classes) W 4096) (foundBy m keys W (totals m keys classes W) (W .h * W .w))
+resultOf m keys classes W = answer refusalLine (useRefusals m keys (length classes) W 4096) (foundBy m keys W (totals m keys classes W) (W .h * W .w))
 
 -- the text for a window
 unfoldable pub answerOf : ℕ → List ℕ → List ℕ → Window → List ℕ
@@ -70,18 +72,18 @@ answerOf m keys classes W = windowLine W ++ resultOf m keys classes W
 
 -- a window that can be opened on a map of 1,000 records or fewer, with so many cells of border
 pub record Opens (m : ℕ) (keys classes : List ℕ) (W : Window) (border : ℕ) : Type 0 where
-  pub passed : verdict (useRows m keys (length classes) W border) ≡ Passed
+  pub passed : verdict (useRefusals m keys (length classes) W border) ≡ Passed
   pub few : length keys ≤ 1000
 
 -- ---- where a window should begin
 
 -- of refusals in their order: the line of the first that holds, or nothing
-abbrev pub refusedText : List Row → List ℕ
+abbrev pub refusedText : List Refusal → List ℕ
 refusedText rows = answer refusalLine rows []
 
 -- refusal 10: so many bytes are left over
 unfoldable pub leftText : ℕ → List ℕ
-leftText got = refusedText (row (ltb 0 got) 10 got ∷ [])
+leftText got = refusedText (refusal (ltb 0 got) 10 got ∷ [])
 
 -- what is printed when so many of eight bytes are there: all are a window, and fewer are left over
 unfoldable pub nextText : ℕ → List ℕ → List ℕ → ℕ → List ℕ → List ℕ
@@ -91,19 +93,19 @@ nextText m keys classes got bytes = cond (ltb got 8) (leftText got) (answerOf m 
 
 -- what is printed for a map
 unfoldable pub mapText : ℕ → List ℕ → List ℕ → List ℕ
-mapText m keys classes = refusedText (mapRows m keys (length classes))
+mapText m keys classes = refusedText (mapRefusals m keys (length classes))
 
 -- a file is read into 1,000 cells each, and then its map is looked at
-unfoldable pub startRows : List ℕ → List Row
-startRows file = readRows file 1000 1000 ++ mapRows (fileM file) (fileKeys file) (length (fileClasses file))
+unfoldable pub startRefusals : List ℕ → List Refusal
+startRefusals file = readRefusals file 1000 1000 ++ mapRefusals (fileM file) (fileKeys file) (length (fileClasses file))
 
 -- what is printed for a file
 unfoldable pub startText : List ℕ → List ℕ
-startText file = refusedText (startRows file)
+startText file = refusedText (startRefusals file)
 
 -- what is printed was put, and where that is nothing, the first cells are the map that the file holds
 pub record Started (file : List ℕ) (b : Begun) (keys classes out out′ : List ℕ) : Type 0 where
-  pub text : afterPut (b .said) out′ ≡ putOf (startText file) out
+  pub text : after (b .said) out′ ≡ putOf (startText file) out
   pub few : b .count ≤ 1000
   pub map : startText file ≡ [] → FileMap file (b .m) (take (b .count) keys) (take (b .count) classes)
 

@@ -11,10 +11,10 @@ ghost use mathlib.Core.Path.{_≡_};
 ghost use Prim.Native.Nat.{_+_, _*_, _≤_};
 ghost use lib.ListN.{length};
 ghost use Rattle.io.specs.Counts.{Counts};
+ghost use Rattle.answers.specs.After.{after};
 ghost use Rattle.map.specs.Sound.{SoundMap};
-ghost use Rattle.text.specs.Text.{afterPut, putOf};
-ghost use Rattle.window_program.specs.Text.{windowOf, windowLine, refusalLine, openingLines, classLine, classLines, foundLines, foundBy, resultOf, answerOf, Opens};
-ghost use Rattle.window_program.specs.Text.{leftText, nextText, mapText, Started, announcedOf, Received, wholeOf, fileIn};
+ghost use Rattle.text.specs.Text.{putOf};
+ghost use Rattle.window_program.specs.Text.{windowOf, windowLine, refusalLine, openingLines, classLine, classLines, foundLines, foundBy, resultOf, answerOf, Opens, leftText, nextText, mapText, Started, announcedOf, Received, wholeOf, fileIn};
 
 // How the program begins: m and the number of records of the file's map, and how many bytes were put. Where any were, they say a refusal, and there is no map.
 pub struct Begun {
@@ -24,13 +24,13 @@ pub struct Begun {
 }
 
 fn put_refusal(number: u32, place: u32, out: &mut [u8]) -> usize
-    ensures { λ r. ⌜ afterPut r (now (out .exit)) ≡ putOf (refusalLine number place) (now (out .entry)) ⌝ }
+    ensures { λ r. ⌜ after r (now (out .exit)) ≡ putOf (refusalLine number place) (now (out .entry)) ⌝ }
 {
     text::put_line(b'R', &[number, place], out)
 }
 
 fn put_window(window: Window, out: &mut [u8]) -> usize
-    ensures { λ r. ⌜ afterPut r (now (out .exit)) ≡ putOf (windowLine window) (now (out .entry)) ⌝ }
+    ensures { λ r. ⌜ after r (now (out .exit)) ≡ putOf (windowLine window) (now (out .entry)) ⌝ }
 {
     let numbers = [
         window.r0 as u32,
@@ -44,7 +44,7 @@ fn put_window(window: Window, out: &mut [u8]) -> usize
 // Of each opening three cells.
 fn put_openings(cells: &[u32], out: &mut [u8]) -> usize
     requires { ⌜ length (openingLines (now cells)) ≤ length (now out) ⌝ }
-    ensures { λ r. ⌜ afterPut r (now (out .exit)) ≡ putOf (openingLines (now (cells .entry))) (now (out .entry)) ⌝ }
+    ensures { λ r. ⌜ after r (now (out .exit)) ≡ putOf (openingLines (now (cells .entry))) (now (out .entry)) ⌝ }
 {
     let mut at: usize = 0;
     let mut i: usize = 0;
@@ -57,7 +57,7 @@ fn put_openings(cells: &[u32], out: &mut [u8]) -> usize
 }
 
 fn put_class(class: u32, pixels: u32, out: &mut [u8]) -> usize
-    ensures { λ r. ⌜ afterPut r (now (out .exit)) ≡ putOf (classLine class pixels) (now (out .entry)) ⌝ }
+    ensures { λ r. ⌜ after r (now (out .exit)) ≡ putOf (classLine class pixels) (now (out .entry)) ⌝ }
 {
     if pixels == 0 {
         return 0;
@@ -68,7 +68,7 @@ fn put_class(class: u32, pixels: u32, out: &mut [u8]) -> usize
 // Of each class from 0 on, the pixels that have it.
 fn put_classes(totals: &[u32], out: &mut [u8]) -> usize
     requires { ⌜ (length (now totals) ≤ 256) × (length (classLines 0 (now totals)) ≤ length (now out)) ⌝ }
-    ensures { λ r. ⌜ afterPut r (now (out .exit)) ≡ putOf (classLines 0 (now (totals .entry))) (now (out .entry)) ⌝ }
+    ensures { λ r. ⌜ after r (now (out .exit)) ≡ putOf (classLines 0 (now (totals .entry))) (now (out .entry)) ⌝ }
 {
     let mut at: usize = 0;
     let mut class: usize = 0;
@@ -89,7 +89,7 @@ fn put_found(
     out: &mut [u8],
 ) -> usize
     requires { ⌜ (length (now totals) ≤ 256) × (length (foundLines (now cells) (now totals) openings records pixels) ≤ length (now out)) ⌝ }
-    ensures { λ r. ⌜ afterPut r (now (out .exit)) ≡ putOf (foundLines (now (cells .entry)) (now (totals .entry)) openings records pixels) (now (out .entry)) ⌝ }
+    ensures { λ r. ⌜ after r (now (out .exit)) ≡ putOf (foundLines (now (cells .entry)) (now (totals .entry)) openings records pixels) (now (out .entry)) ⌝ }
 {
     let mut at = put_openings(cells, out);
     at += put_classes(totals, &mut out[at..]);
@@ -109,7 +109,7 @@ fn put_opened(
     out: &mut [u8],
 ) -> usize
     requires { ⌜ Opens m (now keys) (now classes) window (length (now border)) × (length (now totals) ≤ 256) × (42179 ≤ length (now out)) ⌝ }
-    ensures { λ r. ⌜ afterPut r (now (out .exit)) ≡ putOf (foundBy m (now (keys .entry)) window (now (totals .entry)) pixels) (now (out .entry)) ⌝ }
+    ensures { λ r. ⌜ after r (now (out .exit)) ≡ putOf (foundBy m (now (keys .entry)) window (now (totals .entry)) pixels) (now (out .entry)) ⌝ }
 {
     let mut cells = [0u32; 3000];
     let opened = border::open(m, keys, classes, window, border, &mut cells);
@@ -125,7 +125,7 @@ fn put_opened(
 // What is said of a window behind its first line.
 fn put_result(m: u32, keys: &[u32], classes: &[u8], window: Window, out: &mut [u8]) -> usize
     requires { ⌜ (length (now keys) ≤ 1000) × (42179 ≤ length (now out)) ⌝ }
-    ensures { λ r. ⌜ afterPut r (now (out .exit)) ≡ putOf (resultOf m (now (keys .entry)) (now (classes .entry)) window) (now (out .entry)) ⌝ }
+    ensures { λ r. ⌜ after r (now (out .exit)) ≡ putOf (resultOf m (now (keys .entry)) (now (classes .entry)) window) (now (out .entry)) ⌝ }
 {
     let mut border = [0u16; 4096];
     let mut totals = [0u32; 256];
@@ -148,7 +148,7 @@ fn put_result(m: u32, keys: &[u32], classes: &[u8], window: Window, out: &mut [u
 // The text for a window: at most 46 bytes for its first line, 12 for each cell of an opening, 24 for each class and 35 for the sums.
 fn put_answer(m: u32, keys: &[u32], classes: &[u8], window: Window, out: &mut [u8]) -> usize
     requires { ⌜ (length (now keys) ≤ 1000) × (42225 ≤ length (now out)) ⌝ }
-    ensures { λ r. ⌜ afterPut r (now (out .exit)) ≡ putOf (answerOf m (now (keys .entry)) (now (classes .entry)) window) (now (out .entry)) ⌝ }
+    ensures { λ r. ⌜ after r (now (out .exit)) ≡ putOf (answerOf m (now (keys .entry)) (now (classes .entry)) window) (now (out .entry)) ⌝ }
 {
     let at = put_window(window, out);
     at + put_result(m, keys, classes, window, &mut out[at..])
@@ -174,7 +174,7 @@ fn window_of(bytes: &[u8; 8]) -> Window
 
 // What is printed for bytes that are left over where a window should begin.
 fn put_left(got: u32, out: &mut [u8]) -> usize
-    ensures { λ r. ⌜ afterPut r (now (out .exit)) ≡ putOf (leftText got) (now (out .entry)) ⌝ }
+    ensures { λ r. ⌜ after r (now (out .exit)) ≡ putOf (leftText got) (now (out .entry)) ⌝ }
 {
     if got == 0 {
         return 0;
@@ -192,7 +192,7 @@ fn put_next(
     out: &mut [u8],
 ) -> usize
     requires { ⌜ (length (now keys) ≤ 1000) × (42225 ≤ length (now out)) ⌝ }
-    ensures { λ r. ⌜ afterPut r (now (out .exit)) ≡ putOf (nextText m (now (keys .entry)) (now (classes .entry)) got (now (bytes .entry))) (now (out .entry)) ⌝ }
+    ensures { λ r. ⌜ after r (now (out .exit)) ≡ putOf (nextText m (now (keys .entry)) (now (classes .entry)) got (now (bytes .entry))) (now (out .entry)) ⌝ }
 {
     if got < 8 {
         return put_left(got as u32, out);
@@ -202,7 +202,7 @@ fn put_next(
 
 // What is printed for a map before the first window: a refusal, or nothing.
 fn put_map(m: u32, keys: &[u32], classes: &[u8], out: &mut [u8]) -> usize
-    ensures { λ r. ⌜ afterPut r (now (out .exit)) ≡ putOf (mapText m (now (keys .entry)) (now (classes .entry))) (now (out .entry)) ⌝ }
+    ensures { λ r. ⌜ after r (now (out .exit)) ≡ putOf (mapText m (now (keys .entry)) (now (classes .entry))) (now (out .entry)) ⌝ }
 {
     let sound = map::sound(m, keys, classes);
     let Verdict::Refused { number, place } = sound else {

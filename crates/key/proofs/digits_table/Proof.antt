@@ -1,6 +1,6 @@
 -- `key::digits_table` meets its contract, computed once over its 16 entries, and over the 13 numbers that it tells.
 -- Assumes nothing.
-use mathlib.Core.Path.{_≡_, refl}
+use mathlib.Core.Path.{refl}
 use mathlib.Core.List.{List, [], _∷_}
 use Prim.Native.Nat.{ℕ, _+_, _-_, _%_}
 use native.Mathlib.Omega.{arith}

@@ -5,7 +5,7 @@ use native.Mathlib.Omega.{arith}
 use lib.ListN.{length}
 use borrow.Author.Needs.{needs}
 use Rattle.border.specs.declared.Found.the-variants.{Opening, End}
-use Rattle.border.specs.Found.{madeFrom, spot, Finds}
+use Rattle.border.specs.Found.{walkMakes, spot, Finds}
 use Rattle.border.proofs.Finding.{fresh-same, fresh-usable, fresh-spent, finding-first, finding-usable, finding-last, finds-less}
 use Rattle.query.proofs.Adds.{Totalling, totalling-first, totalling-hands, totalling-once, totalling-next, totalling-last}
 use Rattle.query.proofs.add_up.Statement.{statement}
@@ -15,7 +15,7 @@ abbrev Inv-loop : tie.InvT-loop
 Inv-loop table ones digits m keys classes window border₀ counts₀ at₀ border counts at = Totalling m keys classes window border₀ border counts at
 
 abbrev μ-loop : tie.MeasureT-loop
-μ-loop table ones digits m keys classes window border₀ counts₀ at₀ border counts at = length (madeFrom m m keys window border (spot at))
+μ-loop table ones digits m keys classes window border₀ counts₀ at₀ border counts at = length (walkMakes m m keys window border (spot at))
 
 cast-fill : tie.Need-cast-fill Inv-loop μ-loop
 cast-fill c = search needs

@@ -4,8 +4,8 @@ use mathlib.Core.Path.{_≡_, sym, _∙_}
 use lib.ListN.{length}
 use borrow.Author.Needs.{needs}
 use Rattle.answers.specs.declared.Verdict.the-variants.{Passed}
-use Rattle.answers.specs.Rows.{verdict}
-use Rattle.border.specs.Open.{useRows}
+use Rattle.answers.specs.Refusals.{verdict}
+use Rattle.border.specs.Open.{useRefusals}
 use Rattle.border.proofs.Laws.{use-known, use-same, use-whole}
 use Rattle.query.proofs.Tables.{exist-refused, exist-done}
 use Rattle.query.proofs.exist.Statement.{statement}
@@ -29,7 +29,7 @@ spread-table-requires c κs = search needs
 -- where refusals 1 to 7 do not hold
 passed : (c : tie.After-enum-told)
     → let a = c .before .before .before .before .before .before .args in
-    verdict (useRows (a .m) (a .keys .now) (length (a .classes .now)) (a .window) (length (a .border .now))) ≡ Passed
+    verdict (useRefusals (a .m) (a .keys .now) (length (a .classes .now)) (a .window) (length (a .border .now))) ≡ Passed
 passed c = sym (c .before .before .usable .ensures) ∙ c .enum-told .given .1
 
 seek-requires : tie.Need-seek-requires

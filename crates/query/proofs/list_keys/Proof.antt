@@ -10,7 +10,7 @@ use borrow.Author.Needs.{needs}
 use Rattle.answers.proofs.Listing.{listed-nothing, listed-same}
 use Rattle.query.specs.Select.{selection}
 use Rattle.query.proofs.Selection.{selection-few}
-use Rattle.query.proofs.Tables.{room-short, room-done}
+use Rattle.query.proofs.Tables.{keys-short, keys-done}
 use Rattle.query.proofs.list_keys.Statement.{statement}
 use Rattle.query.proofs.list_keys.Tie as tie
 
@@ -60,7 +60,7 @@ returns c =
     let k = c .before .before .before .before .before .before in
     let L = c .before .before .before .pick-all .ensures in
     let same = listed-nothing {xs = chosen k} L (lent k) in
-    room-short _ _ (omega (arith, L .count)) (omega (arith, c .if2 .taken, ap length same)) same
+    keys-short (chosen k) (lent k) (omega (arith, L .count)) (omega (arith, c .if2 .taken, ap length same)) same
 
 -- where the keys are written: the slice is as it was, and has room for all
 ready : (c : tie.Joined1) → (c .if1 .out ≡ lent (c .before)) × (length (chosen (c .before)) ≤ length (lent (c .before)))
@@ -78,7 +78,7 @@ same-length-2 : tie.Need-same-length-2
 same-length-2 c = listed-same (c .before .before .pick-all2 .ensures) ∙ ap length (ready (c .before .before .before .before) .0)
 
 returns-2 : tie.Need-returns-2
-returns-2 c = let r = ready (c .before .before .before .before) in room-done _ _ (rw (r .0) at (c .before .before .pick-all2 .ensures)) (r .1)
+returns-2 c = let r = ready (c .before .before .before .before) in keys-done (chosen (c .before .before .before .before .before)) _ (rw (r .0) at (c .before .before .pick-all2 .ensures)) (r .1)
 
 pub list-keys-spec : {M : Type 1} → statement M
 list-keys-spec =

@@ -7,7 +7,7 @@ use borrow.Author.Needs.{needs}
 use Rattle.window.proofs.Laws.{inside-12}
 use Rattle.border.specs.declared.Found.the-variants.{Opening, End}
 use Rattle.border.specs.Step.{Usable}
-use Rattle.border.specs.Found.{madeFrom, spot, Finds}
+use Rattle.border.specs.Found.{walkMakes, spot, Finds}
 use Rattle.border.specs.Open.{spent}
 use Rattle.border.proofs.Finding.{fresh-same, fresh-usable, fresh-spent, finding-first, finding-usable, finding-spent, finding-next, finding-last, finds-opens, finds-less}
 use Rattle.query.proofs.Seeking.{Seeking, seeking-first, seeking-next, seeking-found, seeking-last}
@@ -19,7 +19,7 @@ abbrev Inv-loop : tie.InvT-loop
 Inv-loop table m keys classes window class border₀ w at₀ border at = Seeking m keys classes window class border₀ border at
 
 abbrev μ-loop : tie.MeasureT-loop
-μ-loop table m keys classes window class border₀ w at₀ border at = length (madeFrom m m keys window border (spot at))
+μ-loop table m keys classes window class border₀ w at₀ border at = length (walkMakes m m keys window border (spot at))
 
 cast-w : tie.Need-cast-w Inv-loop μ-loop
 cast-w c = search needs

@@ -5,10 +5,10 @@ use native.Mathlib.Omega.{arith}
 use lib.ListN.{length}
 use borrow.Author.Needs.{needs}
 use Rattle.answers.specs.declared.Verdict.the-variants.{Passed}
-use Rattle.answers.specs.Rows.{verdict}
+use Rattle.answers.specs.Refusals.{verdict}
 use Rattle.window.proofs.Laws.{inside-12}
 use Rattle.border.specs.Step.{Usable}
-use Rattle.border.specs.Open.{useRows}
+use Rattle.border.specs.Open.{useRefusals}
 use Rattle.border.proofs.Laws.{use-known, use-same}
 use Rattle.border.proofs.Finding.{filled-spent}
 use Rattle.query.proofs.Tables.{select-refused, select-listed}
@@ -32,7 +32,7 @@ module _ (c : tie.After-enum-told) where
   abbrev entry : tie.Start
   entry = c .before .before .before .before .before .before .before
 
-  passed : verdict (useRows (entry .args .m) (entry .args .keys .now) (length (entry .args .classes .now)) (entry .args .window) (length (entry .args .border .now))) ≡ Passed
+  passed : verdict (useRefusals (entry .args .m) (entry .args .keys .now) (length (entry .args .classes .now)) (entry .args .window) (length (entry .args .border .now))) ≡ Passed
   passed = sym (c .before .before .usable .ensures) ∙ c .enum-told .given .1
 
   known : Usable (entry .args .m) (entry .args .m) (entry .args .keys .now) (entry .args .window) (length (entry .args .border .now))

@@ -4,8 +4,8 @@ use mathlib.Core.Path.{_≡_, sym, _∙_}
 use borrow.Author.Needs.{needs}
 use lib.ListN.{length}
 use Rattle.answers.specs.declared.Verdict.{Verdict}
-use Rattle.answers.specs.Rows.{verdict}
-use Rattle.map.specs.Check.{mapRows}
+use Rattle.answers.specs.Refusals.{verdict}
+use Rattle.map.specs.Check.{mapRefusals}
 use Rattle.text.proofs.Laws.{put-empty}
 use Rattle.window_program.proofs.Steps.{map-passed, map-refused}
 use Rattle.window_program.proofs.put_map.Statement.{statement}
@@ -13,7 +13,7 @@ use Rattle.window_program.proofs.put_map.Tie as tie
 
 -- what the check of the map says
 is : (c : tie.After-sound) {v : Verdict} → c .sound .result ≡ v
-    → (let a = c .before .before .before .before .args in verdict (mapRows (a .m) (a .keys .now) (length (a .classes .now))) ≡ v)
+    → (let a = c .before .before .before .before .args in verdict (mapRefusals (a .m) (a .keys .now) (length (a .classes .now))) ≡ v)
 is c d = sym (c .sound .ensures) ∙ d
 
 sound-requires : tie.Need-sound-requires

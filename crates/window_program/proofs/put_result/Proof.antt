@@ -6,7 +6,7 @@ use Prim.Native.Nat.{ℕ}
 use native.Mathlib.Omega.{arith}
 use borrow.Author.Needs.{needs}
 use lib.ListN.{length, replicate, length-replicate}
-use Rattle.border.specs.Open.{after}
+use Rattle.answers.specs.After.{after}
 use Rattle.query.specs.Query.{reportOf}
 use Rattle.text.specs.Text.{putOf}
 use Rattle.window_program.proofs.Results.{report-refused, report-passed, report-counted}
@@ -19,7 +19,7 @@ start c = c .before .before .before .before .before .before
 
 reported : (c : tie.After-report)
     → (let a = start c .args in
-    after (c .report .result) (c .report .last .1 .1 .1 .1 .0) (c .report .last .1 .1 .1 .1 .1 .0) ≡ reportOf (a .m) (a .keys .now) (a .classes .now) (a .window) (replicate 4096 0) (replicate 256 0))
+    after (c .report .result) (c .report .last .1 .1 .1 .1 .0, c .report .last .1 .1 .1 .1 .1 .0) ≡ reportOf (a .m) (a .keys .now) (a .classes .now) (a .window) (replicate 4096 0) (replicate 256 0))
 reported c = c .report .ensures
 
 long : (c : tie.After-report) → length (c .report .last .1 .1 .1 .1 .1 .0) ≡ 256

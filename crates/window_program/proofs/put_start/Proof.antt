@@ -6,7 +6,8 @@ use Prim.Native.Nat.{ℕ, _≤_}
 use native.Mathlib.Omega.{arith}
 use borrow.Author.Needs.{needs}
 use lib.ListN.{length, length-take}
-use Rattle.house.specs.File.{afterRead, readOf}
+use Rattle.answers.specs.After.{after}
+use Rattle.house.specs.File.{readOf}
 use Rattle.text.specs.Text.{putOf}
 use Rattle.window_program.proofs.Steps.{start-room, start-holds, start-refused, start-some, start-read}
 use Rattle.window_program.proofs.put_start.Statement.{statement}
@@ -17,7 +18,7 @@ start c = c .before .before .before .before .before .before .before
 
 -- what reading answers
 answered : (c : tie.After-read)
-    → (let a = start c .args in afterRead (c .read .result) (c .read .last .1 .0) (c .read .last .1 .1 .0) ≡ readOf (a .file .now) (a .keys .now) (a .classes .now))
+    → (let a = start c .args in after (c .read .result) (c .read .last .1 .0, c .read .last .1 .1 .0) ≡ readOf (a .file .now) (a .keys .now) (a .classes .now))
 answered c = c .read .ensures
 
 abbrev read : tie.After-reading2 → tie.After-read

@@ -1,0 +1,25 @@
+-- What a call leaves: its answer and the lent slices; and refusal 8, of a slice that is too short.
+-- Assumes nothing.
+use mathlib.Core.List.{List, [], _∷_}
+use Prim.Native.Nat.{ℕ}
+use lib.Dec.{ltb}
+use lib.ListN.{length}
+use Rattle.answers.specs.Refusals.{Refusal, refusal, answer}
+use Rattle.answers.specs.Cells.{overwrite}
+
+-- an answer, and what stands in the lent slices afterwards: `List ℕ` for one slice, `List ℕ × List ℕ` for two, in the order in which they are lent
+pub record After (A S : Type 0) : Type 0 where
+  pub answer : A
+  pub lent : S
+
+abbrev pub after : {A S : Type 0} → A → S → After A S
+after answer lent = record { answer = answer; lent = lent }
+
+-- refusal 8: there is room for fewer cells than are needed
+unfoldable pub roomRefusals : ℕ → ℕ → List Refusal
+roomRefusals room needed = refusal (ltb room needed) 8 needed ∷ []
+
+-- cells in a slice that has room for them; or refusal 8, and the slice as it was
+unfoldable pub roomFor : {A : Type 0} → (ℕ → ℕ → A) → A → List ℕ → List ℕ → After A (List ℕ)
+roomFor refuse done cells out =
+    answer (λ number place. after (refuse number place) out) (roomRefusals (length out) (length cells)) (after done (overwrite cells out))
