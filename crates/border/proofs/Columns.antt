@@ -15,9 +15,9 @@ use Rattle.window.specs.declared.Window.{Window}
 use Rattle.window.specs.Window.{Px, In}
 use Rattle.window.specs.Blocks.{floor}
 use Rattle.window.proofs.Laws.{floor-le, floor-lt, floor-eq}
-use Rattle.border.specs.Cells.{filled, west, east, south, raised, closed}
+use Rattle.border.specs.Cells.{filled, west, east, south, pushed, closed}
 use Rattle.border.specs.Found.{columnsLeft}
-use Rattle.border.proofs.Filled.{filled-mid, columns, raised-there, raised-elsewhere}
+use Rattle.border.proofs.Filled.{filled-mid, columns, pushed-there, pushed-elsewhere}
 
 -- the cell of a column is above the row below the window
 abbrev low : Window → List ℕ → ℕ → Bool
@@ -75,11 +75,11 @@ module _ {W : Window} (n : ℕ) {b : Px} (cells : List ℕ) (v : In W b) (l : W 
       ap (λ (x : ℕ). howMany f (upFrom (W .c0) x)) k ∙ thirds f (W .c0) a (e - a) (W .w - e)
 
   abbrev now : ℕ → Bool
-  now = low W (raised W n b cells)
+  now = low W (pushed W n b cells)
 
   -- beside the block nothing changes
   beside : {c : ℕ} → W .c0 ≤ c → c < W .c0 + W .w → ¬ (floor n (b .1) ≡ floor n c) → now c ≡ low W cells c
-  beside {c} x y d = ap (λ (z : ℕ). ltb z (W .r0 + W .h)) (raised-elsewhere n cells v l x y d)
+  beside {c} x y d = ap (λ (z : ℕ). ltb z (W .r0 + W .h)) (pushed-elsewhere n cells v l x y d)
 
   front : howMany now (upFrom (W .c0) a) ≡ howMany (low W cells) (upFrom (W .c0) a)
   front = many-same (upFrom (W .c0) a) (λ c k. let z = up-in (W .c0) a c .0 k in beside (omega arith) (omega (arith, columns n cells v l)) (λ d. omega (arith, floor-le n c)))
@@ -106,7 +106,7 @@ module _ {W : Window} (n : ℕ) {b : Px} (cells : List ℕ) (v : In W b) (l : W 
   are = go (decLt (south W n b) (W .r0 + W .h))
     where
       test : {c : ℕ} → List·Memᴰ c (upFrom (W .c0 + a) (e - a)) → now c ≡ ltb (south W n b) (W .r0 + W .h)
-      test {c} k = let t = there k in ap (λ (z : ℕ). ltb z (W .r0 + W .h)) (raised-there n cells v l (t .0) (t .1) (t .2))
+      test {c} k = let t = there k in ap (λ (z : ℕ). ltb z (W .r0 + W .h)) (pushed-there n cells v l (t .0) (t .1) (t .2))
 
       go : Dec (south W n b < W .r0 + W .h) → howMany now (upFrom (W .c0 + a) (e - a)) + cond (ltb (south W n b) (W .r0 + W .h)) 0 (e - a) ≡ e - a
       go (yes h) =
@@ -117,6 +117,6 @@ module _ {W : Window} (n : ℕ) {b : Px} (cells : List ℕ) (v : In W b) (l : W 
           let none = many-same {f = now} {g = λ c. false} all (λ c k. test k ∙ le-ltb (south W n b) (W .r0 + W .h) (omega arith)) ∙ many-none all in
           rw (le-ltb (south W n b) (W .r0 + W .h) (omega arith)) (omega (arith, none))
 
-  pub left-raised : columnsLeft W (raised W n b cells) + closed W n b ≡ columnsLeft W cells
+  pub left-pushed : columnsLeft W (pushed W n b cells) + closed W n b ≡ columnsLeft W cells
   unfolding columnsLeft
-  left-raised = omega (arith, split now, split (low W cells), front, back, were, are)
+  left-pushed = omega (arith, split now, split (low W cells), front, back, were, are)

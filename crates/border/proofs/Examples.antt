@@ -27,7 +27,7 @@ use Rattle.border.specs.declared.Opened.{Opened}
 use Rattle.border.specs.declared.Opened.the-variants.{Done, Refused}
 use Rattle.border.specs.Openings.{isHanded, made, opening, openFrom, handedAfter, openings, handedCount, cellsOf}
 use Rattle.map.specs.Spans.{within}
-use Rattle.border.specs.Cells.{filled, raised, closed}
+use Rattle.border.specs.Cells.{filled, pushed, closed}
 use Rattle.border.specs.Step.{stepOf}
 use Rattle.border.specs.Promises.{Answerable, openingsIn, bringing}
 use Rattle.border.specs.Open.{useRefusals, spent, usedFor, openOf, borderRefusals}
@@ -76,9 +76,9 @@ pub record Examples : Type 0 where
 
 pub examples : Examples
 unfolding pictureRefusals countRefusals borderRefusals roomRefusals roomFor answer wrongCount sizeRefusals overwrite upFrom spreadTo spread place pixelKey blockKey from formOf beyond outside windowRefusals keep floor lies
-    fits greatest exponent corner across rows isCorner maximal keyOf keysOf spans.malformed spans.exponent spans.start spans.end spans.holds
+    fits greatest exponent corner across rows isCorner maximal keyOf keysOf spans.malformed spans.formExponent spans.start spans.end spans.holds
     spans.overlap late refusalsFrom mapRefusals before howMany recordOf exponentOf runOf any within isHanded opening openFrom handedAfter openings
-    handedCount cellsOf openingsIn bringing filled raised closed stepOf useRefusals spent usedFor openOf
+    handedCount cellsOf openingsIn bringing filled pushed closed stepOf useRefusals spent usedFor openOf
 examples = record {
   single = refl;
   step-7 = refl;

@@ -23,7 +23,7 @@ use Rattle.border.specs.declared.Stepped.{Stepped}
 use Rattle.border.specs.declared.Stepped.the-variants as stepped
 use Rattle.border.specs.Openings.{isHanded, Opening, opening, openFrom}
 use Rattle.border.specs.Border.{Stated, handedBy, openedBy, CoveredBy, Covered}
-use Rattle.border.specs.Cells.{raised, closed}
+use Rattle.border.specs.Cells.{pushed, closed}
 use Rattle.border.specs.Step.{reach, stepOf, madeBy, handsBy, Step}
 use Rattle.border.specs.Promises.{allHands}
 use Rattle.border.proofs.Sweep.{Out, Now}
@@ -42,7 +42,7 @@ module _ (m top : ℕ) (keys : List ℕ) (W : Window) (b : Px) (cells : List ℕ
 
   pub low-is : getD cells (b .1 - W .c0) 0 ≤ b .0
       → let run = runOf m keys (keyOf m top W b) in
-      stepOf m top keys W b cells ≡ after (stepped.Opened (keyOf m top W b) (run .first) (run .count) size (closed W size b)) (raised W size b cells)
+      stepOf m top keys W b cells ≡ after (stepped.Opened (keyOf m top W b) (run .first) (run .count) size (closed W size b)) (pushed W size b cells)
   unfolding stepOf
   low-is l = rw (le-ltb (b .0) (getD cells (b .1 - W .c0) 0) l)
 

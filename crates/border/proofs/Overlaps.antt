@@ -10,7 +10,7 @@ use native.Mathlib.Omega.{arith}
 use lib.ListN.{length, getD}
 use Rattle.key.specs.Picture.{Pixel, place, PixelAt}
 use Rattle.key.specs.Form.{formOf}
-use Rattle.key.specs.Blocks.{Names, Among, Inside as Covers, Stand, within as lies-in, around, after, before}
+use Rattle.key.specs.Blocks.{Names, Among, Covers, Stand, within as lies-in, around, after, before}
 use Rattle.key.proofs.Laws.{block-lies, blocks-stand, holds-same, place-onto, pow-least, size-le}
 use Rattle.window.specs.declared.Window.{Window}
 use Rattle.window.specs.Window.{Px, In, Inside}

@@ -22,8 +22,8 @@ use Rattle.border.specs.Cells.{filled}
 use Rattle.border.specs.Step.{reach, stepOf, madeBy, Corner, Usable, Ready, Step}
 use Rattle.border.specs.Found.{stepsMake, stepsLeave, columnsLeft, Kept}
 use Rattle.border.specs.Open.{spent}
-use Rattle.border.proofs.Filled.{raised-length, raised-beyond}
-use Rattle.border.proofs.Columns.{left-raised}
+use Rattle.border.proofs.Filled.{pushed-length, pushed-beyond}
+use Rattle.border.proofs.Columns.{left-pushed}
 use Rattle.border.proofs.Sweep.{Out}
 use Rattle.border.proofs.Stays.{skip-iff, fresh-high}
 use Rattle.border.proofs.Making.{low-is, high-is}
@@ -61,8 +61,8 @@ module _ {m top : ℕ} {keys : List ℕ} {W : Window} {b : Px} {cells border : L
       go : Dec (b .0 < getD cells (b .1 - W .c0) 0) → Kept W cells (stepOf m top keys W b cells .lent)
       go (yes l) = rw (high-is m top keys W b cells l) kept-none
       go (no h) = rw (low-is m top keys W b cells (omega (arith, h))) (record {
-        same = raised-length (reach W top (pixelExponent m keys) b) cells (K .inside) wide;
-        beyond = raised-beyond (reach W top (pixelExponent m keys) b) cells (K .inside) wide;
+        same = pushed-length (reach W top (pixelExponent m keys) b) cells (K .inside) wide;
+        beyond = pushed-beyond (reach W top (pixelExponent m keys) b) cells (K .inside) wide;
       })
 
   -- an opened block is opened by its key, and told with its reach
@@ -103,7 +103,7 @@ step-left {m} {top} {keys} {W} {b} {cells} {border} {answer} past rest U K split
     go (no h) =
         let fresh : ¬ Out W top (pixelTile m keys) b b = λ z. h (skip-iff (U .inside) (tiles (U .spaced)) K o .1 z) in
         ap (λ (x : After Stepped (List ℕ)). columnsLeft W (x .lent) + shutBy (x .answer)) (S .is ∙ low-is m top keys W b cells (omega (arith, h)))
-        ∙ left-raised (reach W top (pixelExponent m keys) b) cells (K .inside) (U .wide) (λ c x y e. omega (arith, fresh-high (U .inside) (tiles (U .spaced)) K fresh o x y e, K .inside))
+        ∙ left-pushed (reach W top (pixelExponent m keys) b) cells (K .inside) (U .wide) (λ c x y e. omega (arith, fresh-high (U .inside) (tiles (U .spaced)) K fresh o x y e, K .inside))
 
 -- a step, as it is made
 pub stepped-on : {m top : ℕ} {keys : List ℕ} {W : Window} {b : Px} (cells : List ℕ) → Usable m top keys W (length cells) → Corner W top b

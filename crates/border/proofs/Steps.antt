@@ -17,7 +17,7 @@ use Rattle.map.specs.Records.{pixelTile, pixelExponent}
 use Rattle.map.specs.Runs.{runOf, BlockOf}
 use Rattle.map.proofs.Laws.{tiles}
 use Rattle.border.specs.declared.Stepped.the-variants.{Skipped, Opened}
-use Rattle.border.specs.Cells.{raised, closed}
+use Rattle.border.specs.Cells.{pushed, closed}
 use Rattle.border.specs.Step.{reach, stepOf, Ready, Step}
 use Rattle.border.proofs.Sweep.{Out}
 use Rattle.border.proofs.Stays.{skip-iff, skips, raises}
@@ -71,10 +71,10 @@ module _ {m top : ℕ} {keys : List ℕ} {W : Window} {b : Px} {i room : ℕ} (K
 
     pub step-opened : {key : ℕ} {run : Run} {shut : ℕ} {cells′ : List ℕ} → getD cells (b .1 - W .c0) 0 ≤ b .0 → W .w ≤ length cells
         → key ≡ keyOf m top W b → run ≡ runOf m keys key
-        → shut ≡ closed W (run .reach) b → cells′ ≡ raised W (run .reach) b cells → Step m top keys W b cells (Opened key (run .first) (run .count) (run .reach) shut) cells′
+        → shut ≡ closed W (run .reach) b → cells′ ≡ pushed W (run .reach) b cells → Step m top keys W b cells (Opened key (run .first) (run .count) (run .reach) shut) cells′
     step-opened {key} {run} {shut} {cells′} l wide name e x f =
         let d = step-reach name e in
-        let up : _ ≡ raised W (reach W top (pixelExponent m keys) b) b cells = f ∙ ap (λ (x : ℕ). raised W x b cells) d in
+        let up : _ ≡ pushed W (reach W top (pixelExponent m keys) b) b cells = f ∙ ap (λ (x : ℕ). pushed W x b cells) d in
         let shuts : _ ≡ closed W (reach W top (pixelExponent m keys) b) b = x ∙ ap (λ (y : ℕ). closed W y b) d in
         let is : after (Opened key (run .first) (run .count) (run .reach) shut) cells′ ≡ stepOf m top keys W b cells = rw (low-is m top keys W b cells l, up, shuts, d, found name e, name) in
         record {

@@ -19,7 +19,7 @@ use Rattle.border.specs.declared.Stepped.{Stepped}
 use Rattle.border.specs.declared.Stepped.the-variants.{Skipped, Opened}
 use Rattle.border.specs.Openings.{Opening, made}
 use Rattle.border.specs.Border.{Stated, CoveredBy, openedBy}
-use Rattle.border.specs.Cells.{raised, closed}
+use Rattle.border.specs.Cells.{pushed, closed}
 use Rattle.border.specs.Promises.{allHands}
 
 -- of the block with corner b and the record of b, by the exponents of records, the exponent of the larger
@@ -32,7 +32,7 @@ stepOf m top keys W b cells =
     let key = keyOf m top W b in
     let run = runOf m keys key in
     let n = reach W top (pixelExponent m keys) b in
-    cond (ltb (b .0) (getD cells (b .1 - W .c0) 0)) (after Skipped cells) (after (Opened key (run .first) (run .count) n (closed W n b)) (raised W n b cells))
+    cond (ltb (b .0) (getD cells (b .1 - W .c0) 0)) (after Skipped cells) (after (Opened key (run .first) (run .count) n (closed W n b)) (pushed W n b cells))
 
 -- b is the corner of a maximal block
 pub record Corner (W : Window) (top : ℕ) (b : Px) : Type 0 where

@@ -10,7 +10,7 @@ ghost use Rattle.answers.specs.Refusals.{verdict};
 ghost use Rattle.answers.specs.After.{after};
 ghost use Rattle.key.specs.Spread.{spreads};
 ghost use Rattle.window.specs.Window.{In, Inside};
-ghost use Rattle.border.specs.Cells.{filled, raised, closed, entered};
+ghost use Rattle.border.specs.Cells.{filled, pushed, closed, entered};
 ghost use Rattle.border.specs.Step.{Usable, Ready, Step};
 ghost use Rattle.border.specs.Found.{walk, Reached, Finds};
 ghost use Rattle.border.specs.Open.{Passed, useRefusals, openOf};
@@ -80,11 +80,11 @@ pub fn ahead(x: u16, a: u16) -> u16
 }
 
 // What an opened block does to the border: around it stands the block of side 2^n. How many columns come to the row below the window by it.
-fn raise(window: Window, n: u32, row: u16, col: u16, border: &mut [u16]) -> u16
+fn push(window: Window, n: u32, row: u16, col: u16, border: &mut [u16]) -> u16
     requires { ⌜ (n ≤ 12) × Inside 12 window × In window (row, col) × (window .w ≤ length (now border)) ⌝ }
-    ensures { λ r. ⌜ (r ≡ closed window n (row, col)) × (now (border .exit) ≡ raised window n (row, col) (now (border .entry))) ⌝ }
+    ensures { λ r. ⌜ (r ≡ closed window n (row, col)) × (now (border .exit) ≡ pushed window n (row, col) (now (border .entry))) ⌝ }
 {
-    let side = window::side(n);
+    let side = key::side(n);
     let west = window::floor(n, col);
     let east = window::least(west + side, window.c0 + window.w);
     let south = window::least(window::floor(n, row) + side, window.r0 + window.h);
@@ -119,7 +119,7 @@ pub fn step(
     }
     let key = key::block_key(table, m, i, row, col);
     let run = map::records_of(table, m, keys, key, i);
-    let closed = raise(window, run.reach, row, col, border);
+    let closed = push(window, run.reach, row, col, border);
     Stepped::Opened {
         key,
         first: run.first,

@@ -12,7 +12,7 @@ use Rattle.key.specs.declared.Spot.{Spot}
 use Rattle.key.specs.declared.Fit.the-variants.{Block, Other}
 use Rattle.key.specs.Alignment.{alignment}
 use Rattle.key.specs.Blocks.{Names, Lies}
-use Rattle.key.specs.Along.{ones, onesTable, Finds, pixelAt, Stands, Fits, block, other}
+use Rattle.key.specs.Along.{ones, onesTable, TellsOnes, pixelAt, Stands, ToldFit, block, other}
 use Rattle.key.proofs.Powers.{pow-least, pow-most, four}
 use Rattle.key.proofs.Blocks.{At, whole, lies, at-form, form-at, one-at}
 use Rattle.key.proofs.Zeros.{alignment-divides}
@@ -131,16 +131,16 @@ pub record Told (table digits : List ℕ) (d i : ℕ) : Type 0 where
   pub entry : getD table i 0 ≡ ones i
   pub only : (j : ℕ) → j ≤ 12 → d ≡ ones j → i ≡ j
 
-pub told : {table digits : List ℕ} (d : ℕ) → table ≡ onesTable → Finds digits → Told table digits d (getD digits (d % 16) 0)
+pub told : {table digits : List ℕ} (d : ℕ) → table ≡ onesTable → TellsOnes digits → Told table digits d (getD digits (d % 16) 0)
 told {table} {digits} d e D =
     let small : getD digits (d % 16) 0 ≤ 12 = D .small (d % 16) (omega arith) in
     record { small = small; entry = ones-entry _ e small; only = λ j l q. ap (λ (x : ℕ). getD digits (x % 16) 0) q ∙ D .finds j l }
 
 module _ {m : ℕ} {s : Spot} (S : Stands m s) where
-  pub fits-behind : {key : ℕ} → s .place ≡ 4 ^ m → Fits m (s .place) key Other
+  pub fits-behind : {key : ℕ} → s .place ≡ 4 ^ m → ToldFit m (s .place) key Other
   fits-behind {key} e = other (λ i n. omega (arith, lies (form-at m key (n .is)) .span, pow-least 3 i))
 
-  pub fits-largest : {key : ℕ} → s .place < 4 ^ m → key ≡ s .key → Fits m (s .place) key (Block (s .top))
+  pub fits-largest : {key : ℕ} → s .place < 4 ^ m → key ≡ s .key → ToldFit m (s .place) key (Block (s .top))
   fits-largest h e = rw e (block (S .largest h))
 
   -- the pixel's key less this one is d, where it wraps if this one is over it
@@ -151,17 +151,17 @@ module _ {m : ℕ} {s : Spot} (S : Stands m s) where
         let e : d ≡ ones j = omega (arith, less) in
         (t .only j (omega (arith, S .cap)) e, e, k .0)
 
-    pub fits-unlike : (getD table i 0 ≡ d → ⊥) → Fits m (s .place) key Other
+    pub fits-unlike : (getD table i 0 ≡ d → ⊥) → ToldFit m (s .place) key Other
     fits-unlike n = other (λ j b. let k = told-block b in n (t .entry ∙ ap ones (k .0) ∙ sym (k .1)))
 
-    pub fits-large : s .top < i → Fits m (s .place) key Other
+    pub fits-large : s .top < i → ToldFit m (s .place) key Other
     fits-large l = other (λ j b. let k = told-block b in omega arith)
 
-    pub fits-here : getD table i 0 ≡ d → i ≤ s .top → Fits m (s .place) key (Block i)
+    pub fits-here : getD table i 0 ≡ d → i ≤ s .top → ToldFit m (s .place) key (Block i)
     fits-here q l = block (fits-key S h .1 (l, omega (arith, t .entry, less, fits-start S h l .2)))
 
-pub fits-block : {m p key i : ℕ} → Fits m p key (Block i) → Names m key i p
+pub fits-block : {m p key i : ℕ} → ToldFit m p key (Block i) → Names m key i p
 fits-block (block n) = n
 
-pub fits-other : {m p key : ℕ} → Fits m p key Other → (i : ℕ) → Names m key i p → ⊥
+pub fits-other : {m p key : ℕ} → ToldFit m p key Other → (i : ℕ) → Names m key i p → ⊥
 fits-other (other f) = f

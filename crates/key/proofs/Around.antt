@@ -9,7 +9,7 @@ use native.Mathlib.Numerals.{add-one}
 use native.Mathlib.Decide.{decLt}
 use native.Mathlib.Omega.{arith}
 use lib.Pow.{pow-add}
-use Rattle.key.specs.Blocks.{Names, Lies, Among, Stand, within, around, after, before, Below, Reaches, contains, ends}
+use Rattle.key.specs.Blocks.{Names, Lies, Among, Stand, within, around, after, before, BelowBlock, Reaches, contains, ends}
 use Rattle.key.proofs.Powers.{pow-least}
 use Rattle.key.proofs.Blocks.{At, whole, quad, lies, form-at, stand}
 use Rattle.key.proofs.Ends.{sub-key}
@@ -60,7 +60,7 @@ grown-first e = record { power = e; least = λ k l h. l }
 pub grown-next : {i over p e : ℕ} → Grown i over p e → p ≤ over → Grown i over (5 * p) (e + 1)
 grown-next {e = e} g l = record { power = rw (add-one e) (omega (arith, g .power, pow-suc 5 e)); least = λ k h o. omega (arith, fives e k (omega (arith, g .power))) }
 
-module _ {m own key i : ℕ} (B : Below m own key i) where
+module _ {m own key i : ℕ} (B : BelowBlock m own key i) where
   pub below-room : Lies m key i (B .start)
   below-room = lies (form-at m key (B .names .is))
 

@@ -8,7 +8,7 @@ use native.Mathlib.Decide.{decLt}
 use native.Mathlib.Omega.{arith}
 use lib.Arith.{digits-mod}
 use lib.Pow.{pow-add}
-use Rattle.key.specs.Blocks.{Names, Inside}
+use Rattle.key.specs.Blocks.{Names, Covers}
 use Rattle.key.specs.Along.{ones}
 use Rattle.key.proofs.Powers.{pow-least}
 use Rattle.key.proofs.Blocks.{At, whole, quad, lies, at-form, form-at, next-le, tri}
@@ -137,7 +137,7 @@ rest-at (quad {m = m} {i = I} d h a ek es) (quad {i = i} e g b el et) l k =
     (λ gt. absurd (omega (arith, lies b .span, next-le e d (4 ^ m) gt, pow-least 3 i))))
     (tri d e)
 
-pub sub-key : {m K I S key i s : ℕ} → Names m K I S → Names m key i s → Inside S (4 ^ I) s (4 ^ i) → Names I (key - K) i (s - S)
+pub sub-key : {m K I S key i s : ℕ} → Names m K I S → Names m key i s → Covers S (4 ^ I) s (4 ^ i) → Names I (key - K) i (s - S)
 sub-key {m} {K} {I} {S} {key} {i} {s} A b h =
     let r = rest-at (form-at m K (A .is)) (form-at m key (b .is)) (h .least) (h .most) in
     let ek : key - K ≡ r .key′ = omega (arith, r .ek) in

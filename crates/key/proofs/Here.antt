@@ -6,7 +6,7 @@ use Prim.Native.Nat.{ℕ, _+_, _-_, _%_, _^_, _≤_, _<_}
 use native.Mathlib.Omega.{arith}
 use lib.ListN.{getD}
 use Rattle.key.specs.declared.Spot.{Spot}
-use Rattle.key.specs.Along.{ones, Finds, pixelAt, Stands, Begins}
+use Rattle.key.specs.Along.{ones, TellsOnes, pixelAt, Stands, Begins}
 use Rattle.key.proofs.Laws.{block-lies}
 use Rattle.key.proofs.Powers.{pow-least}
 use Rattle.key.proofs.Along.{fits-key}
@@ -19,7 +19,7 @@ module _ {m : ℕ} {s : Spot} {key : ℕ} (S : Stands m s) (B : Begins m (s .pla
   pub begins-over : key + ones (B .exponent) ≡ pixelAt s
   begins-over = fits-key S begins-before .0 (B .names) .1
 
-  pub begins-told : {digits : List ℕ} → m ≤ 12 → Finds digits → getD digits ((pixelAt s - key) % 16) 0 ≡ B .exponent
+  pub begins-told : {digits : List ℕ} → m ≤ 12 → TellsOnes digits → getD digits ((pixelAt s - key) % 16) 0 ≡ B .exponent
   begins-told few D =
       let e : pixelAt s - key ≡ ones (B .exponent) = omega (arith, begins-over) in
       rw e (D .finds (B .exponent) (omega (arith, block-lies (B .names) .small)))

@@ -7,7 +7,7 @@ use native.Mathlib.Nat.{mul-div-cancel, div-mul-le-self, lt-div-mul-add}
 use native.Mathlib.Omega.{arith}
 use Rattle.key.specs.Picture.{Pixel, place, PixelAt}
 use Rattle.key.specs.Key.{pixelKey, blockKey}
-use Rattle.key.specs.Blocks.{Names, Lies, Among, Inside, Stand, within, around, after, before}
+use Rattle.key.specs.Blocks.{Names, Lies, Among, Covers, Stand, within, around, after, before}
 use Rattle.key.proofs.Powers.{pow-least}
 use Rattle.key.proofs.Digits.{form-whole}
 use Rattle.key.proofs.Blocks.{At, lies, at-form, form-at, stand, one-at}
@@ -54,10 +54,10 @@ pub blocks-stand : {m a i s b j t : ℕ} → Names m a i s → Names m b j t →
 blocks-stand x y = stand (at x) (at y)
 
 -- B lies in A exactly when its key is one of A's
-pub nested : {m a i s b j t : ℕ} → Names m a i s → Names m b j t → Inside s (4 ^ i) t (4 ^ j) ↔ Among a (5 ^ i) b
+pub nested : {m a i s b j t : ℕ} → Names m a i s → Names m b j t → Covers s (4 ^ i) t (4 ^ j) ↔ Among a (5 ^ i) b
 nested {i = i} {j = j} x y = go (blocks-stand x y)
   where
-    go : {a s b t : ℕ} → Stand a i s b j t → Inside s (4 ^ i) t (4 ^ j) ↔ Among a (5 ^ i) b
+    go : {a s b t : ℕ} → Stand a i s b j t → Covers s (4 ^ i) t (4 ^ j) ↔ Among a (5 ^ i) b
     go (within p q) = (λ h. omega (arith, pow-least 4 j), λ h. p)
     go (around l p k q) = (λ h. absurd (omega arith), λ h. absurd (omega arith))
     go (after p q) = (λ h. absurd (omega (arith, pow-least 3 j)), λ h. absurd (omega arith))

@@ -20,7 +20,7 @@ unfoldable pub onesTable : List ℕ
 onesTable = map ones (upFrom 0 13)
 
 -- a table that tells i from the remainder of `ones i` by 16
-pub record Finds (table : List ℕ) : Type 0 where
+pub record TellsOnes (table : List ℕ) : Type 0 where
   pub small : (x : ℕ) → x < 16 → getD table x 0 ≤ 12
   pub finds : (i : ℕ) → i ≤ 12 → getD table (ones i % 16) 0 ≡ i
 
@@ -36,9 +36,9 @@ pub record Stands (m : ℕ) (s : Spot) : Type 0 where
   pub aligned : (i : ℕ) → i ≤ m → (i ≤ s .top) ↔ (s .place % 4 ^ i ≡ 0)
 
 -- the key is that of a block that starts at place p, or of none
-pub data Fits (m p key : ℕ) : Fit → Type 0 where
-  block : {i : ℕ} → Names m key i p → Fits m p key (Block i)
-  other : ((i : ℕ) → Names m key i p → ⊥) → Fits m p key Other
+pub data ToldFit (m p key : ℕ) : Fit → Type 0 where
+  block : {i : ℕ} → Names m key i p → ToldFit m p key (Block i)
+  other : ((i : ℕ) → Names m key i p → ⊥) → ToldFit m p key Other
 
 -- the key is that of a block that starts at place p
 pub record Begins (m p key : ℕ) : Type 0 where

@@ -4,11 +4,11 @@ ghost use mathlib.Core.Path.{_≡_};
 ghost use Prim.Native.Nat.{_+_, _^_, _<_, _≤_};
 ghost use lib.ListN.{getD};
 ghost use Rattle.key.specs.Picture.{Pixel};
-ghost use Rattle.key.specs.Spread.{spread, spreads};
+ghost use Rattle.key.specs.Spread.{E, spreads};
 ghost use Rattle.key.specs.Key.{pixelKey, blockKey};
 ghost use Rattle.key.specs.Form.{formOf};
-ghost use Rattle.key.specs.Along.{ones, onesTable, Finds, pixelAt, Stands, Fits, Begins};
-ghost use Rattle.key.specs.Blocks.{Names, Below, Reaches};
+ghost use Rattle.key.specs.Along.{ones, onesTable, TellsOnes, pixelAt, Stands, ToldFit, Begins};
+ghost use Rattle.key.specs.Blocks.{Names, BelowBlock, Reaches};
 ghost use Rattle.key.specs.Alignment.{alignment};
 ghost use Rattle.key.specs.Power.{Power};
 
@@ -37,7 +37,7 @@ fn entry(table: &[u32; 256], x: u16) -> u32
 // E of a row, of a column, and of a power of two up to 2^12: read for the low eight bits, and again, times 5^8, for the rest.
 fn spread(table: &[u32; 256], x: u16) -> u32
     requires { ⌜ (now table ≡ spreads) × (x < 2 ^ 13) ⌝ }
-    ensures { λ r. ⌜ r ≡ spread 5 x ⌝ }
+    ensures { λ r. ⌜ r ≡ E x ⌝ }
 {
     entry(table, x % 256) + 390625 * entry(table, x / 256)
 }
@@ -56,6 +56,14 @@ fn ones(table: &[u32; 256], k: u32) -> u32
     ensures { λ r. ⌜ r ≡ ones k ⌝ }
 {
     spread(table, (1 << k) - 1)
+}
+
+// How many rows a block of exponent i has, and how many columns.
+pub fn side(i: u32) -> u16
+    requires { ⌜ i ≤ 12 ⌝ }
+    ensures { λ r. ⌜ Power 2 i r ⌝ }
+{
+    1 << i
 }
 
 // How many pixels a block of exponent k has.
@@ -148,7 +156,7 @@ pub fn ones_table() -> [u32; 13]
 }
 
 pub fn digits_table() -> [u8; 16]
-    ensures { λ r. ⌜ Finds r ⌝ }
+    ensures { λ r. ⌜ TellsOnes r ⌝ }
 {
     DIGITS
 }
@@ -174,8 +182,8 @@ fn pixel_at(ones: &[u32; 13], m: u32, spot: Spot) -> u32
 // The exponent of the block of a key that starts where the walk stands. It is mostly the largest; of any other, the key of the pixel there is over it by so many digits 1 as its
 // exponent says, and by no such number over a key that is larger.
 pub fn exponent_at(ones: &[u32; 13], digits: &[u8; 16], m: u32, spot: Spot, key: u32) -> Fit
-    requires { ⌜ (now ones ≡ onesTable) × Finds (now digits) × (m ≤ 12) × Stands m spot ⌝ }
-    ensures { λ r. ⌜ Fits m (spot .place) key r ⌝ }
+    requires { ⌜ (now ones ≡ onesTable) × TellsOnes (now digits) × (m ≤ 12) × Stands m spot ⌝ }
+    ensures { λ r. ⌜ ToldFit m (spot .place) key r ⌝ }
 {
     if spot.place == pow4(m) {
         return Fit::Other;
@@ -196,7 +204,7 @@ pub fn exponent_at(ones: &[u32; 13], digits: &[u8; 16], m: u32, spot: Spot, key:
 
 // The same of a key that is known to be that of such a block: nothing is left to be tested. m is there for the contract alone.
 pub fn exponent_here(ones: &[u32; 13], digits: &[u8; 16], m: u32, spot: Spot, key: u32) -> u32
-    requires { ⌜ (now ones ≡ onesTable) × Finds (now digits) × (m ≤ 12) × Stands m spot × Begins m (spot .place) key ⌝ }
+    requires { ⌜ (now ones ≡ onesTable) × TellsOnes (now digits) × (m ≤ 12) × Stands m spot × Begins m (spot .place) key ⌝ }
     ensures { λ r. ⌜ Names m key r (spot .place) ⌝ }
 {
     if key == spot.key {
@@ -233,7 +241,7 @@ pub fn advance(ones: &[u32; 13], m: u32, key: u32, i: u32, start: u32) -> Spot
 // How far the block of a key reaches around the block of a larger key and its exponent i: its own exponent where it contains it, otherwise i. Where it does, it is as many digits
 // larger as the one key has over the other, and its own key ends in as many zeros.
 pub fn reach_over(table: &[u32; 256], m: u32, own: u32, key: u32, i: u32) -> u32
-    requires { ⌜ (now table ≡ spreads) × (m ≤ 12) × Below m own key i ⌝ }
+    requires { ⌜ (now table ≡ spreads) × (m ≤ 12) × BelowBlock m own key i ⌝ }
     ensures { λ r. ⌜ Reaches m own key i r ⌝ }
 {
     if own == 0 {

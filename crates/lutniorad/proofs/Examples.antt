@@ -41,7 +41,7 @@ record Called : Type 0 where
 
 called : Called
 unfolding pictureRefusals countRefusals roomRefusals borderRefusals roomFor answer wrongCount sizeRefusals overwrite upFrom spreadTo spread place pixelKey blockKey from formOf beyond outside windowRefusals keep floor lies
-    fits greatest exponent corner across rows isCorner maximal keyOf keysOf decomposeRefusals decomposeOf spans.malformed spans.exponent spans.start
+    fits greatest exponent corner across rows isCorner maximal keyOf keysOf decomposeRefusals decomposeOf spans.malformed spans.formExponent spans.start
     spans.end spans.holds spans.overlap late refusalsFrom mapRefusals before howMany recordOf exponentOf runOf any within isHanded opening openFrom
     openings handedCount cellsOf useRefusals spent usedFor openOf
 called = record { p1 = record { answer = refl; cells = refl }; p2 = record { answer = refl; cells = refl } }

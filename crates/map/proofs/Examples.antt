@@ -13,7 +13,7 @@ use Rattle.key.specs.Spread.{spreadTo, spread}
 use Rattle.key.specs.Picture.{place}
 use Rattle.key.specs.Form.{from, formOf}
 use Rattle.map.specs.declared.Checked.the-variants.{Sound, Refused}
-use Rattle.map.specs.Spans.{malformed, exponent, start, end, holds, overlap}
+use Rattle.map.specs.Spans.{malformed, formExponent, start, end, holds, overlap}
 use Rattle.map.specs.Check.{late, refusalsFrom, mapRefusals, checkOf}
 use Rattle.map.specs.Records.{recordOf, exponentOf, tileOf}
 use Rattle.map.specs.Runs.{run, runOf}
@@ -54,7 +54,7 @@ pub record Examples : Type 0 where
   pub tile : tileOf 2 gapped 1 ≡ 3
 
 pub examples : Examples
-unfolding pictureRefusals countRefusals answer wrongCount sizeRefusals spreadTo spread place from formOf malformed exponent start end holds overlap late refusalsFrom mapRefusals checkOf before howMany recordOf exponentOf tileOf runOf
+unfolding pictureRefusals countRefusals answer wrongCount sizeRefusals spreadTo spread place from formOf malformed formExponent start end holds overlap late refusalsFrom mapRefusals checkOf before howMany recordOf exponentOf tileOf runOf
 examples = record {
   sound = refl;
   pixel = refl;

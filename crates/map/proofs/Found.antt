@@ -14,12 +14,12 @@ use borrow.Author.Tests.{eq-eqb, ne-eqb}
 use Rattle.lists.specs.Lists.{before, howMany}
 use Rattle.lists.proofs.Laws.{Stretch, stretch-of, stretch-begins, stretch-counts}
 use Rattle.key.specs.Form.{formOf}
-use Rattle.key.specs.Blocks.{Names, Among, Inside}
+use Rattle.key.specs.Blocks.{Names, Among, Covers}
 use Rattle.key.proofs.Laws.{one-block, nested, pow-least, size-le}
 use Rattle.map.specs.Spans.{overlap}
 use Rattle.map.specs.Sound.{Spaced}
 use Rattle.map.specs.Records.{Record, SomeRecord, Holder, Free, exponentOf}
-use Rattle.map.specs.Runs.{run, runOf, Meets, Between, Splits}
+use Rattle.map.specs.Runs.{run, runOf, Meets, Bracket, Splits}
 use Rattle.map.proofs.Order.{record-at, keys-apart, keys-rise, find}
 use Rattle.map.proofs.Holding.{exponent-of, exponent-none}
 use Rattle.map.proofs.Meeting.{meets-run, meets-around, meets-none, in-block}
@@ -57,7 +57,7 @@ module _ {m : ℕ} {keys : List ℕ} (F : Spaced m 0 keys) {key i s : ℕ} (b : 
       go (no n) = rw (many, ne-eqb count 0 n, stretch-begins test keys first (first + count) stretch (omega arith))
 
   -- records that overlap it and lie in it reach no further than it
-  pub reach-inside : {first count : ℕ} → Meets m keys i s first count → ((n j t : ℕ) → Among first count n → Record m keys n j t → Inside s (4 ^ i) t (4 ^ j)) → far ≡ i
+  pub reach-inside : {first count : ℕ} → Meets m keys i s first count → ((n j t : ℕ) → Among first count n → Record m keys n j t → Covers s (4 ^ i) t (4 ^ j)) → far ≡ i
   reach-inside M h = go (find F s)
     where
       go : Holder m keys s ⊎ Free m keys s → max i (exponentOf m keys s) ≡ i
@@ -67,7 +67,7 @@ module _ {m : ℕ} {keys : List ℕ} (F : Spaced m 0 keys) {key i s : ℕ} (b : 
       go (inr f) = rw (exponent-none F f) (omega arith)
 
   -- one around it reaches as far as itself
-  pub reach-around : {n j t : ℕ} → Record m keys n j t → Inside t (4 ^ j) s (4 ^ i) → far ≡ j
+  pub reach-around : {n j t : ℕ} → Record m keys n j t → Covers t (4 ^ j) s (4 ^ i) → far ≡ j
   reach-around {n} {j} {t} r h =
       let H : Holder m keys s = record { index = n; exponent = j; start = t; is = r; has = omega (arith, pow-least 3 i) } in
       let l = size-le i j .1 (omega arith) in
@@ -92,7 +92,7 @@ module _ {m : ℕ} {keys : List ℕ} (F : Spaced m 0 keys) {key i s : ℕ} (b : 
           next : a + 1 < length keys → key + 5 ^ i ≤ getD keys (a + 1) 0
           next h = omega (arith, keys-apart F a (a + 1) own (record-at F (a + 1) h .is) (omega arith))
 
-      pub end-later : getD keys a 0 < key + 5 ^ i → Between keys (key + 5 ^ i) (a + 1) (length keys)
+      pub end-later : getD keys a 0 < key + 5 ^ i → Bracket keys (key + 5 ^ i) (a + 1) (length keys)
       end-later h = between-upper (keys-rise F) (between-first keys (key + 5 ^ i)) l h
 
   -- and where they begin and end says which records these are

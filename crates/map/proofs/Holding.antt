@@ -16,7 +16,7 @@ use Rattle.key.specs.Form.{formOf}
 use Rattle.key.specs.Picture.{Pixel, place}
 use Rattle.key.specs.Blocks.{Names, Among}
 use Rattle.key.proofs.Laws.{one-block, block-lies, holds-same, place-lt, place-one}
-use Rattle.map.specs.Spans.{exponent, holds}
+use Rattle.map.specs.Spans.{formExponent, holds}
 use Rattle.map.specs.Sound.{Follow, Spaced}
 use Rattle.map.specs.Records.{SomeRecord, Holder, Free, recordOf, exponentOf, tileOf, Tiling, pixelRecord, pixelTile, pixelExponent}
 use Rattle.map.proofs.Order.{spaced, record-at, holder, find, one-holder}
@@ -25,7 +25,7 @@ use Rattle.map.proofs.Tests.{exponent-is, holds-is}
 -- ---- by the record's number
 
 module _ (m : ℕ) (keys : List ℕ) (q : ℕ) where
-  pub exponent-record : recordOf m keys q < length keys → exponentOf m keys q ≡ exponent (formOf m (getD keys (recordOf m keys q) 0))
+  pub exponent-record : recordOf m keys q < length keys → exponentOf m keys q ≡ formExponent (formOf m (getD keys (recordOf m keys q) 0))
   unfolding exponentOf
   exponent-record l = rw (lt-ltb (recordOf m keys q) (length keys) l)
 

@@ -8,9 +8,9 @@ use native.Mathlib.Numerals.{add-one}
 use native.Mathlib.Omega.{arith}
 use lib.ListN.{getD}
 use Rattle.key.specs.Form.{formOf}
-use Rattle.key.specs.Blocks.{Names, Among, Inside}
+use Rattle.key.specs.Blocks.{Names, Among, Covers}
 use Rattle.key.proofs.Laws.{one-block, block-lies, nested, sub-key, pow-least}
-use Rattle.map.specs.Spans.{exponent, start}
+use Rattle.map.specs.Spans.{formExponent, start}
 use Rattle.map.specs.Sound.{Follow}
 use Rattle.map.specs.Records.{Record, SomeRecord, Holder}
 use Rattle.map.specs.Runs.{runOf}
@@ -31,7 +31,7 @@ module _ {m : ℕ} {keys : List ℕ} (F : Follow m 0 keys) {key i s : ℕ} (b : 
   abbrev count : ℕ
   count = runOf m keys key .count
 
-  inside : {n j t : ℕ} → Among first count n → Record m keys n j t → Inside s (4 ^ i) t (4 ^ j)
+  inside : {n j t : ℕ} → Among first count n → Record m keys n j t → Covers s (4 ^ i) t (4 ^ j)
   inside = reach-within (spaced F) b short
 
   -- one of them holds the block's first place, and none stands before it
@@ -62,13 +62,13 @@ module _ {m : ℕ} {keys : List ℕ} (F : Follow m 0 keys) {key i s : ℕ} (b : 
 
   module _ {n p : ℕ} (a : Among first count n) (I : Inner m keys key (first + count) n p) where
     -- what it is in the block, and where it ends the next one starts
-    pub inner-names : Names i (getD keys n 0 - key) (exponent (formOf m (getD keys n 0))) p
+    pub inner-names : Names i (getD keys n 0 - key) (formExponent (formOf m (getD keys n 0))) p
     inner-names =
         let r = at n (a .most) in
         let e : r .start - s ≡ p = omega (arith, start-is b, start-is (r .is .names), I .here (a .most)) in
         rw (exponent-is (r .is .names), ← e) (sub-key b (r .is .names) (inside a (r .is)))
 
-    pub inner-next : {end : ℕ} → end ≡ p + 4 ^ exponent (formOf m (getD keys n 0)) → Inner m keys key (first + count) (n + 1) end
+    pub inner-next : {end : ℕ} → end ≡ p + 4 ^ formExponent (formOf m (getD keys n 0)) → Inner m keys key (first + count) (n + 1) end
     inner-next {end} e = rw add-one (record { here = next })
       where
         next : suc n < first + count → start (formOf m (getD keys (suc n) 0)) ≡ start (formOf m key) + end

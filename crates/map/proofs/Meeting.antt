@@ -6,7 +6,7 @@ use Prim.Native.Nat.{ℕ, suc, max, _+_, _-_, _^_, _≤_, _<_}
 use native.Mathlib.Decide.{decLt}
 use native.Mathlib.Omega.{arith}
 use lib.ListN.{getD}
-use Rattle.key.specs.Blocks.{Names, Among, Inside, Stand, around, after, before, within}
+use Rattle.key.specs.Blocks.{Names, Among, Covers, Stand, around, after, before, within}
 use Rattle.key.proofs.Laws.{one-block, blocks-stand, nested, pow-least}
 use Rattle.map.specs.Sound.{Spaced}
 use Rattle.map.specs.Records.{Record, SomeRecord}
@@ -14,7 +14,7 @@ use Rattle.map.specs.Runs.{Overlap, contained, filled, Meets, Splits}
 use Rattle.map.proofs.Order.{record-at, keys-apart, one-holder}
 
 -- a record around a block is the only one that meets it
-pub meets-around : {m : ℕ} {keys : List ℕ} → Spaced m 0 keys → {i s n j t : ℕ} → Record m keys n j t → Inside t (4 ^ j) s (4 ^ i) → Meets m keys i s n 1
+pub meets-around : {m : ℕ} {keys : List ℕ} → Spaced m 0 keys → {i s n j t : ℕ} → Record m keys n j t → Covers t (4 ^ j) s (4 ^ i) → Meets m keys i s n 1
 meets-around {m} {keys} F {i} {s} {n} {j} {t} R h = record {
   empty = λ d. absurd (omega arith);
   room = omega (arith, R .within);
@@ -34,7 +34,7 @@ meets-around {m} {keys} F {i} {s} {n} {j} {t} R h = record {
 -- a list of records, a block, and where its keys begin and end in the list
 module _ {m : ℕ} {keys : List ℕ} (F : Spaced m 0 keys) {key i s : ℕ} (b : Names m key i s) {a z : ℕ} (A : Splits keys key a) (Z : Splits keys (key + 5 ^ i) z) where
   -- a record between the two lies in the block
-  pub in-block : {n j t : ℕ} → Record m keys n j t → a ≤ n → n < z → Inside s (4 ^ i) t (4 ^ j)
+  pub in-block : {n j t : ℕ} → Record m keys n j t → a ≤ n → n < z → Covers s (4 ^ i) t (4 ^ j)
   in-block {n} r l h = nested b (r .names) .1 (record { least = A .over n l (r .within); most = Z .below n h })
 
   -- one before them that meets the block contains it, and then no record stands between

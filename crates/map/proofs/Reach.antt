@@ -7,7 +7,7 @@ use Prim.Native.Nat.{ℕ, max, _+_, _^_, _≤_, _<_}
 use native.Mathlib.Nat.{eq-or-lt-of-le}
 use native.Mathlib.Omega.{arith}
 use lib.ListN.{length, getD}
-use Rattle.key.specs.Blocks.{Names, Among, Inside, Stand, around, after, before, within}
+use Rattle.key.specs.Blocks.{Names, Among, Covers, Stand, around, after, before, within}
 use Rattle.key.proofs.Laws.{one-block, block-lies, blocks-stand, whole-named, pow-least, size-le}
 use Rattle.map.specs.declared.Run.{Run}
 use Rattle.map.specs.Sound.{Follow, Spaced}
@@ -27,16 +27,16 @@ pub record Alone (m : ℕ) (keys : List ℕ) (key i s : ℕ) : Type 0 where
   pub start : ℕ
   pub one : runOf m keys key .count ≡ 1
   pub is : Record m keys (runOf m keys key .first) (runOf m keys key .reach) start
-  pub around : Inside start (4 ^ runOf m keys key .reach) s (4 ^ i)
+  pub around : Covers start (4 ^ runOf m keys key .reach) s (4 ^ i)
 
 module _ {m : ℕ} {keys : List ℕ} (F : Spaced m 0 keys) {key i s : ℕ} (b : Names m key i s) where
   pub reach-least : i ≤ runOf m keys key .reach
   reach-least = omega (arith, reach-is keys b)
 
-  pub reach-within : runOf m keys key .reach ≡ i → {n j t : ℕ} → Among (runOf m keys key .first) (runOf m keys key .count) n → Record m keys n j t → Inside s (4 ^ i) t (4 ^ j)
+  pub reach-within : runOf m keys key .reach ≡ i → {n j t : ℕ} → Among (runOf m keys key .first) (runOf m keys key .count) n → Record m keys n j t → Covers s (4 ^ i) t (4 ^ j)
   reach-within e {n} {j} {t} a r = go (block-records F b .nest)
     where
-      go : Nest m keys i s (runOf m keys key .first) (runOf m keys key .count) → Inside s (4 ^ i) t (4 ^ j)
+      go : Nest m keys i s (runOf m keys key .first) (runOf m keys key .count) → Covers s (4 ^ i) t (4 ^ j)
       go (filled h) = h n j t a r
       go (contained {j = x} {t = y} c u h) =
           let d : n ≡ runOf m keys key .first = omega (arith, a) in
@@ -67,7 +67,7 @@ known-record {m} {keys} F {n} {j} {t} {from} {end} R e f = record {
     inner {x} {i} c h = (found-around F (c .names) R (omega (arith, h, e, f)), smaller (blocks-stand (R .names) (c .names)))
       where
         -- a block of the record's own size is the record
-        less : Inside (getD keys n 0) (5 ^ j) x (5 ^ i) → (i ≡ j) ⊎ (i < j) → i < j
+        less : Covers (getD keys n 0) (5 ^ j) x (5 ^ i) → (i ≡ j) ⊎ (i < j) → i < j
         less q (inl d) = absurd (omega (arith, q, h, e, ap (λ (z : ℕ). 5 ^ z) d))
         less q (inr k) = k
 

@@ -14,7 +14,7 @@ use Rattle.key.specs.Blocks.{Names}
 use Rattle.key.proofs.Laws.{block-lies}
 use Rattle.map.specs.Check.{late, refusalsFrom}
 use Rattle.map.specs.declared.Taken.the-variants.{Behind, Refused}
-use Rattle.map.specs.Walk.{Takes, behind, refused, Walked}
+use Rattle.map.specs.Walk.{Takes, behind, refused, CheckedTo}
 use Rattle.map.proofs.Steps.{step-next}
 
 -- what a record was taken for
@@ -25,10 +25,10 @@ module _ {whole : Bool} {m at key place : ℕ} where
   pub taken-refused : {n p : ℕ} → Takes whole m at key place (Refused n p) → (ks : List ℕ) → verdict (refusalsFrom whole m place at (key ∷ ks)) ≡ refusal.Refused n p
   taken-refused (refused v) = v
 
-pub walked-first : (whole : Bool) (m : ℕ) (keys : List ℕ) → Walked whole m keys 0 0
+pub walked-first : (whole : Bool) (m : ℕ) (keys : List ℕ) → CheckedTo whole m keys 0 0
 walked-first whole m keys = record { within = omega arith; most = omega arith; same = refl }
 
-module _ {whole : Bool} {m : ℕ} {keys : List ℕ} {at n : ℕ} (w : Walked whole m keys at n) where
+module _ {whole : Bool} {m : ℕ} {keys : List ℕ} {at n : ℕ} (w : CheckedTo whole m keys at n) where
   from : {ks : List ℕ} → drop n keys ≡ ks → verdict (refusalsFrom whole m 0 0 keys) ≡ verdict (refusalsFrom whole m n at ks)
   from e = w .same ∙ ap (λ (ks : List ℕ). verdict (refusalsFrom whole m n at ks)) e
 
@@ -37,7 +37,7 @@ module _ {whole : Bool} {m : ℕ} {keys : List ℕ} {at n : ℕ} (w : Walked who
     pub walked-here : verdict (refusalsFrom whole m 0 0 keys) ≡ verdict (refusalsFrom whole m n at (getD keys n 0 ∷ drop (suc n) keys))
     walked-here = from (drop-cons keys n 0 h)
 
-    pub walked-next : {i s end : ℕ} → Names m (getD keys n 0) i s → at ≤ s → late whole at s ≡ false → end ≡ s + 4 ^ i → Walked whole m keys end (n + 1)
+    pub walked-next : {i s end : ℕ} → Names m (getD keys n 0) i s → at ≤ s → late whole at s ≡ false → end ≡ s + 4 ^ i → CheckedTo whole m keys end (n + 1)
     walked-next b l e q =
         record {
           within = omega arith;

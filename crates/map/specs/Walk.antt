@@ -9,7 +9,7 @@ use Rattle.answers.specs.declared.Verdict.the-variants as refusal
 use Rattle.answers.specs.Refusals.{verdict}
 use Rattle.key.specs.declared.Fit.the-variants.{Other}
 use Rattle.key.specs.Blocks.{Names}
-use Rattle.key.specs.Along.{Stands, Fits}
+use Rattle.key.specs.Along.{Stands, ToldFit}
 use Rattle.map.specs.declared.Taken.{Taken}
 use Rattle.map.specs.declared.Taken.the-variants.{Behind, Refused}
 use Rattle.map.specs.declared.Gone.{Gone}
@@ -21,15 +21,15 @@ pub data Takes (whole : Bool) (m at key place : ℕ) : Taken → Type 0 where
   refused : {n p : ℕ} → ((ks : List ℕ) → verdict (refusalsFrom whole m place at (key ∷ ks)) ≡ refusal.Refused n p) → Takes whole m at key place (Refused n p)
 
 -- the table says of all records what it says of those from n on, where the last span ended at `at`
-pub record Walked (whole : Bool) (m : ℕ) (keys : List ℕ) (at n : ℕ) : Type 0 where
+pub record CheckedTo (whole : Bool) (m : ℕ) (keys : List ℕ) (at n : ℕ) : Type 0 where
   pub within : n ≤ length keys
   pub most : at ≤ 4 ^ m
   pub same : verdict (refusalsFrom whole m 0 0 keys) ≡ verdict (refusalsFrom whole m n at (drop n keys))
 
 -- from record n and place `at` the walk goes on, and ends with the records or before one that does not start where it stands
-pub record Goes (m : ℕ) (keys : List ℕ) (at n : ℕ) (g : Gone) : Type 0 where
+pub record GoesAlong (m : ℕ) (keys : List ℕ) (at n : ℕ) (g : Gone) : Type 0 where
   pub onward : n ≤ g .next
   pub within : g .next ≤ length keys
   pub stands : Stands m (g .spot)
-  pub walked : (whole : Bool) → Walked whole m keys at n → Walked whole m keys (g .spot .place) (g .next)
-  pub ends : g .next < length keys → Fits m (g .spot .place) (getD keys (g .next) 0) Other
+  pub walked : (whole : Bool) → CheckedTo whole m keys at n → CheckedTo whole m keys (g .spot .place) (g .next)
+  pub ends : g .next < length keys → ToldFit m (g .spot .place) (getD keys (g .next) 0) Other

@@ -12,12 +12,12 @@ ghost use lib.ListN.{length};
 ghost use Rattle.answers.specs.Refusals.{verdict};
 ghost use Rattle.key.specs.declared.Fit.the-variants.{Other};
 ghost use Rattle.key.specs.Spread.{spreads};
-ghost use Rattle.key.specs.Along.{onesTable, Finds, Stands, Fits};
+ghost use Rattle.key.specs.Along.{onesTable, TellsOnes, Stands, ToldFit};
 ghost use Rattle.map.specs.Check.{refusalsFrom, mapRefusals, checkOf};
-ghost use Rattle.map.specs.Walk.{Takes, Goes};
+ghost use Rattle.map.specs.Walk.{Takes, GoesAlong};
 ghost use Rattle.map.specs.Sound.{Spaced};
 ghost use Rattle.map.specs.Runs;
-ghost use Rattle.map.specs.Runs.{run, near, seen, runOf, BlockOf, Rising, Between, Splits, LiesIn, Known, Sees};
+ghost use Rattle.map.specs.Runs.{run, near, seen, runOf, BlockOf, Rising, Bracket, Splits, LiesIn, Known, Sees};
 
 // What the check answers: the number of records of a sound map, or a refusal.
 pub enum Checked {
@@ -60,7 +60,7 @@ pub struct Seen {
 
 // What a record is whose key is that of no block that starts at the place reached: refused by 3, by 4, and by 5 where the map is to be whole; otherwise a block behind a gap.
 fn misfit(whole: bool, m: u32, at: u32, key: u32, place: u32) -> Taken
-    requires { ⌜ (m ≤ 12) × Fits m at key Other ⌝ }
+    requires { ⌜ (m ≤ 12) × ToldFit m at key Other ⌝ }
     ensures { λ r. ⌜ Takes whole m at key place r ⌝ }
 {
     let form = key::read_key(m, key);
@@ -76,10 +76,10 @@ fn misfit(whole: bool, m: u32, at: u32, key: u32, place: u32) -> Taken
     Taken::Behind { exponent, start }
 }
 
-// Goes from record n on as long as each record starts where the last one's span ended. Such a record is told by its key and the place reached, and none is decoded.
+// GoesAlong from record n on as long as each record starts where the last one's span ended. Such a record is told by its key and the place reached, and none is decoded.
 fn along(ones: &[u32; 13], digits: &[u8; 16], m: u32, keys: &[u32], from: Spot, n: usize) -> Gone
-    requires { ⌜ (now ones ≡ onesTable) × Finds (now digits) × (m ≤ 12) × Stands m from × (n ≤ length (now keys)) ⌝ }
-    ensures { λ r. ⌜ Goes m (now (keys .entry)) (from .place) n r ⌝ }
+    requires { ⌜ (now ones ≡ onesTable) × TellsOnes (now digits) × (m ≤ 12) × Stands m from × (n ≤ length (now keys)) ⌝ }
+    ensures { λ r. ⌜ GoesAlong m (now (keys .entry)) (from .place) n r ⌝ }
 {
     let mut spot = from;
     let mut next = n;
@@ -164,7 +164,7 @@ pub fn check(m: u32, keys: &[u32], classes: &[u8]) -> Checked
 
 // How many keys are below x, where those before `from` are: a search by halves in rising keys.
 fn keys_below(keys: &[u32], x: u32, from: usize) -> usize
-    requires { ⌜ Rising (now keys) × Between (now keys) x from (length (now keys)) ⌝ }
+    requires { ⌜ Rising (now keys) × Bracket (now keys) x from (length (now keys)) ⌝ }
     ensures { λ r. ⌜ Splits (now (keys .entry)) x r ⌝ }
 {
     let mut low = from;

@@ -26,7 +26,7 @@ use Rattle.window.specs.Blocks.{floor, Same, Fits, pixels}
 use Rattle.window.specs.Decompose.{keyOf}
 use Rattle.window.proofs.Laws.{floor-le, floor-lt, floor-eq, same-div, fits-same, fits-down, exponent-fits, corner→same, pixel-in, key-named, rows-count, side-square}
 use Rattle.map.specs.declared.Run.{Run}
-use Rattle.map.specs.Spans.{exponent}
+use Rattle.map.specs.Spans.{formExponent}
 use Rattle.map.specs.Sound.{Spaced}
 use Rattle.map.specs.Records.{Holder, pixelRecord, pixelExponent}
 use Rattle.map.specs.Runs.{runOf}
@@ -98,7 +98,7 @@ module _ {m : ℕ} {keys : List ℕ} (F : Spaced m 0 keys) {W : Window} (I : Ins
           (λ t. block .1 (same-div .1 (one .0 (own ∙ sym (other .0 (eqb-true _ _ t))))), λ t. eq-eqb _ _ (other .1 (sym (one .1 (same-div .0 (block .0 t))) ∙ own)))
 
   -- the same by the record's number
-  pub area-at : {p : Px} {n : ℕ} → In W p → pixelRecord m keys (p .0) (p .1) ≡ n → n < length keys → area m keys W n ≡ clipped W (exponent (formOf m (getD keys n 0))) p
+  pub area-at : {p : Px} {n : ℕ} → In W p → pixelRecord m keys (p .0) (p .1) ≡ n → n < length keys → area m keys W n ≡ clipped W (formExponent (formOf m (getD keys n 0))) p
   area-at {p} {n} v e l =
       let h : pixelRecord m keys (p .0) (p .1) < length keys = rw e l in
       rw (← e, ← exponent-record m keys (place (p .0) (p .1)) h) (area-around v h)
@@ -118,13 +118,13 @@ module _ {m top : ℕ} {keys : List ℕ} (F : Spaced m 0 keys) {W : Window} (I :
   named = key-named I small (C .inside) (C .own)
 
   -- where they reach no further than it, each lies in it, and so in the window
-  pub area-inside : found .reach ≡ Blocks.exponent W top b → {n : ℕ} → List·Memᴰ n (met m keys (keyOf m top W b)) → area m keys W n ≡ 4 ^ exponent (formOf m (getD keys n 0))
+  pub area-inside : found .reach ≡ Blocks.exponent W top b → {n : ℕ} → List·Memᴰ n (met m keys (keyOf m top W b)) → area m keys W n ≡ 4 ^ formExponent (formOf m (getD keys n 0))
   area-inside e {n} l =
       let q = met-pixels F I small C n .0 l in
       let o = q .0 in
       let r = record-at F n (q .1) in
       let h = reach-within F named e (met-in m keys (keyOf m top W b) n .0 l) (r .is) in
-      let smaller : exponent (formOf m (getD keys n 0)) ≤ Blocks.exponent W top b = rw (exponent-is (r .is .names)) (size-le _ _ .1 (omega arith)) in
+      let smaller : formExponent (formOf m (getD keys n 0)) ≤ Blocks.exponent W top b = rw (exponent-is (r .is .names)) (size-le _ _ .1 (omega arith)) in
       let s = corner→same W top (C .inside) (o .inside) (C .own ∙ sym (o .block)) in
       area-at F I (o .inside) (record-tile m keys _ (q .1) .1 (o .is)) (q .1) ∙ clipped-whole (fits-down smaller (fits-same s (exponent-fits W top (C .inside))))
 

@@ -12,7 +12,7 @@ use Rattle.lists.specs.Lists.{upFrom, any, keep}
 use Rattle.lists.proofs.Tests.{never, refuted, both}
 use Rattle.lists.proofs.Laws.{up-in, any-has, has-any}
 use Rattle.key.specs.Form.{formOf}
-use Rattle.key.specs.Blocks.{Names, Inside as Covers}
+use Rattle.key.specs.Blocks.{Names, Covers}
 use Rattle.map.specs.Records.{Record}
 use Rattle.map.specs.Spans.{within}
 use Rattle.map.proofs.Laws.{within-is}

@@ -65,7 +65,7 @@ pub record Examples : Type 0 where
 
 pub examples : Examples
 unfolding pictureRefusals countRefusals borderRefusals roomRefusals roomFor answer wrongCount sizeRefusals overwrite upFrom spreadTo spread place pixelKey blockKey from formOf beyond outside windowRefusals keep floor lies
-    fits greatest exponent corner across rows isCorner maximal keyOf keysOf spans.malformed spans.exponent spans.start spans.end spans.holds spans.overlap
+    fits greatest exponent corner across rows isCorner maximal keyOf keysOf spans.malformed spans.formExponent spans.start spans.end spans.holds spans.overlap
     late refusalsFrom mapRefusals before howMany recordOf any within useRefusals spent hasClass exists total totals around inside selected allSelected selection
     existing existOf usedFor reportOf selectOf
 examples = record {

@@ -15,7 +15,7 @@ use Rattle.window.specs.Window.{Px}
 use Rattle.window.specs.Decompose.{keyOf}
 use Rattle.window.proofs.Laws.{key-named}
 use Rattle.map.specs.declared.Run.{Run}
-use Rattle.map.specs.Spans.{exponent}
+use Rattle.map.specs.Spans.{formExponent}
 use Rattle.map.specs.Runs.{runOf}
 use Rattle.map.proofs.Laws.{block-records, reach-least, reach-beyond, Alone, Inner, inner-first, inner-key, inner-names, inner-next}
 use Rattle.border.specs.Openings.{met}
@@ -78,14 +78,14 @@ module _ {m : ℕ} {keys : List ℕ} {classes : ℕ} {W : Window} {key i first c
       inner : Inner m keys key (runOf m keys key .first + runOf m keys key .count) n p
       inner = rw (hands .found) I
 
-      own : Names i (getD keys n 0 - key) (exponent (formOf m (getD keys n 0))) p
+      own : Names i (getD keys n 0 - key) (formExponent (formOf m (getD keys n 0))) p
       own = inner-names (hands .whole) (named hands) short (run-in a) inner
 
       pub fills-begins : Begins i p (getD keys n 0 - key)
-      fills-begins = record { exponent = exponent (formOf m (getD keys n 0)); names = own }
+      fills-begins = record { exponent = formExponent (formOf m (getD keys n 0)); names = own }
 
       module _ {e : ℕ} (N : Names i (getD keys n 0 - key) e p) where
-        same : 4 ^ e ≡ 4 ^ exponent (formOf m (getD keys n 0))
+        same : 4 ^ e ≡ 4 ^ formExponent (formOf m (getD keys n 0))
         same = ap (λ (k : ℕ). 4 ^ k) (one-block N own .0)
 
         -- all of it is in the window, and where it ends the next one starts

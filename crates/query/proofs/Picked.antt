@@ -12,7 +12,7 @@ use borrow.Author.Tests.{eqb-true, eq-eqb, lt-ltb, le-ltb}
 use Rattle.lists.specs.Lists.{upFrom, keep}
 use Rattle.lists.proofs.Tests.{refuted, agree}
 use Rattle.lists.proofs.Laws.{up-in, keep-none, keep-same, keep-run}
-use Rattle.key.specs.Blocks.{Names, Among, Inside as Covers}
+use Rattle.key.specs.Blocks.{Names, Among, Covers}
 use Rattle.key.proofs.Laws.{one-key, nested, pow-least}
 use Rattle.window.specs.declared.Window.{Window}
 use Rattle.window.specs.Window.{Px, Inside}

@@ -11,7 +11,7 @@ use lib.ListN.{length, getD}
 use Rattle.lists.specs.Lists.{upFrom, keep, Ordered, none, more}
 use Rattle.lists.proofs.Laws.{distinct-map, up-in, up-distinct, keep-in, keep-true, in-keep, ordered-keep}
 use Rattle.key.specs.Form.{formOf}
-use Rattle.key.specs.Blocks.{Names, Among, Inside as Covers, Stand, within as lies-in, around as stands-around, after, before, within}
+use Rattle.key.specs.Blocks.{Names, Among, Covers, Stand, within as lies-in, around as stands-around, after, before, within}
 use Rattle.key.proofs.Laws.{blocks-stand}
 use Rattle.map.specs.Sound.{Spaced}
 use Rattle.map.specs.Spans.{holds}
@@ -21,7 +21,7 @@ use Rattle.query.specs.Select.{inside, selected}
 use Rattle.query.proofs.Choices.{around-is, inside-is, Choice, whole, parts, choice}
 
 -- key x, selected from the block of `key`, whose exponent is i and whose span starts at s: it names a block that lies in a record of the class and in that block
-pub record Part (m : ℕ) (keys classes : List ℕ) (class key i s x : ℕ) : Type 0 where
+pub record SelectedPart (m : ℕ) (keys classes : List ℕ) (class key i s x : ℕ) : Type 0 where
   pub index : ℕ
   pub record-exponent : ℕ
   pub record-start : ℕ
@@ -35,10 +35,10 @@ pub record Part (m : ℕ) (keys classes : List ℕ) (class key i s x : ℕ) : Ty
   pub own : (x ≡ key) ⊎ (x ≡ getD keys index 0)
 
 module _ {m : ℕ} {keys : List ℕ} (F : Spaced m 0 keys) (classes : List ℕ) (class : ℕ) {key i s : ℕ} (B : Names m key i s) where
-  pub selected-part : {x : ℕ} → List·Memᴰ x (selected m keys classes class key) → Part m keys classes class key i s x
+  pub selected-part : {x : ℕ} → List·Memᴰ x (selected m keys classes class key) → SelectedPart m keys classes class key i s x
   selected-part {x} l = go (choice m keys classes class key)
     where
-      go : Choice m keys classes class key → Part m keys classes class key i s x
+      go : Choice m keys classes class key → SelectedPart m keys classes class key i s x
       go (whole {n = n} h e d) =
           let R = record-at F n h in
           let a = around-is classes class B (R .is) .0 e in

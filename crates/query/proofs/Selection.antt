@@ -27,7 +27,7 @@ use Rattle.border.specs.Step.{Corner}
 use Rattle.border.proofs.Laws.{spans, listed-corner}
 use Rattle.query.specs.Select.{selected, selection}
 use Rattle.query.proofs.Blockwise.{all-none, all-cons, all-in, in-all, selectedBy, selection-is}
-use Rattle.query.proofs.Selected.{Part, selected-part, selected-place, selected-one, selected-once}
+use Rattle.query.proofs.Selected.{SelectedPart, selected-part, selected-place, selected-one, selected-once}
 
 module _ {m top : ℕ} {keys : List ℕ} (F : Spaced m 0 keys) {W : Window} (I : Inside m W) (small : top ≤ m) where
   named : {b : Px} → Corner W top b → Names m (keyOf m top W b) (exponent W top b) (place (b .0) (b .1))
@@ -89,7 +89,7 @@ module _ {m top : ℕ} {keys : List ℕ} (F : Spaced m 0 keys) {W : Window} (I :
         let P = selected-part F classes class (named (listed-corner (f .listed))) (f .gives) in
         go f P (P .own)
       where
-        go : (f : From x (maximal W top)) (P : Part m keys classes class (keyOf m top W (f .corner)) (exponent W top (f .corner)) (place (f .corner .0) (f .corner .1)) x)
+        go : (f : From x (maximal W top)) (P : SelectedPart m keys classes class (keyOf m top W (f .corner)) (exponent W top (f .corner)) (place (f .corner .0) (f .corner .1)) x)
             → (x ≡ keyOf m top W (f .corner)) ⊎ (x ≡ getD keys (P .index) 0) → List·Memᴰ x (map (keyOf m top W) (maximal W top) ++ keys)
         go f P (inl e) = Memᴰ·append-left keys (Memᴰ·cast e (Memᴰ·map (keyOf m top W) (f .listed)))
         go f P (inr e) = Memᴰ·append-right (map (keyOf m top W) (maximal W top)) (Memᴰ·cast e (getD-in keys (P .index) (P .is .within)))

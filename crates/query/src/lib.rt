@@ -11,7 +11,7 @@ ghost use Rattle.lists.specs.Lists.{upFrom, any};
 ghost use Rattle.answers.specs.Cells.{overwrite, Listed};
 ghost use Rattle.answers.specs.After.{after};
 ghost use Rattle.key.specs.Spread.{spreads};
-ghost use Rattle.key.specs.Along.{onesTable, Finds};
+ghost use Rattle.key.specs.Along.{onesTable, TellsOnes};
 ghost use Rattle.window.specs.Window.{In, Inside};
 ghost use Rattle.map.specs.Sound.{Follow};
 ghost use Rattle.border.specs.Step.{Usable};
@@ -122,7 +122,7 @@ fn clipped(window: Window, e: u32, row: u16, col: u16) -> u32
     requires { ⌜ (e ≤ 12) × Inside 12 window × In window (row, col) ⌝ }
     ensures { λ r. ⌜ r ≡ clipped window e (row, col) ⌝ }
 {
-    let side = window::side(e);
+    let side = key::side(e);
     let rows = shared(window.r0, window.h, window::floor(e, row), side);
     let cols = shared(window.c0, window.w, window::floor(e, col), side);
     (rows as u32) * (cols as u32)
@@ -143,7 +143,7 @@ fn gather_run(
     count: u32,
     totals: &mut [u32; 256],
 )
-    requires { ⌜ (now ones ≡ onesTable) × Finds (now digits) × Fills m (now keys) (length (now classes)) window key exponent first count × Gathering m (now keys) (now classes) window first count (now totals) ⌝ }
+    requires { ⌜ (now ones ≡ onesTable) × TellsOnes (now digits) × Fills m (now keys) (length (now classes)) window key exponent first count × Gathering m (now keys) (now classes) window first count (now totals) ⌝ }
     ensures { λ r. ⌜ now (totals .exit) ≡ gathered m (now (keys .entry)) (now (classes .entry)) window (upFrom first count) (now (totals .entry)) ⌝ }
 {
     let end = first + count;
@@ -177,7 +177,7 @@ fn gather(
     reach: u32,
     totals: &mut [u32; 256],
 )
-    requires { ⌜ (now ones ≡ onesTable) × Finds (now digits) × Hands m (now keys) (length (now classes)) window (row, col) key exponent first count reach × Gathering m (now keys) (now classes) window first count (now totals) ⌝ }
+    requires { ⌜ (now ones ≡ onesTable) × TellsOnes (now digits) × Hands m (now keys) (length (now classes)) window (row, col) key exponent first count reach × Gathering m (now keys) (now classes) window first count (now totals) ⌝ }
     ensures { λ r. ⌜ now (totals .exit) ≡ gathered m (now (keys .entry)) (now (classes .entry)) window (upFrom first count) (now (totals .entry)) ⌝ }
 {
     if exponent < reach {
@@ -212,7 +212,7 @@ fn add_up(
     border: &mut [u16],
     counts: &mut [u32; 256],
 )
-    requires { ⌜ (now table ≡ spreads) × (now ones ≡ onesTable) × Finds (now digits) × Usable m m (now keys) window (length (now border)) × (length (now keys) ≡ length (now classes)) × (now counts ≡ replicate 256 0) × Follow m 0 (now keys) ⌝ }
+    requires { ⌜ (now table ≡ spreads) × (now ones ≡ onesTable) × TellsOnes (now digits) × Usable m m (now keys) window (length (now border)) × (length (now keys) ≡ length (now classes)) × (now counts ≡ replicate 256 0) × Follow m 0 (now keys) ⌝ }
     ensures { λ r. ⌜ (now (counts .exit) ≡ totals m (now (keys .entry)) (now (classes .entry)) window) × (now (border .exit) ≡ spent window (now (border .entry))) ⌝ }
 {
     border::fill(border, 0, window.w as usize, window.r0);

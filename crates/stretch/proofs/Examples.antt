@@ -7,8 +7,8 @@ use Prim.Native.Nat.{ℕ}
 use Rattle.lists.specs.Lists.{upFrom, keep, greatest}
 use Rattle.key.specs.Along.{ones}
 use Rattle.key.specs.Places.{placeKey, spanKey}
-use Rattle.stretch.specs.Sets.{base, full, fits, exponent, starts, between}
-use Rattle.stretch.specs.Fewest.{maximal, keyFrom, fewest, stretch}
+use Rattle.stretch.specs.Sets.{base, full, fitsIn, exponentIn, starts, between}
+use Rattle.stretch.specs.Fewest.{maximalIn, keyFrom, fewest, stretch}
 use Rattle.stretch.specs.Runs.{joined, runs, stretches}
 use Rattle.stretch.specs.Walk.{largest}
 
@@ -26,7 +26,7 @@ record Examples : Type 0 where
   -- as many places as a quadrant has, of which none is whole
   across : stretch 2 6 10 ≡ 13 ∷ 14 ∷ 16 ∷ 17 ∷ []
   two-runs : runs set 0 16 ≡ (3, 9) ∷ (10, 12) ∷ []
-  two-starts : maximal 2 set 0 16 ≡ 3 ∷ 4 ∷ 8 ∷ 10 ∷ 11 ∷ []
+  two-starts : maximalIn 2 set 0 16 ≡ 3 ∷ 4 ∷ 8 ∷ 10 ∷ 11 ∷ []
   two : fewest 2 set 0 16 ≡ 9 ∷ 10 ∷ 16 ∷ 18 ∷ 19 ∷ []
   apart : stretches 2 (runs set 0 16) ≡ 9 ∷ 10 ∷ 16 ∷ 18 ∷ 19 ∷ []
   -- the largest block by the greatest exponent and the places left
@@ -35,7 +35,7 @@ record Examples : Type 0 where
   picture : largest 12 16777216 ≡ 12
 
 examples : Examples
-unfolding upFrom keep greatest ones placeKey spanKey base full fits exponent starts between maximal keyFrom fewest stretch joined runs stretches largest
+unfolding upFrom keep greatest ones placeKey spanKey base full fitsIn exponentIn starts between maximalIn keyFrom fewest stretch joined runs stretches largest
 examples = record {
   most = refl;
   whole = refl;

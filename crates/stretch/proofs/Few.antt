@@ -13,8 +13,8 @@ use lib.Dec.{lit<}
 use lib.ListN.{length, length-map}
 use Rattle.lists.specs.Lists.{upFrom}
 use Rattle.lists.proofs.Laws.{rising-distinct, pigeon, up-in, up-length}
-use Rattle.stretch.specs.Sets.{base, exponent, between}
-use Rattle.stretch.specs.Fewest.{maximal, keyFrom, fewest, stretch}
+use Rattle.stretch.specs.Sets.{base, exponentIn, between}
+use Rattle.stretch.specs.Fewest.{maximalIn, keyFrom, fewest, stretch}
 use Rattle.key.proofs.Laws.{size-le}
 use Rattle.stretch.proofs.Bases.{base-le, base-lt, base-eq, base-digit}
 use Rattle.stretch.proofs.Around.{exponent-fits, exponent-max, between-fits}
@@ -26,11 +26,11 @@ module _ (m a b i : ℕ) (small : i ≤ m) (room : b ≤ base i a + 4 ^ i) where
 
   -- a listed block
   record Known (s : ℕ) : Type 0 where
-    own : base (exponent m P s) s ≡ s
+    own : base (exponentIn m P s) s ≡ s
     low : a ≤ s
-    high : s + 4 ^ exponent m P s ≤ b
+    high : s + 4 ^ exponentIn m P s ≤ b
 
-  known : {s : ℕ} → List·Memᴰ s (maximal m P a (b - a)) → Known s
+  known : {s : ℕ} → List·Memᴰ s (maximalIn m P a (b - a)) → Known s
   known {s} l =
       let h = listed m P a (b - a) s .0 l in
       let f = between-fits a b .0 (exponent-fits m P (h .1)) in
@@ -38,9 +38,9 @@ module _ (m a b i : ℕ) (small : i ≤ m) (room : b ≤ base i a + 4 ^ i) where
 
   -- the whole block, or one of three at the start or at the end
   data Code (s n : ℕ) : Type 0 where
-    whole : exponent m P s ≡ i → n ≡ 6 * i → Code s n
-    left : {d : ℕ} → exponent m P s < i → d < 3 → s ≡ base (suc (exponent m P s)) a + suc d * 4 ^ exponent m P s → n ≡ 6 * exponent m P s + d → Code s n
-    right : {d : ℕ} → exponent m P s < i → d < 3 → s ≡ base (suc (exponent m P s)) b + d * 4 ^ exponent m P s → n ≡ 6 * exponent m P s + 3 + d → Code s n
+    whole : exponentIn m P s ≡ i → n ≡ 6 * i → Code s n
+    left : {d : ℕ} → exponentIn m P s < i → d < 3 → s ≡ base (suc (exponentIn m P s)) a + suc d * 4 ^ exponentIn m P s → n ≡ 6 * exponentIn m P s + d → Code s n
+    right : {d : ℕ} → exponentIn m P s < i → d < 3 → s ≡ base (suc (exponentIn m P s)) b + d * 4 ^ exponentIn m P s → n ≡ 6 * exponentIn m P s + 3 + d → Code s n
 
   code-less : {s n : ℕ} → Code s n → n < 6 * i + 1
   code-less (whole e d) = omega arith
@@ -48,10 +48,10 @@ module _ (m a b i : ℕ) (small : i ≤ m) (room : b ≤ base i a + 4 ^ i) where
   code-less (right l h e d) = omega arith
 
   code-of : {s : ℕ} → Known s → (n : ℕ) × List·Memᴰ n (upFrom 0 (6 * i + 1)) × Code s n
-  code-of {s} K = go (eq-or-lt-of-le (size-le (exponent m P s) i .1 (omega (arith, K, room, base-le i a))))
+  code-of {s} K = go (eq-or-lt-of-le (size-le (exponentIn m P s) i .1 (omega (arith, K, room, base-le i a))))
     where
       e : ℕ
-      e = exponent m P s
+      e = exponentIn m P s
 
       d : ℕ
       d = s / 4 ^ e % 4
@@ -110,7 +110,7 @@ module _ (m a b i : ℕ) (small : i ≤ m) (room : b ≤ base i a + 4 ^ i) where
       omega (
         arith,
         up-length 0 (6 * i + 1),
-        length-map (maximal m P a (b - a)) (keyFrom m P),
+        length-map (maximalIn m P a (b - a)) (keyFrom m P),
         pigeon Code (upFrom 0 (6 * i + 1)) (rising-distinct (maximal-rising m P a (b - a)))
             (λ s l. code-of (known l)) (λ s t n l l′ x y. code-one (known l) (known l′) x y),
       )

@@ -1,4 +1,4 @@
--- A part of a set in which no maximal block of the set is cut has the same blocks there. No block crosses a cut, a place where one of two neighbours is not in the set.
+-- A part of a set in which no maximalIn block of the set is cut has the same blocks there. No block crosses a cut, a place where one of two neighbours is not in the set.
 -- Assumes nothing.
 use mathlib.Core.Path.{_≡_, sym, ap, _∙_, subst}
 use mathlib.Core.Bool.{Bool, true, false}
@@ -10,8 +10,8 @@ use Rattle.lists.specs.Lists.{upFrom, keep}
 use Rattle.lists.proofs.Tests.{never, refuted, agree}
 use Rattle.lists.proofs.Laws.{up-next, up-in, up-append, map-same, keep-taken, keep-append, keep-none, keep-same}
 use Rattle.key.specs.Places.{spanKey}
-use Rattle.stretch.specs.Sets.{base, Fits, exponent, starts, between}
-use Rattle.stretch.specs.Fewest.{maximal, keyFrom, fewest, stretch}
+use Rattle.stretch.specs.Sets.{base, FitsIn, exponentIn, starts, between}
+use Rattle.stretch.specs.Fewest.{maximalIn, keyFrom, fewest, stretch}
 use Rattle.stretch.specs.Runs.{Cut}
 use Rattle.stretch.proofs.Bases.{base-le, base-lt}
 use Rattle.stretch.proofs.Around.{exponent-fits, exponent-part, first, starts-is, between-is}
@@ -21,32 +21,32 @@ use Rattle.stretch.proofs.Listed.{listed}
 
 module _ (m : ℕ) (P : ℕ → Bool) where
   pub fewest-append : (a n k : ℕ) → fewest m P a (n + k) ≡ fewest m P a n ++ fewest m P (a + n) k
-  unfolding fewest maximal
+  unfolding fewest maximalIn
   fewest-append a n k =
       rw (up-append a n k, keep-append (starts m P) (upFrom a n) (upFrom (a + n) k))
       (map-append (keyFrom m P) (keep (starts m P) (upFrom a n)) (keep (starts m P) (upFrom (a + n) k)))
 
   pub fewest-empty : (a n : ℕ) → ((q : ℕ) → a ≤ q → q < a + n → starts m P q ≡ false) → fewest m P a n ≡ []
-  unfolding fewest maximal
+  unfolding fewest maximalIn
   fewest-empty a n h = rw (keep-none (starts m P) (upFrom a n) (λ q l. let u = up-in a n q .0 l in h q (u .0) (u .1)))
 
   pub fewest-head : (a n : ℕ) → starts m P a ≡ true → fewest m P a (suc n) ≡ keyFrom m P a ∷ fewest m P (suc a) n
-  unfolding fewest maximal
+  unfolding fewest maximalIn
   fewest-head a n e = rw (up-next a n, keep-taken (starts m P) (upFrom (suc a) n) e)
 
   pub not-start : {q : ℕ} → P q ≡ false → starts m P q ≡ false
   not-start {q} e = refuted _ (λ s. never (sym (starts-is m P q .0 s .0) ∙ e))
 
--- ---- a part of a set in which no maximal block of the set is cut
+-- ---- a part of a set in which no maximalIn block of the set is cut
 
 pub record Part (m : ℕ) (P Q : ℕ → Bool) (x y : ℕ) : Type 0 where
   pub less : (q : ℕ) → Q q ≡ true → P q ≡ true
   pub same : (q : ℕ) → x ≤ q → q < y → P q ≡ true → Q q ≡ true
-  pub stay : (q : ℕ) → x ≤ q → q < y → P q ≡ true → (x ≤ first m P q) × (first m P q + 4 ^ exponent m P q ≤ y)
+  pub stay : (q : ℕ) → x ≤ q → q < y → P q ≡ true → (x ≤ first m P q) × (first m P q + 4 ^ exponentIn m P q ≤ y)
 
 module _ {m : ℕ} {P Q : ℕ → Bool} {x y : ℕ} (K : Part m P Q x y) where
   -- each place there has the same block in both
-  part-exponent : (q : ℕ) → x ≤ q → q < y → P q ≡ true → exponent m Q q ≡ exponent m P q
+  part-exponent : (q : ℕ) → x ≤ q → q < y → P q ≡ true → exponentIn m Q q ≡ exponentIn m P q
   part-exponent q l h v =
       let s = K .stay q l h v in
       exponent-part m (K .less) (record { all = λ z k. K .same z (omega arith) (omega arith) (exponent-fits m P v .all z k) })
@@ -60,15 +60,15 @@ module _ {m : ℕ} {P Q : ℕ → Bool} {x y : ℕ} (K : Part m P Q x y) where
       from : starts m Q q ≡ true → starts m P q ≡ true
       from e = let t = starts-is m Q q .0 e in let v = K .less q (t .0) in starts-is m P q .1 (v, rw (part-exponent q l h v) at (t .1))
 
-part-keys : {m : ℕ} {P Q : ℕ → Bool} {x : ℕ} (n : ℕ) → Part m P Q x (x + n) → map (keyFrom m P) (maximal m P x n) ≡ map (keyFrom m Q) (maximal m P x n)
+part-keys : {m : ℕ} {P Q : ℕ → Bool} {x : ℕ} (n : ℕ) → Part m P Q x (x + n) → map (keyFrom m P) (maximalIn m P x n) ≡ map (keyFrom m Q) (maximalIn m P x n)
 unfolding keyFrom
-part-keys {m} {P} {Q} {x} n K = map-same (maximal m P x n) (λ s l. let h = listed m P x n s .0 l in sym (ap (key s) (part-exponent K s (h .0 .least) (h .0 .most) (h .1))))
+part-keys {m} {P} {Q} {x} n K = map-same (maximalIn m P x n) (λ s l. let h = listed m P x n s .0 l in sym (ap (key s) (part-exponent K s (h .0 .least) (h .0 .most) (h .1))))
   where
     key : ℕ → ℕ → ℕ
     key s i = spanKey m i s
 
 part-fewest : {m : ℕ} {P Q : ℕ → Bool} {x : ℕ} (n : ℕ) → Part m P Q x (x + n) → fewest m P x n ≡ fewest m Q x n
-unfolding fewest maximal
+unfolding fewest maximalIn
 part-fewest {m} {P} {Q} {x} n K =
     let same = keep-same (starts m P) (starts m Q) (upFrom x n) (λ q l. let u = up-in x n q .0 l in part-starts K q (u .0) (u .1)) in
     part-keys n K ∙ ap (map (keyFrom m Q)) same
@@ -81,7 +81,7 @@ part-stretch m {P} {x} {y} l K = let g : x + (y - x) ≡ y = omega arith in part
 -- ---- where no block crosses
 
 -- no block that lies in the set crosses a cut
-module _ {P : ℕ → Bool} {x : ℕ} (C : Cut P x) {i q : ℕ} (f : Fits P i q) where
+module _ {P : ℕ → Bool} {x : ℕ} (C : Cut P x) {i q : ℕ} (f : FitsIn P i q) where
   cut-below : q < x → base i q + 4 ^ i ≤ x
   cut-below l = go (decLt x (base i q + 4 ^ i))
     where

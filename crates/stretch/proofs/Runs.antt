@@ -1,4 +1,4 @@
--- Run by run: the fewest blocks of a set are those of its maximal runs, one after another.
+-- NextRun by run: the fewest blocks of a set are those of its maximalIn runs, one after another.
 -- Assumes nothing.
 use mathlib.Core.Path.{_≡_, refl, _∙_}
 use mathlib.Core.Logic.{_⊎_, inl, inr}
@@ -12,12 +12,12 @@ use lib.Dec.{eqb}
 use borrow.Author.Tests.{eq-eqb, ne-eqb}
 use Rattle.key.specs.Blocks.{Among}
 use Rattle.stretch.specs.Fewest.{fewest, stretch}
-use Rattle.stretch.specs.Runs.{joined, runs, stretches, Cut, Run, Runs, last, next}
+use Rattle.stretch.specs.Runs.{joined, runs, stretches, Cut, NextRun, Runs, last, next}
 use Rattle.stretch.proofs.Parts.{fewest-append, fewest-empty, not-start, part-stretch, cut-out, cut-behind, run-part}
 
 -- ---- run by run
 
-module _ (m : ℕ) {P : ℕ → Bool} {at end x y : ℕ} (R : Run P at end x y) (C : Cut P at) (D : Cut P end) where
+module _ (m : ℕ) {P : ℕ → Bool} {at end x y : ℕ} (R : NextRun P at end x y) (C : Cut P at) (D : Cut P end) where
   run-cut : Cut P x
   run-cut = go (eq-or-lt-of-le (R .low))
     where

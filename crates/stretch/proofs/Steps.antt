@@ -10,7 +10,7 @@ use Rattle.lists.proofs.Tests.{refuted}
 use Rattle.key.specs.Places.{spanKey}
 use Rattle.key.specs.Blocks.{Names}
 use Rattle.key.proofs.Laws.{pow-least, span-named}
-use Rattle.stretch.specs.Sets.{base, exponent, starts, between}
+use Rattle.stretch.specs.Sets.{base, exponentIn, starts, between}
 use Rattle.stretch.specs.Fewest.{keyFrom, stretch}
 use Rattle.stretch.proofs.Bases.{base-le, base-own}
 use Rattle.stretch.proofs.Around.{exponent-le, exponent-fits, first, lies-first, first-among, first-in, starts-is, between-is, between-fits}
@@ -25,7 +25,7 @@ module _ (m : ℕ) {a b : ℕ} (l : a < b) where
   P = between a b
 
   abbrev e : ℕ
-  e = exponent m P a
+  e = exponentIn m P a
 
   has : P a ≡ true
   has = between-is a b a .1 (omega arith)
@@ -54,7 +54,7 @@ module _ (m : ℕ) {a b : ℕ} (l : a < b) where
       clear q h v g (yes d) =
           let f = first-in m P v in
           let z = lies-first m P {q = first m P q} has (omega (arith, next-aligned)) in
-          let t : exponent m P q ≡ e = sym (f .1) ∙ z .1 in
+          let t : exponentIn m P q ≡ e = sym (f .1) ∙ z .1 in
           absurd (omega (arith, ap (λ (i : ℕ). 4 ^ i) t, first-among m P q, f .2, z .2, next-aligned))
       clear q h v g (no d) = omega arith
 

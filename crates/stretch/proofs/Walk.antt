@@ -18,7 +18,7 @@ use Rattle.key.specs.Along.{Stands}
 use Rattle.key.specs.Places.{spanKey}
 use Rattle.key.specs.Blocks.{Names}
 use Rattle.key.proofs.Laws.{four, log-of, span-key}
-use Rattle.stretch.specs.Sets.{base, exponent, between}
+use Rattle.stretch.specs.Sets.{base, exponentIn, between}
 use Rattle.stretch.specs.Fewest.{stretch}
 use Rattle.stretch.specs.Walk.{largest}
 use Rattle.stretch.proofs.Bases.{base-own}
@@ -50,14 +50,14 @@ module _ (top places : ℕ) where
       let n : ℕ = min top i in
       let room : 2 ^ (2 * x) ≤ places = rw (four x) (largest-room h) in
       let up : x ≤ i = omega (arith, log (2 * x) .1 room) in
-      let fits : 4 ^ n ≤ places = rw (four n) at (log (2 * n) .0 (omega arith)) in
-      omega (arith, largest-le, largest-max {j = n} (omega arith) fits)
+      let fitsIn : 4 ^ n ≤ places = rw (four n) at (log (2 * n) .0 (omega arith)) in
+      omega (arith, largest-le, largest-max {j = n} (omega arith) fitsIn)
 
 -- where a walk stands, it is the largest block that comes next
-next-largest : {m b : ℕ} {s : Spot} → Stands m s → s .place < b → largest (s .top) (b - s .place) ≡ exponent m (between (s .place) b) (s .place)
+next-largest : {m b : ℕ} {s : Spot} → Stands m s → s .place < b → largest (s .top) (b - s .place) ≡ exponentIn m (between (s .place) b) (s .place)
 next-largest {m} {b} {s} S l =
     let a : ℕ = s .place in
-    let e : ℕ = exponent m (between a b) a in
+    let e : ℕ = exponentIn m (between a b) a in
     let i : ℕ = largest (s .top) (b - a) in
     let em : e ≤ m = exponent-le m (between a b) a in
     let up : e ≤ i = largest-max (s .top) (b - a) (S .aligned e em .1 (base-own e a .0 (next-aligned m l))) (omega (arith, next-room m l)) in
@@ -81,7 +81,7 @@ writing-first {n = n} out S = record { stands = S; past = []; all = refl; listin
 module _ {m a b n : ℕ} {out₀ out : List ℕ} {s : Spot} {k : ℕ} (W : Writing m a b n out₀ out s k) where
   module _ (l : s .place < b) {i : ℕ} (e : i ≡ largest (s .top) (b - s .place)) where
     goes : stretch m (s .place) b ≡ spanKey m i (s .place) ∷ stretch m (s .place + 4 ^ i) b
-    goes = let d : i ≡ exponent m (between (s .place) b) (s .place) = e ∙ next-largest (W .stands) l in rw d (stretch-next m l)
+    goes = let d : i ≡ exponentIn m (between (s .place) b) (s .place) = e ∙ next-largest (W .stands) l in rw d (stretch-next m l)
 
     split : stretch m a b ≡ W .past ++ spanKey m i (s .place) ∷ stretch m (s .place + 4 ^ i) b
     split = W .all ∙ ap (λ (ks : List ℕ). W .past ++ ks) goes

@@ -17,27 +17,27 @@ full P a zero = true
 full P a (suc n) = P a && full P (suc a) n
 
 -- q's block of exponent i lies in the set
-unfoldable pub fits : (ℕ → Bool) → ℕ → ℕ → Bool
-fits P i q = full P (base i q) (4 ^ i)
+unfoldable pub fitsIn : (ℕ → Bool) → ℕ → ℕ → Bool
+fitsIn P i q = full P (base i q) (4 ^ i)
 
 -- in plain words
-pub record Fits (P : ℕ → Bool) (i q : ℕ) : Type 0 where
+pub record FitsIn (P : ℕ → Bool) (i q : ℕ) : Type 0 where
   pub all : (x : ℕ) → Among (base i q) (4 ^ i) x → P x ≡ true
 
 -- the exponent, at most m, of the largest block around q that lies in the set
-unfoldable pub exponent : ℕ → (ℕ → Bool) → ℕ → ℕ
-exponent m P q = greatest (λ i. fits P i q) m
+unfoldable pub exponentIn : ℕ → (ℕ → Bool) → ℕ → ℕ
+exponentIn m P q = greatest (λ i. fitsIn P i q) m
 
 -- q is the first place of that block
 unfoldable pub starts : ℕ → (ℕ → Bool) → ℕ → Bool
-starts m P q = P q && eqb (base (exponent m P q) q) q
+starts m P q = P q && eqb (base (exponentIn m P q) q) q
 
 -- the places from a up to b
 unfoldable pub between : ℕ → ℕ → ℕ → Bool
 between a b q = leb a q && ltb q b
 
 -- in plain words: the block of exponent i that starts at s lies in the set, and no larger block that lies in the set contains it
-pub record Maximal (m : ℕ) (P : ℕ → Bool) (i s : ℕ) : Type 0 where
+pub record MaximalIn (m : ℕ) (P : ℕ → Bool) (i s : ℕ) : Type 0 where
   pub small : i ≤ m
   pub aligned : base i s ≡ s
   pub inside : (q : ℕ) → Among s (4 ^ i) q → P q ≡ true

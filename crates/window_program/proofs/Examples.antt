@@ -72,7 +72,7 @@ pub record Examples : Type 0 where
 
 pub examples : Examples
 unfolding pictureRefusals countRefusals borderRefusals answer wrongCount sizeRefusals upFrom spreadTo spread place pixelKey blockKey from formOf beyond outside windowRefusals keep floor lies fits
-    greatest exponent corner across rows isCorner maximal keyOf keysOf spans.malformed spans.exponent spans.start spans.end spans.holds spans.overlap late
+    greatest exponent corner across rows isCorner maximal keyOf keysOf spans.malformed spans.formExponent spans.start spans.end spans.holds spans.overlap late
     refusalsFrom mapRefusals before howMany recordOf exponentOf runOf any within isHanded opening openFrom openings handedCount cellsOf useRefusals hasClass
     total totals digits digitsOf spaced lineOf openingLines classLine classLines foundLines foundBy resultOf answerOf
     bytes number bytesOf numbers header fileOf layoutRefusals fileM fileQ readRefusals fileKeys fileClasses leftText mapText startRefusals startText announcedOf wholeOf

@@ -71,7 +71,7 @@ unfoldable pub answerOf : ℕ → List ℕ → List ℕ → Window → List ℕ
 answerOf m keys classes W = windowLine W ++ resultOf m keys classes W
 
 -- a window that can be opened on a map of 1,000 records or fewer, with so many cells of border
-pub record Opens (m : ℕ) (keys classes : List ℕ) (W : Window) (border : ℕ) : Type 0 where
+pub record Openable (m : ℕ) (keys classes : List ℕ) (W : Window) (border : ℕ) : Type 0 where
   pub passed : verdict (useRefusals m keys (length classes) W border) ≡ Passed
   pub few : length keys ≤ 1000
 

@@ -14,7 +14,7 @@ ghost use Rattle.io.specs.Counts.{Counts};
 ghost use Rattle.answers.specs.After.{after};
 ghost use Rattle.map.specs.Sound.{SoundMap};
 ghost use Rattle.text.specs.Text.{putOf};
-ghost use Rattle.window_program.specs.Text.{windowOf, windowLine, refusalLine, openingLines, classLine, classLines, foundLines, foundBy, resultOf, answerOf, Opens, leftText, nextText, mapText, Started, announcedOf, Received, wholeOf, fileIn};
+ghost use Rattle.window_program.specs.Text.{windowOf, windowLine, refusalLine, openingLines, classLine, classLines, foundLines, foundBy, resultOf, answerOf, Openable, leftText, nextText, mapText, Started, announcedOf, Received, wholeOf, fileIn};
 
 // How the program begins: m and the number of records of the file's map, and how many bytes were put. Where any were, they say a refusal, and there is no map.
 pub struct Begun {
@@ -108,7 +108,7 @@ fn put_opened(
     pixels: u32,
     out: &mut [u8],
 ) -> usize
-    requires { ⌜ Opens m (now keys) (now classes) window (length (now border)) × (length (now totals) ≤ 256) × (42179 ≤ length (now out)) ⌝ }
+    requires { ⌜ Openable m (now keys) (now classes) window (length (now border)) × (length (now totals) ≤ 256) × (42179 ≤ length (now out)) ⌝ }
     ensures { λ r. ⌜ after r (now (out .exit)) ≡ putOf (foundBy m (now (keys .entry)) window (now (totals .entry)) pixels) (now (out .entry)) ⌝ }
 {
     let mut cells = [0u32; 3000];
@@ -236,14 +236,14 @@ fn announced(file: &[u8]) -> usize
     requires { ⌜ 4 ≤ length (now file) ⌝ }
     ensures { λ r. ⌜ r ≡ announcedOf (now (file .entry)) ⌝ }
 {
-    let length = numbers::get(file) as usize;
-    if length < 4 {
+    let size = numbers::get(file) as usize;
+    if size < 4 {
         return 0;
     }
-    if file.len() < length {
+    if file.len() < size {
         return 0;
     }
-    length
+    size
 }
 
 // Reads the first four bytes of a file, and then as many more as they announce. Answers how many came.
@@ -255,11 +255,11 @@ fn receive(file: &mut [u8]) -> usize
     if first < 4 {
         return first;
     }
-    let length = announced(file);
-    if length == 0 {
+    let size = announced(file);
+    if size == 0 {
         return first;
     }
-    first + io::read_full(STDIN_FILENO, &mut file[4..length])
+    first + io::read_full(STDIN_FILENO, &mut file[4..size])
 }
 
 // How long the file is of which so many bytes came, where all of it did. Where there is no room for it, or the input ended inside it, the answer is 0.
@@ -268,11 +268,11 @@ fn whole(bytes: &[u8], got: usize) -> usize
     ensures { λ r. ⌜ r ≡ wholeOf (now (bytes .entry)) got ⌝ }
     ensures { λ r. ⌜ Counts r (now (bytes .entry)) ⌝ }
 {
-    let length = announced(bytes);
-    if got < length {
+    let size = announced(bytes);
+    if got < size {
         return 0;
     }
-    length
+    size
 }
 
 // What is printed before the first window, for a file of which so many bytes came.
@@ -286,8 +286,8 @@ fn put_received(
     requires { ⌜ (4 ≤ length (now bytes)) × (length (now keys) ≡ 1000) × (length (now classes) ≡ 1000) ⌝ }
     ensures { λ r. ⌜ Started (fileIn (now (bytes .entry)) got) r (now (keys .exit)) (now (classes .exit)) (now (out .entry)) (now (out .exit)) ⌝ }
 {
-    let length = whole(bytes, got);
-    put_start(&bytes[..length], keys, classes, out)
+    let size = whole(bytes, got);
+    put_start(&bytes[..size], keys, classes, out)
 }
 
 fn print(text: &[u8]) {

@@ -1,4 +1,4 @@
--- `map::along` meets its contract. The invariant is `Goes`, but for its end, and the measure the number of records left.
+-- `map::along` meets its contract. The invariant is `GoesAlong`, but for its end, and the measure the number of records left.
 -- Assumes nothing.
 use mathlib.Core.Bool.{Bool}
 use Prim.Native.Nat.{_-_, _≤_}
@@ -8,7 +8,7 @@ use borrow.Author.Needs.{needs}
 use Rattle.key.specs.Blocks.{Names}
 use Rattle.key.specs.Along.{Stands}
 use Rattle.key.proofs.Laws.{fits-block}
-use Rattle.map.specs.Walk.{Walked}
+use Rattle.map.specs.Walk.{CheckedTo}
 use Rattle.map.proofs.Steps.{late-not}
 use Rattle.map.proofs.Walk.{walked-next}
 use Rattle.map.proofs.along.Statement.{statement}
@@ -16,7 +16,7 @@ use Rattle.map.proofs.along.Tie as tie
 
 abbrev Inv-loop : tie.InvT-loop
 Inv-loop ones digits m keys n spot₀ next₀ spot next =
-    (next₀ ≤ next) × (next ≤ length keys) × Stands m spot × ((whole : Bool) → Walked whole m keys (spot₀ .place) next₀ → Walked whole m keys (spot .place) next)
+    (next₀ ≤ next) × (next ≤ length keys) × Stands m spot × ((whole : Bool) → CheckedTo whole m keys (spot₀ .place) next₀ → CheckedTo whole m keys (spot .place) next)
 
 abbrev μ-loop : tie.MeasureT-loop
 μ-loop ones digits m keys n spot₀ next₀ spot next = length keys - next

@@ -1,4 +1,4 @@
--- `map::records` meets its contract. The invariant is `Walked`, with what is kept of the place reached, and the measure the number of records left.
+-- `map::records` meets its contract. The invariant is `CheckedTo`, with what is kept of the place reached, and the measure the number of records left.
 -- Assumes nothing.
 use mathlib.Core.Path.{_≡_, sym, _∙_}
 use mathlib.Core.Bool.{false}
@@ -9,14 +9,14 @@ use borrow.Author.Needs.{needs}
 use Rattle.key.specs.Blocks.{Names}
 use Rattle.key.specs.Along.{onesTable, Stands}
 use Rattle.map.specs.declared.Gone.{Gone}
-use Rattle.map.specs.Walk.{Walked}
+use Rattle.map.specs.Walk.{CheckedTo}
 use Rattle.map.proofs.Steps.{late-never}
 use Rattle.map.proofs.Walk.{walked-first, walked-here, walked-next, walked-end, taken-behind, taken-refused}
 use Rattle.map.proofs.records.Statement.{statement}
 use Rattle.map.proofs.records.Tie as tie
 
 abbrev Inv-loop : tie.InvT-loop
-Inv-loop m keys whole ones digits spot₀ n₀ spot n = Walked whole m keys (spot .place) n × Stands m spot
+Inv-loop m keys whole ones digits spot₀ n₀ spot n = CheckedTo whole m keys (spot .place) n × Stands m spot
 
 abbrev μ-loop : tie.MeasureT-loop
 μ-loop m keys whole ones digits spot₀ n₀ spot n = length keys - n
@@ -54,7 +54,7 @@ module _ (c : tie.After-along Inv-loop μ-loop) where
   abbrev origin : tie.Start Inv-loop μ-loop
   origin = start turn
 
-  gone : Walked (origin .args .whole) (origin .args .m) (origin .args .keys .now) (c .along .result .spot .place) (c .along .result .next)
+  gone : CheckedTo (origin .args .whole) (origin .args .m) (origin .args .keys .now) (c .along .result .spot .place) (c .along .result .next)
   gone = c .along .ensures .walked _ (turn .loop .inv .0)
 
 cast-ended : tie.Need-cast-ended Inv-loop μ-loop

@@ -10,8 +10,8 @@ use Rattle.window_program.proofs.announced.Tie as tie
 get-requires : tie.Need-get-requires
 get-requires c κs = search needs
 
-cast-length : tie.Need-cast-length
-cast-length c = search needs
+cast-size : tie.Need-cast-size
+cast-size c = search needs
 
 returns : tie.Need-returns
 returns c = sym (announced-short _ (omega (arith, c .before .get .ensures, c .if1 .taken)))
@@ -23,4 +23,4 @@ returns-3 : tie.Need-returns-3
 returns-3 c = let g = c .before .before .get .ensures in g ∙ sym (announced-fits _ (omega (arith, g, c .before .if1 .left)) (omega (arith, g, c .if2 .left)))
 
 pub announced-spec : {M : Type 1} → statement M
-announced-spec = tie.close (tie.spec get-requires cast-length returns returns-2 returns-3)
+announced-spec = tie.close (tie.spec get-requires cast-size returns returns-2 returns-3)
