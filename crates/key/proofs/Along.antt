@@ -12,7 +12,8 @@ use Rattle.key.specs.declared.Spot.{Spot}
 use Rattle.key.specs.declared.Fit.the-variants.{Block, Other}
 use Rattle.key.specs.Alignment.{alignment}
 use Rattle.key.specs.Blocks.{Names, Lies}
-use Rattle.key.specs.Along.{ones, onesTable, TellsOnes, pixelAt, Stands, ToldFit, block, other}
+use Rattle.key.specs.Key.{ones}
+use Rattle.key.specs.Along.{onesTable, TellsOnes, pixelAt, Stands, ToldFit, block, other}
 use Rattle.key.proofs.Powers.{pow-least, pow-most, four}
 use Rattle.key.proofs.Blocks.{At, whole, lies, at-form, form-at, one-at}
 use Rattle.key.proofs.Zeros.{alignment-divides}

@@ -11,8 +11,8 @@ use lib.Pow.{pow-pos}
 use Rattle.lists.proofs.Laws.{table-entry}
 use Rattle.key.specs.Spread.{spread}
 use Rattle.key.specs.Picture.{Pixel}
-use Rattle.key.specs.Key.{pixelKey, blockKey}
-use Rattle.key.specs.Along.{ones, onesTable}
+use Rattle.key.specs.Key.{pixelKey, blockKey, ones}
+use Rattle.key.specs.Along.{onesTable}
 use Rattle.key.proofs.Bits.{spread-ones}
 use Rattle.key.proofs.Blocks.{At, whole, quad, one-at}
 use Rattle.key.proofs.Pixels.{ones as ones-sum, corner-place, pixel-at, block-at}

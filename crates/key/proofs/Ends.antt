@@ -9,7 +9,7 @@ use native.Mathlib.Omega.{arith}
 use lib.Arith.{digits-mod}
 use lib.Pow.{pow-add}
 use Rattle.key.specs.Blocks.{Names, Covers}
-use Rattle.key.specs.Along.{ones}
+use Rattle.key.specs.Key.{ones}
 use Rattle.key.proofs.Powers.{pow-least}
 use Rattle.key.proofs.Blocks.{At, whole, quad, lies, at-form, form-at, next-le, tri}
 use Rattle.key.proofs.Pixels.{place-onto, block-at}

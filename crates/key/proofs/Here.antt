@@ -6,7 +6,8 @@ use Prim.Native.Nat.{ℕ, _+_, _-_, _%_, _^_, _≤_, _<_}
 use native.Mathlib.Omega.{arith}
 use lib.ListN.{getD}
 use Rattle.key.specs.declared.Spot.{Spot}
-use Rattle.key.specs.Along.{ones, TellsOnes, pixelAt, Stands, Begins}
+use Rattle.key.specs.Key.{ones}
+use Rattle.key.specs.Along.{TellsOnes, pixelAt, Stands, Begins}
 use Rattle.key.proofs.Laws.{block-lies}
 use Rattle.key.proofs.Powers.{pow-least}
 use Rattle.key.proofs.Along.{fits-key}

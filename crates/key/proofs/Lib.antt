@@ -13,3 +13,4 @@ mod Along
 mod Here
 mod Examples
 pub mod Laws
+pub mod Loops

@@ -3,17 +3,14 @@
 use mathlib.Core.Path.{_≡_}
 use mathlib.Core.Logic.{_↔_}
 use mathlib.Core.List.{List, map}
-use Prim.Native.Nat.{ℕ, _+_, _-_, _/_, _%_, _^_, _≤_, _<_}
+use Prim.Native.Nat.{ℕ, _+_, _%_, _^_, _≤_, _<_}
 use lib.ListN.{getD}
 use Rattle.lists.specs.Lists.{upFrom}
+use Rattle.key.specs.Key.{ones}
 use Rattle.key.specs.declared.Spot.{Spot}
 use Rattle.key.specs.declared.Fit.{Fit}
 use Rattle.key.specs.declared.Fit.the-variants.{Block, Other}
 use Rattle.key.specs.Blocks.{Names}
-
--- i digits 1: by so much the key of a block's first pixel is over the block's own
-unfoldable pub ones : ℕ → ℕ
-ones i = (5 ^ i - 1) / 4
 
 -- the table of them
 unfoldable pub onesTable : List ℕ

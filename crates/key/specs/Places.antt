@@ -1,7 +1,7 @@
 -- The key of a block by its exponent and the first place of its span.
 -- Assumes nothing.
 use Prim.Native.Nat.{ℕ, zero, suc, _+_, _-_, _*_, _/_, _%_, _^_}
-use Rattle.key.specs.Along.{ones}
+use Rattle.key.specs.Key.{ones}
 
 -- the key of the pixel at place q: m digits in base 5, each one more than that of the place in base 4, from the most significant on
 unfoldable pub placeKey : ℕ → ℕ → ℕ

@@ -63,7 +63,7 @@ fn misfit(whole: bool, m: u32, at: u32, key: u32, place: u32) -> Taken
     requires { ⌜ (m ≤ 12) × ToldFit m at key Other ⌝ }
     ensures { λ r. ⌜ Takes whole m at key place r ⌝ }
 {
-    let form = key::read_key(m, key);
+    let form = digits::read_key(m, key);
     let Form::Block { exponent, start } = form else {
         return Taken::Refused { number: 3, place };
     };
@@ -85,11 +85,11 @@ fn along(ones: &[u32; 13], digits: &[u8; 16], m: u32, keys: &[u32], from: Spot, 
     let mut next = n;
     while next < keys.len() {
         let key = keys[next];
-        let fit = key::exponent_at(ones, digits, m, spot, key);
+        let fit = spots::exponent_at(ones, digits, m, spot, key);
         let Fit::Block { exponent } = fit else {
             return Gone { spot, next };
         };
-        spot = key::advance(ones, m, key, exponent, spot.place);
+        spot = spots::advance(ones, m, key, exponent, spot.place);
         next += 1;
     }
     Gone { spot, next }
@@ -114,9 +114,9 @@ fn records(m: u32, keys: &[u32], whole: bool) -> Verdict
     requires { ⌜ (m ≤ 12) × (length (now keys) ≤ 65536) ⌝ }
     ensures { λ r. ⌜ r ≡ verdict (refusalsFrom whole m 0 0 (now (keys .entry))) ⌝ }
 {
-    let ones = key::ones_table();
-    let digits = key::digits_table();
-    let mut spot = key::first_spot(m);
+    let ones = spots::ones_table();
+    let digits = spots::digits_table();
+    let mut spot = spots::first_spot(m);
     let mut n: usize = 0;
     loop {
         let gone = along(&ones, &digits, m, keys, spot, n);
@@ -132,7 +132,7 @@ fn records(m: u32, keys: &[u32], whole: bool) -> Verdict
                 return Verdict::Refused { number, place };
             }
             Taken::Behind { exponent, start } => {
-                spot = key::advance(&ones, m, key, exponent, start);
+                spot = spots::advance(&ones, m, key, exponent, start);
             }
         }
         n = next + 1;
@@ -220,7 +220,7 @@ fn record_around(table: &[u32; 256], m: u32, keys: &[u32], key: u32, i: u32, nex
         return inside(0, 0, i);
     }
     let first = next - 1;
-    let reach = key::reach_over(table, m, keys[first], key, i);
+    let reach = digits::reach_over(table, m, keys[first], key, i);
     if reach == i {
         return inside(0, 0, reach);
     }

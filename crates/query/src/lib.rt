@@ -147,14 +147,14 @@ fn gather_run(
     ensures { λ r. ⌜ now (totals .exit) ≡ gathered m (now (keys .entry)) (now (classes .entry)) window (upFrom first count) (now (totals .entry)) ⌝ }
 {
     let end = first + count;
-    let mut spot = key::first_spot(exponent);
+    let mut spot = spots::first_spot(exponent);
     let mut n = first;
     while n < end {
         let at = n as usize;
         let inner = keys[at] - key;
-        let e = key::exponent_here(ones, digits, exponent, spot, inner);
+        let e = spots::exponent_here(ones, digits, exponent, spot, inner);
         totals[classes[at] as usize] += key::pow4(e);
-        spot = key::advance(ones, exponent, inner, e, spot.place);
+        spot = spots::advance(ones, exponent, inner, e, spot.place);
         n += 1;
     }
 }
@@ -287,8 +287,8 @@ pub fn report(
         };
     }
     let table = key::spread_table();
-    let ones = key::ones_table();
-    let digits = key::digits_table();
+    let ones = spots::ones_table();
+    let digits = spots::digits_table();
     let mut totals: [u32; 256] = [0; 256];
     add_up(
         &table,

@@ -5,7 +5,7 @@ use mathlib.Core.Bool.{Bool, _||_}
 use mathlib.Core.List.{[], _∷_}
 use Prim.Native.Nat.{ℕ}
 use Rattle.lists.specs.Lists.{upFrom, keep, greatest}
-use Rattle.key.specs.Along.{ones}
+use Rattle.key.specs.Key.{ones}
 use Rattle.key.specs.Places.{placeKey, spanKey}
 use Rattle.stretch.specs.Sets.{base, full, fitsIn, exponentIn, starts, between}
 use Rattle.stretch.specs.Fewest.{maximalIn, keyFrom, fewest, stretch}

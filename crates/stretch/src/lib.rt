@@ -27,10 +27,10 @@ pub fn put_stretch(ones: &[u32; 13], m: u32, from: Spot, end: u32, out: &mut [u3
     let mut k = n;
     while spot.place < end {
         let i = largest(spot.top, end - spot.place);
-        let key = key::key_here(ones, m, spot, i);
+        let key = spots::key_here(ones, m, spot, i);
         answers::put(out, k, key);
         k += 1;
-        spot = key::advance(ones, m, key, i, spot.place);
+        spot = spots::advance(ones, m, key, i, spot.place);
     }
     k
 }
