@@ -118,7 +118,7 @@ pub fn step(
         return Stepped::Skipped;
     }
     let key = key::block_key(table, m, i, row, col);
-    let run = map::records_of(table, m, keys, key, i);
+    let run = runs::records_of(table, m, keys, key, i);
     let closed = push(window, run.reach, row, col, border);
     Stepped::Opened {
         key,

@@ -1,21 +1,18 @@
 -- How far the records of a block reach: no further than the block, and then each lies in it; or further, and then the only one contains it.
 -- Assumes nothing.
 use mathlib.Core.Path.{_≡_, sym, ap, _∙_}
-use mathlib.Core.Logic.{_⊎_, inl, inr}
 use mathlib.Core.List.{List}
-use Prim.Native.Nat.{ℕ, max, _+_, _^_, _≤_, _<_}
-use native.Mathlib.Nat.{eq-or-lt-of-le}
+use Prim.Native.Nat.{ℕ, max, _^_, _≤_, _<_}
 use native.Mathlib.Omega.{arith}
-use lib.ListN.{length, getD}
-use Rattle.key.specs.Blocks.{Names, Among, Covers, Stand, around, after, before, within}
-use Rattle.key.proofs.Laws.{one-block, block-lies, blocks-stand, whole-named, pow-least, size-le}
-use Rattle.map.specs.declared.Run.{Run}
+use lib.ListN.{getD}
+use Rattle.key.specs.Blocks.{Names, Among, Covers, around}
+use Rattle.key.proofs.Laws.{one-block, block-lies, pow-least}
 use Rattle.map.specs.Sound.{Follow, Spaced}
 use Rattle.map.specs.Records.{Record, exponentOf}
-use Rattle.map.specs.Runs.{run, near, runOf, BlockOf, Nest, contained, filled, LiesIn, Known}
-use Rattle.map.proofs.Order.{spaced, record-at, holder}
+use Rattle.map.specs.Runs.{runOf, Nest, contained, filled}
+use Rattle.map.proofs.Order.{spaced, holder}
 use Rattle.map.proofs.Tests.{exponent-is, start-is}
-use Rattle.map.proofs.Found.{reach-inside, reach-around, found-around, block-records}
+use Rattle.map.proofs.Found.{reach-inside, reach-around, block-records}
 
 -- as far as the larger of the block and the record of its first place
 pub reach-is : {m : ℕ} (keys : List ℕ) {key i s : ℕ} → Names m key i s → runOf m keys key .reach ≡ max i (exponentOf m keys s)
@@ -55,41 +52,8 @@ module _ {m : ℕ} {keys : List ℕ} (F : Spaced m 0 keys) {key i s : ℕ} (b : 
           let f : runOf m keys key .reach ≡ x = reach-is keys b ∙ reach-around F b u h in
           record { start = y; one = c; is = rw f u; around = rw f h }
 
--- each block in a record is smaller, and overlaps it alone
-pub known-record : {m : ℕ} {keys : List ℕ} → Spaced m 0 keys → {n j t from end : ℕ} → Record m keys n j t
-    → from ≡ getD keys n 0 → end ≡ from + 5 ^ j → Known m keys (near n from end)
-known-record {m} {keys} F {n} {j} {t} {from} {end} R e f = record {
-  first = λ x i c h. ap (λ (r : Run). r .first) (inner c h .0);
-  reach = λ x i c h. omega (arith, inner c h .1, ap (λ (r : Run). r .reach) (inner c h .0));
-}
-  where
-    inner : {x i : ℕ} → BlockOf m x i → LiesIn (near n from end) x → (runOf m keys x ≡ run n 1 j) × (i < j)
-    inner {x} {i} c h = (found-around F (c .names) R (omega (arith, h, e, f)), smaller (blocks-stand (R .names) (c .names)))
-      where
-        -- a block of the record's own size is the record
-        less : Covers (getD keys n 0) (5 ^ j) x (5 ^ i) → (i ≡ j) ⊎ (i < j) → i < j
-        less q (inl d) = absurd (omega (arith, q, h, e, ap (λ (z : ℕ). 5 ^ z) d))
-        less q (inr k) = k
-
-        smaller : {s : ℕ} → Stand (getD keys n 0) j t x i s → i < j
-        smaller (within p q) = less q (eq-or-lt-of-le (size-le i j .1 (omega (arith, p))))
-        smaller (around k p g q) = absurd (omega (arith, g, h, e))
-        smaller (after p q) = absurd (omega (arith, q, h, e, f))
-        smaller (before p q) = absurd (omega (arith, q, h, e, pow-least 4 i))
-
--- where one record is the whole picture, that is known of it
-pub known-whole : {m : ℕ} {keys : List ℕ} → Spaced m 0 keys → 1 ≤ length keys → getD keys 0 0 ≡ 0 → {end : ℕ} → end ≡ 5 ^ m → Known m keys (near 0 0 end)
-known-whole {m} {keys} F l e {end} f =
-    let R = record-at F 0 (omega arith) in
-    let o = one-block (rw e at (R .is .names)) (whole-named m) in
-    known-record F (R .is) (sym e) (omega (arith, ap (λ (x : ℕ). 5 ^ x) (o .0)))
-
 -- in a whole map there is a record that overlaps the block
 pub some-records : {m : ℕ} {keys : List ℕ} → Follow m 0 keys → {key i s : ℕ} → Names m key i s → 1 ≤ runOf m keys key .count
 some-records F {key} {i} {s} b =
     let H = holder F s (omega arith) (omega (arith, block-lies b .span, pow-least 3 i)) in
     omega (arith, block-records (spaced F) b .exactly (H .is) .0 (omega (arith, H .has, pow-least 3 i)))
-
--- no block lies in no record
-pub known-none : (m : ℕ) (keys : List ℕ) → Known m keys (near 0 0 0)
-known-none m keys = record { first = λ key i b h. absurd (omega (arith, h)); reach = λ key i b h. absurd (omega (arith, h)) }

@@ -11,8 +11,6 @@ use Rattle.lists.specs.Lists.{before, howMany}
 use Rattle.key.specs.Form.{formOf}
 use Rattle.key.specs.Blocks.{Names, Among, Covers}
 use Rattle.map.specs.declared.Run.{Run}
-use Rattle.map.specs.declared.Near.{Near}
-use Rattle.map.specs.declared.Seen.{Seen}
 use Rattle.map.specs.Spans.{formExponent, start, overlap}
 use Rattle.map.specs.Records.{Record, exponentOf}
 
@@ -62,25 +60,3 @@ pub record Bracket (keys : List ℕ) (x low high : ℕ) : Type 0 where
 -- the first r keys are below x, and the others are not
 abbrev pub Splits : List ℕ → ℕ → ℕ → Type 0
 Splits keys x r = Bracket keys x r r
-
-abbrev pub near : ℕ → ℕ → ℕ → Near
-near first from end = record { first = first; from = from; end = end }
-
-abbrev pub seen : Run → Near → Near → Seen
-seen run near other = record { run = run; near = near; other = other }
-
--- a key behind that of the record, and before the end of its keys
-pub record LiesIn (n : Near) (key : ℕ) : Type 0 where
-  pub behind : n .from < key
-  pub before : key < n .end
-
--- each block that lies in the record overlaps it alone, and it reaches further
-pub record Known (m : ℕ) (keys : List ℕ) (n : Near) : Type 0 where
-  pub first : (key i : ℕ) → BlockOf m key i → LiesIn n key → runOf m keys key .first ≡ n .first
-  pub reach : (key i : ℕ) → BlockOf m key i → LiesIn n key → i < runOf m keys key .reach
-
--- the records that overlap the block of a key, and two records that are known
-pub record Sees (m : ℕ) (keys : List ℕ) (key : ℕ) (s : Seen) : Type 0 where
-  pub is : s .run ≡ runOf m keys key
-  pub near-known : Known m keys (s .near)
-  pub other-known : Known m keys (s .other)

@@ -16,9 +16,10 @@ use Rattle.window.specs.Walk.{Walked, Goes}
 use Rattle.window.specs.Decompose.{keyOf}
 use Rattle.window.proofs.Laws.{walked-first, walked-next, walked-last, walked-split, goes-in, goes-corner, goes-exponent, exponent-le, key-at, pixel-in, inside-12}
 use Rattle.map.specs.declared.Run.{Run}
-use Rattle.map.specs.declared.Near.{Near}
-use Rattle.map.specs.declared.Seen.{Seen}
-use Rattle.map.specs.Runs.{runOf, BlockOf, LiesIn, Known}
+use Rattle.near.specs.declared.Near.{Near}
+use Rattle.near.specs.declared.Seen.{Seen}
+use Rattle.map.specs.Runs.{runOf, BlockOf}
+use Rattle.near.specs.Near.{LiesIn, Known}
 use Rattle.map.proofs.Laws.{Alone, reach-beyond}
 use Rattle.border.specs.Step.{Corner, Usable}
 use Rattle.border.proofs.Laws.{met-room, block-key}

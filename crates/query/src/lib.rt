@@ -379,7 +379,7 @@ fn pick_all(
     let mut r = window.r0;
     let mut c = window.c0;
     let mut n: u32 = 0;
-    let mut seen = map::first_seen(table, m, keys);
+    let mut seen = near::first_seen(table, m, keys);
     loop {
         let next = window::next_block(window, m, r, c);
         let Next::Block {
@@ -394,16 +394,16 @@ fn pick_all(
         r = row;
         c = after;
         let key = key::block_key(table, m, exponent, row, col);
-        if map::lies_in(seen.near, key) {
+        if near::lies_in(seen.near, key) {
             n = pick_around(classes, class, key, seen.near.first as usize, out, n);
             continue;
         }
-        if map::lies_in(seen.other, key) {
-            seen = map::exchanged(seen);
+        if near::lies_in(seen.other, key) {
+            seen = near::exchanged(seen);
             n = pick_around(classes, class, key, seen.near.first as usize, out, n);
             continue;
         }
-        seen = map::look_up(table, m, keys, key, exponent, seen);
+        seen = near::look_up(table, m, keys, key, exponent, seen);
         n = pick(keys, classes, class, key, exponent, seen.run, out, n);
     }
 }

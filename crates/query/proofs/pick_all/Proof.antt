@@ -8,8 +8,8 @@ use Rattle.answers.proofs.Listing.{listed-same}
 use Rattle.window.specs.declared.Next.the-variants.{Block}
 use Rattle.window.specs.Walk.{blocksFrom, Goes}
 use Rattle.window.proofs.Laws.{inside-12, goes-less}
-use Rattle.map.specs.declared.Seen.{Seen}
-use Rattle.map.specs.Runs.{LiesIn, Known}
+use Rattle.near.specs.declared.Seen.{Seen}
+use Rattle.near.specs.Near.{LiesIn, Known}
 use Rattle.query.proofs.Selects.{Selecting, selecting-first, selecting-last, selecting-key, selecting-most, selecting-block, selecting-run, selecting-next, selecting-within, selecting-near}
 use Rattle.query.proofs.pick_all.Statement.{statement}
 use Rattle.query.proofs.pick_all.Tie as tie

@@ -1,4 +1,4 @@
--- `map::look_up` meets its contract: where a record is found around the block, the same is known of each block in that record.
+-- `near::look_up` meets its contract: where a record is found around the block, the same is known of each block in that record.
 -- Assumes nothing.
 use mathlib.Core.Path.{_≡_, sym, ap, _∙_, subst}
 use Prim.Native.Nat.{_+_, _^_, _<_}
@@ -7,14 +7,14 @@ use native.Mathlib.Omega.{arith}
 use lib.ListN.{getD}
 use borrow.Author.Needs.{needs}
 use Rattle.key.proofs.Laws.{block-lies, pow-most}
 use Rattle.map.specs.declared.Run.{Run}
-use Rattle.map.specs.Runs.{near, runOf, Splits, Known}
-use Rattle.map.proofs.Order.{keys-rise}
-use Rattle.map.proofs.Halves.{between-first}
-use Rattle.map.proofs.Found.{found-inside}
-use Rattle.map.proofs.Reach.{Alone, reach-least, reach-beyond, known-record}
-use Rattle.map.proofs.look_up.Statement.{statement}
-use Rattle.map.proofs.look_up.Tie as tie
+use Rattle.near.specs.Near.{near, Known}
+use Rattle.map.specs.Runs.{runOf, Splits}
+use Rattle.map.proofs.Laws.{keys-rise, Alone, reach-least, reach-beyond}
+use Rattle.map.proofs.Loops.{between-first, found-inside}
+use Rattle.near.proofs.Known.{known-record}
+use Rattle.near.proofs.look_up.Statement.{statement}
+use Rattle.near.proofs.look_up.Tie as tie
 
 keys-below-requires : tie.Need-keys-below-requires
 keys-below-requires c κs = (keys-rise (c .before .before .before .pre .3), between-first _ _)

@@ -1,13 +1,13 @@
--- `map::first_seen` meets its contract.
+-- `near::first_seen` meets its contract.
 -- Assumes nothing.
 use mathlib.Core.Path.{sym, subst}
 use native.Mathlib.Omega.{arith}
 use borrow.Author.Needs.{needs}
-use Rattle.map.specs.declared.Seen.{Seen}
-use Rattle.map.specs.Runs.{Known}
-use Rattle.map.proofs.Reach.{known-none, known-whole}
-use Rattle.map.proofs.first_seen.Statement.{statement}
-use Rattle.map.proofs.first_seen.Tie as tie
+use Rattle.near.specs.declared.Seen.{Seen}
+use Rattle.near.specs.Near.{Known}
+use Rattle.near.proofs.Known.{known-none, known-whole}
+use Rattle.near.proofs.first_seen.Statement.{statement}
+use Rattle.near.proofs.first_seen.Tie as tie
 
 none-seen-requires : tie.Need-none-seen-requires
 none-seen-requires c κs = search needs

@@ -1,11 +1,11 @@
--- `map::lies_in` meets its contract.
+-- `near::lies_in` meets its contract.
 -- Assumes nothing.
 use mathlib.Core.Path.{sym}
 use native.Mathlib.Omega.{arith}
 use borrow.Author.Tests.{ltb-true, lt-ltb}
 use Rattle.lists.proofs.Tests.{never}
-use Rattle.map.proofs.lies_in.Statement.{statement}
-use Rattle.map.proofs.lies_in.Tie as tie
+use Rattle.near.proofs.lies_in.Statement.{statement}
+use Rattle.near.proofs.lies_in.Tie as tie
 
 returns : tie.Need-returns
 returns c = (λ e. never (sym e), λ h. absurd (omega (arith, c .if1 .taken, h)))

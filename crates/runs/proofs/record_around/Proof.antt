@@ -1,15 +1,15 @@
--- `map::record_around` meets its contract: the record before contains the block exactly when it reaches over it.
+-- `runs::record_around` meets its contract: the record before contains the block exactly when it reaches over it.
 -- Assumes nothing.
 use mathlib.Core.Path.{refl, sym, _∙_}
 use Prim.Native.Nat.{_-_}
 use native.Mathlib.Omega.{arith}
 use borrow.Author.Needs.{needs}
 use Rattle.key.proofs.Laws.{reaches-least, reaches-before, reaches-around}
 use Rattle.map.specs.Records.{SomeRecord}
-use Rattle.map.proofs.Order.{record-at}
-use Rattle.map.proofs.Found.{found-around, found-none}
-use Rattle.map.proofs.record_around.Statement.{statement}
-use Rattle.map.proofs.record_around.Tie as tie
+use Rattle.map.proofs.Laws.{record-at, found-around}
+use Rattle.map.proofs.Loops.{found-none}
+use Rattle.runs.proofs.record_around.Statement.{statement}
+use Rattle.runs.proofs.record_around.Tie as tie
 
 inside-requires : tie.Need-inside-requires
 inside-requires c κs = search needs

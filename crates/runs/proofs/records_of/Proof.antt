@@ -1,16 +1,15 @@
--- `map::records_of` meets its contract: where the block's keys begin and end in the list of keys.
+-- `runs::records_of` meets its contract: where the block's keys begin and end in the list of keys.
 -- Assumes nothing.
 use mathlib.Core.Path.{sym, _∙_}
 use Prim.Native.Nat.{_+_, _^_}
 use native.Mathlib.Nat.{add-zero}
 use native.Mathlib.Omega.{arith}
 use borrow.Author.Needs.{needs}
 use Rattle.map.specs.Runs.{Splits}
-use Rattle.map.proofs.Order.{keys-rise}
-use Rattle.map.proofs.Halves.{between-first}
-use Rattle.map.proofs.Found.{found-inside}
-use Rattle.map.proofs.records_of.Statement.{statement}
-use Rattle.map.proofs.records_of.Tie as tie
+use Rattle.map.proofs.Laws.{keys-rise}
+use Rattle.map.proofs.Loops.{between-first, found-inside}
+use Rattle.runs.proofs.records_of.Statement.{statement}
+use Rattle.runs.proofs.records_of.Tie as tie
 
 keys-below-requires : tie.Need-keys-below-requires
 keys-below-requires c κs = (keys-rise (c .before .pre .3), between-first _ _)

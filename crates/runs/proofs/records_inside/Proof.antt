@@ -1,15 +1,15 @@
--- `map::records_inside` meets its contract: where the block's keys end, by the key found where they may begin.
+-- `runs::records_inside` meets its contract: where the block's keys end, by the key found where they may begin.
 -- Assumes nothing.
 use Prim.Native.Nat.{_+_, _^_, _<_}
 use native.Mathlib.Omega.{arith}
 use lib.ListN.{length}
 use borrow.Author.Needs.{needs}
 use Rattle.key.proofs.Laws.{block-lies, pow-most}
 use Rattle.map.specs.Runs.{Splits}
-use Rattle.map.proofs.Order.{keys-rise}
-use Rattle.map.proofs.Found.{end-here, end-own, end-later, in-order, counted}
-use Rattle.map.proofs.records_inside.Statement.{statement}
-use Rattle.map.proofs.records_inside.Tie as tie
+use Rattle.map.proofs.Laws.{keys-rise}
+use Rattle.map.proofs.Loops.{end-here, end-own, end-later, in-order, counted}
+use Rattle.runs.proofs.records_inside.Statement.{statement}
+use Rattle.runs.proofs.records_inside.Tie as tie
 
 returns : tie.Need-returns
 returns c = let s = c .before .before in end-here (s .pre .2) (s .pre .3 .names) (s .pre .4) (λ l. absurd (omega (arith, c .if1 .taken)))

@@ -1,8 +1,8 @@
--- `map::none_seen` meets its contract.
+-- `near::none_seen` meets its contract.
 -- Assumes nothing.
 use borrow.Author.Needs.{needs}
-use Rattle.map.proofs.none_seen.Statement.{statement}
-use Rattle.map.proofs.none_seen.Tie as tie
+use Rattle.near.proofs.none_seen.Statement.{statement}
+use Rattle.near.proofs.none_seen.Tie as tie
 
 near-to-requires : tie.Need-near-to-requires
 near-to-requires c κs = search needs
