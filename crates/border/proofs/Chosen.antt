@@ -9,7 +9,7 @@ use Rattle.lists.proofs.Tests.{never}
 use Rattle.window.specs.declared.Window.{Window}
 use Rattle.window.specs.Window.{Px, Inside}
 use Rattle.window.specs.Blocks.{maximal, Before}
-use Rattle.window.specs.Decompose.{keyOf}
+use Rattle.window.specs.Keys.{keyOf}
 use Rattle.window.proofs.Laws.{listed-ordered, ordered-back}
 use Rattle.map.specs.Sound.{Spaced}
 use Rattle.map.specs.Records.{pixelTile}

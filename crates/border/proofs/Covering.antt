@@ -10,7 +10,7 @@ use Rattle.key.specs.Picture.{place}
 use Rattle.window.specs.declared.Window.{Window}
 use Rattle.window.specs.Window.{Px, In, Inside}
 use Rattle.window.specs.Blocks.{corner, maximal}
-use Rattle.window.specs.Decompose.{keyOf}
+use Rattle.window.specs.Keys.{keyOf}
 use Rattle.map.specs.Sound.{Spaced}
 use Rattle.map.specs.Records.{Holder, Free, pixelRecord, pixelTile}
 use Rattle.map.proofs.Laws.{find, record-of, tile-of, tile-none, tile-record}

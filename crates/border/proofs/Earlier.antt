@@ -12,7 +12,7 @@ use Rattle.key.specs.Picture.{place}
 use Rattle.window.specs.declared.Window.{Window}
 use Rattle.window.specs.Window.{Px, In, Inside}
 use Rattle.window.specs.Blocks.{maximal, Before}
-use Rattle.window.specs.Decompose.{keyOf}
+use Rattle.window.specs.Keys.{keyOf}
 use Rattle.window.proofs.Laws.{before-irrefl, listed-ordered, ordered-front, front-all}
 use Rattle.map.specs.Sound.{Spaced}
 use Rattle.map.specs.Records.{Holder, Free, pixelTile}

@@ -15,7 +15,7 @@ use Rattle.lists.proofs.Laws.{ordered-imp, ordered-keep, keep-in, keep-true, pi
 use Rattle.window.specs.declared.Window.{Window}
 use Rattle.window.specs.Window.{Px, Inside}
 use Rattle.window.specs.Blocks.{maximal, Before}
-use Rattle.window.specs.Decompose.{keyOf, keysOf}
+use Rattle.window.specs.Keys.{keyOf, keysOf}
 use Rattle.window.proofs.Laws.{before-irrefl, trichotomy, keys-of, blocks-few, blocks-capped}
 use Rattle.map.specs.Sound.{Spaced}
 use Rattle.map.proofs.Laws.{tiles}

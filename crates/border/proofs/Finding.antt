@@ -10,7 +10,7 @@ use Rattle.window.specs.declared.Window.{Window}
 use Rattle.window.specs.Window.{Px}
 use Rattle.window.specs.Blocks.{exponent, maximal}
 use Rattle.window.specs.Walk.{Walked}
-use Rattle.window.specs.Decompose.{keyOf}
+use Rattle.window.specs.Keys.{keyOf}
 use Rattle.window.proofs.Laws.{walked-first}
 use Rattle.map.specs.Runs.{runOf}
 use Rattle.map.specs.Runs as runs

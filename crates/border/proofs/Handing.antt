@@ -15,7 +15,7 @@ use Rattle.key.proofs.Laws.{place-one}
 use Rattle.window.specs.declared.Window.{Window}
 use Rattle.window.specs.Window.{Px, In, Inside}
 use Rattle.window.specs.Blocks.{exponent, corner, maximal}
-use Rattle.window.specs.Decompose.{keyOf}
+use Rattle.window.specs.Keys.{keyOf}
 use Rattle.window.proofs.Laws.{same-up, corner-in, corner-corner, corner→same, listed→, →listed, pixel-in}
 use Rattle.map.specs.Sound.{Spaced}
 use Rattle.map.specs.Records.{Holder, Free, pixelTile, pixelExponent}

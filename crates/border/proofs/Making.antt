@@ -14,7 +14,7 @@ use Rattle.answers.specs.After.{After, after}
 use Rattle.window.specs.declared.Window.{Window}
 use Rattle.window.specs.Window.{Px, Inside}
 use Rattle.window.specs.Blocks.{maximal}
-use Rattle.window.specs.Decompose.{keyOf}
+use Rattle.window.specs.Keys.{keyOf}
 use Rattle.map.specs.Sound.{Spaced}
 use Rattle.map.specs.Records.{pixelTile, pixelExponent}
 use Rattle.map.specs.Runs.{runOf}

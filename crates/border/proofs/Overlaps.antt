@@ -15,7 +15,7 @@ use Rattle.key.proofs.Laws.{block-lies, blocks-stand, holds-same, place-onto, p
 use Rattle.window.specs.declared.Window.{Window}
 use Rattle.window.specs.Window.{Px, In, Inside}
 use Rattle.window.specs.Blocks.{Same, exponent, corner}
-use Rattle.window.specs.Decompose.{keyOf}
+use Rattle.window.specs.Keys.{keyOf}
 use Rattle.window.proofs.Laws.{same-div, fits-all, exponent-fits, same→corner, corner→same, pixel-in, key-named}
 use Rattle.map.specs.Spans.{holds, within}
 use Rattle.map.specs.Sound.{Spaced}

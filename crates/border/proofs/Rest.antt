@@ -7,7 +7,7 @@ use lib.ListN.{length}
 use Rattle.window.specs.declared.Window.{Window}
 use Rattle.window.specs.Window.{Px}
 use Rattle.window.specs.Blocks.{maximal}
-use Rattle.window.specs.Decompose.{keyOf}
+use Rattle.window.specs.Keys.{keyOf}
 use Rattle.border.specs.declared.Stepped.{Stepped}
 use Rattle.border.specs.Openings.{openFrom, handedAfter}
 use Rattle.border.specs.Border.{Stated, handedBy, Covered}

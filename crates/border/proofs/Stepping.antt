@@ -12,7 +12,7 @@ use Rattle.answers.specs.After.{After}
 use Rattle.window.specs.declared.Window.{Window}
 use Rattle.window.specs.Window.{Px}
 use Rattle.window.specs.Blocks.{exponent, maximal}
-use Rattle.window.specs.Decompose.{keyOf}
+use Rattle.window.specs.Keys.{keyOf}
 use Rattle.map.specs.Records.{pixelTile, pixelExponent}
 use Rattle.map.proofs.Laws.{tiles}
 use Rattle.border.specs.declared.Stepped.{Stepped}

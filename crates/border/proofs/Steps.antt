@@ -10,7 +10,7 @@ use Rattle.key.specs.Picture.{Pixel}
 use Rattle.key.specs.Key.{blockKey}
 use Rattle.window.specs.declared.Window.{Window}
 use Rattle.window.specs.Window.{Px}
-use Rattle.window.specs.Decompose.{keyOf}
+use Rattle.window.specs.Keys.{keyOf}
 use Rattle.window.proofs.Laws.{exponent-le, pixel-in, key-at}
 use Rattle.map.specs.declared.Run.{Run}
 use Rattle.map.specs.Records.{pixelTile, pixelExponent}

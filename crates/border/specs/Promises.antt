@@ -8,7 +8,7 @@ use lib.ListN.{length, take}
 use Rattle.lists.specs.Lists.{keep}
 use Rattle.window.specs.declared.Window.{Window}
 use Rattle.window.specs.Window.{Px, In, Inside}
-use Rattle.window.specs.Decompose.{keyOf, keysOf}
+use Rattle.window.specs.Keys.{keyOf, keysOf}
 use Rattle.map.specs.Sound.{Follow, SoundMap}
 use Rattle.map.specs.Records.{pixelRecord}
 use Rattle.border.specs.Openings.{met, Opening, made, opening, hands, openings, handedCount, cellsOf}

@@ -12,10 +12,11 @@ use Rattle.answers.specs.Refusals.{answer}
 use Rattle.answers.specs.Sizes.{Sized}
 use Rattle.answers.proofs.Laws.{answer-part, on-passed}
 use Rattle.window.specs.declared.Window.{Window}
-use Rattle.window.specs.declared.Decomposed.the-variants as decomposed
+use Rattle.decompose.specs.declared.Decomposed.the-variants as decomposed
 use Rattle.window.specs.Window.{Inside}
-use Rattle.window.specs.Decompose.{keysOf, decomposeRefusals}
-use Rattle.window.proofs.Laws.{numbered-decompose, decompose-passed, decompose-by-length, decompose-untouched}
+use Rattle.window.specs.Keys.{keysOf}
+use Rattle.decompose.specs.Decompose.{decomposeRefusals}
+use Rattle.decompose.proofs.Laws.{numbered-decompose, decompose-passed, decompose-by-length, decompose-untouched}
 use Rattle.map.specs.declared.Checked.the-variants as checked
 use Rattle.map.specs.Sound.{SoundMap}
 use Rattle.map.specs.Check.{mapRefusals}

@@ -15,8 +15,9 @@ use Rattle.key.specs.Key.{blockKey}
 use Rattle.window.specs.declared.Window.{Window}
 use Rattle.window.specs.Window.{Px, Inside}
 use Rattle.window.specs.Blocks.{Maximal, exponent, maximal}
-use Rattle.window.specs.Decompose.{keysOf}
-use Rattle.window.proofs.Laws.{maximal-listed, listed-ordered, blocks-few, keys-of, keys-length, key-at, decompose-passed, decompose-leaves}
+use Rattle.window.specs.Keys.{keysOf}
+use Rattle.window.proofs.Laws.{maximal-listed, listed-ordered, blocks-few, keys-of, keys-length, key-at}
+use Rattle.decompose.proofs.Laws.{decompose-passed, decompose-leaves}
 use Rattle.map.proofs.Laws.{spaced}
 use Rattle.border.specs.declared.Opened.the-variants.{Done, Refused}
 use Rattle.border.specs.Openings.{Opening, openings, handedCount, cellsOf}

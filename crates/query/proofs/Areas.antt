@@ -23,7 +23,7 @@ use Rattle.window.specs.declared.Window.{Window}
 use Rattle.window.specs.Window.{Px, In, Inside}
 use Rattle.window.specs.Blocks
 use Rattle.window.specs.Blocks.{floor, Same, Fits, pixels}
-use Rattle.window.specs.Decompose.{keyOf}
+use Rattle.window.specs.Keys.{keyOf}
 use Rattle.window.proofs.Laws.{floor-le, floor-lt, floor-eq, same-div, fits-same, fits-down, exponent-fits, corner→same, pixel-in, key-named, rows-count, side-square}
 use Rattle.map.specs.declared.Run.{Run}
 use Rattle.map.specs.Spans.{formExponent}

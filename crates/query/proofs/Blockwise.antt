@@ -10,7 +10,7 @@ use lib.ListN.{length, length-append}
 use Rattle.window.specs.declared.Window.{Window}
 use Rattle.window.specs.Window.{Px}
 use Rattle.window.specs.Blocks.{maximal}
-use Rattle.window.specs.Decompose.{keyOf}
+use Rattle.window.specs.Keys.{keyOf}
 use Rattle.window.proofs.Laws.{keys-of}
 use Rattle.query.specs.Select.{selected, allSelected, selection}
 

@@ -12,7 +12,7 @@ use Rattle.key.specs.Along.{Begins}
 use Rattle.key.proofs.Laws.{one-block, block-lies}
 use Rattle.window.specs.declared.Window.{Window}
 use Rattle.window.specs.Window.{Px}
-use Rattle.window.specs.Decompose.{keyOf}
+use Rattle.window.specs.Keys.{keyOf}
 use Rattle.window.proofs.Laws.{key-named}
 use Rattle.map.specs.declared.Run.{Run}
 use Rattle.map.specs.Spans.{formExponent}

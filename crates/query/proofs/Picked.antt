@@ -17,7 +17,7 @@ use Rattle.key.proofs.Laws.{one-key, nested, pow-least}
 use Rattle.window.specs.declared.Window.{Window}
 use Rattle.window.specs.Window.{Px, Inside}
 use Rattle.window.specs.Blocks.{exponent}
-use Rattle.window.specs.Decompose.{keyOf}
+use Rattle.window.specs.Keys.{keyOf}
 use Rattle.window.proofs.Laws.{key-named}
 use Rattle.map.specs.declared.Run.{Run}
 use Rattle.map.specs.Sound.{Spaced}

@@ -17,7 +17,7 @@ use Rattle.key.proofs.Laws.{one-block, block-lies, place-onto, pow-least}
 use Rattle.window.specs.declared.Window.{Window}
 use Rattle.window.specs.Window.{Px, In, Inside}
 use Rattle.window.specs.Blocks.{exponent, maximal, Before}
-use Rattle.window.specs.Decompose.{keyOf}
+use Rattle.window.specs.Keys.{keyOf}
 use Rattle.window.proofs.Laws.{blocks-few, blocks-capped, before-irrefl, →listed, listed-ordered, block-of, block-one, key-named, pixel-in, maximal-most}
 use Rattle.map.specs.Sound.{Follow, Spaced}
 use Rattle.map.specs.Spans.{holds}

@@ -13,7 +13,7 @@ use Rattle.window.specs.declared.Window.{Window}
 use Rattle.window.specs.declared.Next.the-variants.{Block, End}
 use Rattle.window.specs.Window.{Px}
 use Rattle.window.specs.Walk.{Walked, Goes}
-use Rattle.window.specs.Decompose.{keyOf}
+use Rattle.window.specs.Keys.{keyOf}
 use Rattle.window.proofs.Laws.{walked-first, walked-next, walked-last, walked-split, goes-in, goes-corner, goes-exponent, exponent-le, key-at, pixel-in, inside-12}
 use Rattle.map.specs.declared.Run.{Run}
 use Rattle.near.specs.declared.Near.{Near}

@@ -10,7 +10,7 @@ use Rattle.lists.specs.Lists.{upFrom, Ordered, howMany}
 use Rattle.window.specs.declared.Window.{Window}
 use Rattle.window.specs.Window.{Px}
 use Rattle.window.specs.Blocks.{floor, exponent, pixels}
-use Rattle.window.specs.Decompose.{keyOf}
+use Rattle.window.specs.Keys.{keyOf}
 use Rattle.map.specs.Sound.{Follow}
 use Rattle.map.specs.Records.{pixelRecord}
 use Rattle.map.specs.Runs.{run, runOf}

@@ -17,12 +17,10 @@ pub use Rattle.window.proofs.Blocks.{exponent-le, exponent-fits, expone
 pub use Rattle.window.proofs.Listed.{before-row, before-irrefl, before-trans, trichotomy, rows-in, in-rows, listed→, →listed, listed-ordered, block-of, block-one, ordered-front, ordered-back, front-all}
 pub use Rattle.window.proofs.Largest.{largest-one, largest-some, largest-is, largest-corner}
 pub use Rattle.window.proofs.Few.{blocks-few, blocks-capped}
-pub use Rattle.window.proofs.Tests.{window-refused, window-passed, window-inside, numbered-window, inside-12}
-pub use Rattle.window.proofs.Keys.{keys-of, key-at, pixel-in, key-named}
+pub use Rattle.window.proofs.Tests.{inside, window-refused, window-passed, window-inside, numbered-window, inside-12}
+pub use Rattle.window.proofs.Keys.{keys-of, key-at, pixel-in, key-named, keys-length, keys-few}
 pub use Rattle.window.proofs.Past.{walked-first, walked-next, walked-last, walked-split, walked-room, goes-in, goes-corner, goes-exponent, goes-cursor, goes-less}
-pub use Rattle.window.proofs.Loops.{maximal-most, rows-length, pixels-most}
-pub use Rattle.window.proofs.Counts.{rows-count}
-pub use Rattle.window.proofs.Tables.{keys-length, numbered-decompose, decompose-passed, decompose-by-length, decompose-leaves, decompose-untouched}
+pub use Rattle.window.proofs.Counts.{rows-count, maximal-most, rows-length, pixels-most}
 
 -- The list has the maximal blocks, and no other: each lies in the window, and no larger block that lies in the window contains it. That each is listed once, by row and then by
 -- column, is `listed-ordered`.

@@ -1,18 +1,15 @@
--- `window::list_blocks` meets its contract. The invariant is `Listing`, the measure the number of blocks left.
+-- `decompose::list_blocks` meets its contract. The invariant is `Listing`, the measure the number of blocks left.
 -- Assumes nothing.
 use native.Mathlib.Omega.{arith}
 use lib.ListN.{length}
 use borrow.Author.Needs.{needs}
 use Rattle.answers.proofs.Listing.{listed-same}
 use Rattle.window.specs.Walk.{blocksFrom, Goes}
 use Rattle.window.specs.declared.Next.the-variants.{Block}
-use Rattle.window.proofs.Past.{goes-in, goes-exponent, goes-less}
-use Rattle.window.proofs.Blocks.{exponent-le}
-use Rattle.window.proofs.Tests.{inside-12}
-use Rattle.window.proofs.Keys.{pixel-in}
-use Rattle.window.proofs.Loops.{Listing, listing-first, listing-few, listing-next, listing-last}
-use Rattle.window.proofs.list_blocks.Statement.{statement}
-use Rattle.window.proofs.list_blocks.Tie as tie
+use Rattle.window.proofs.Laws.{goes-in, goes-exponent, goes-less, exponent-le, inside-12, pixel-in}
+use Rattle.decompose.proofs.Listing.{Listing, listing-first, listing-few, listing-next, listing-last}
+use Rattle.decompose.proofs.list_blocks.Statement.{statement}
+use Rattle.decompose.proofs.list_blocks.Tie as tie
 
 abbrev Inv-loop : tie.InvT-loop
 Inv-loop table m window top out₀ r₀ c₀ n₀ out r c n = Listing m top window out₀ out n (r, c)

@@ -1,0 +1,33 @@
+-- Decomposing, in examples.
+-- Assumes nothing.
+use mathlib.Core.Path.{_≡_, refl}
+use mathlib.Core.List.{List, [], _∷_, List·Memᴰ·head, List·Memᴰ·tail}
+use Prim.Native.Nat.{ℕ}
+use lib.Dec.{lit<}
+use Rattle.lists.specs.Lists.{keep, greatest}
+use Rattle.answers.specs.Refusals.{answer}
+use Rattle.answers.specs.Cells.{overwrite}
+use Rattle.answers.specs.After.{after, roomRefusals}
+use Rattle.answers.specs.Sizes.{pictureRefusals}
+use Rattle.key.specs.Spread.{spreadTo, spread}
+use Rattle.key.specs.Key.{pixelKey, blockKey}
+use Rattle.decompose.specs.declared.Decomposed.the-variants.{Done, Refused}
+use Rattle.window.specs.Window.{window, beyond, outside, windowRefusals}
+use Rattle.window.specs.Blocks.{floor, lies, fits, exponent, corner, across, rows, isCorner, maximal}
+use Rattle.window.specs.Keys.{keyOf, keysOf}
+use Rattle.decompose.specs.Decompose.{decomposeRefusals, decomposeOf}
+
+abbrev six : List ℕ
+six = 1 ∷ 2 ∷ 3 ∷ 4 ∷ 5 ∷ 6 ∷ []
+
+pub record Examples : Type 0 where
+  -- decomposing: room for six keys, and for a cell beyond; room for five; refusals 1 and 6 before 8
+  pub done : decomposeOf 2 (window 0 1 3 3) (0 ∷ six) ≡ after (Done 6) (7 ∷ 10 ∷ 9 ∷ 17 ∷ 21 ∷ 22 ∷ 6 ∷ [])
+  pub short : decomposeOf 2 (window 0 1 3 3) (1 ∷ 2 ∷ 3 ∷ 4 ∷ 5 ∷ []) ≡ after (Refused 8 6) (1 ∷ 2 ∷ 3 ∷ 4 ∷ 5 ∷ [])
+  pub large : decomposeOf 13 (window 0 0 0 0) six ≡ after (Refused 1 0) six
+  pub empty : decomposeOf 2 (window 0 0 0 1) [] ≡ after (Refused 6 0) []
+
+pub examples : Examples
+unfolding pictureRefusals roomRefusals answer overwrite spreadTo spread pixelKey blockKey beyond outside windowRefusals keep floor lies fits greatest exponent corner across rows
+    isCorner maximal keyOf keysOf decomposeRefusals decomposeOf
+examples = record { done = refl; short = refl; large = refl; empty = refl }

@@ -1,0 +1,4 @@
+mod Listing
+mod Tables
+mod Examples
+pub mod Laws
