@@ -3,35 +3,25 @@
 use mathlib.Core.Path.{_≡_, refl}
 use mathlib.Core.List.{List, [], _∷_}
 use Prim.Native.Nat.{ℕ}
-use native.Mathlib.Omega.{arith}
-use lib.ListN.{take}
 use Rattle.lists.specs.Lists.{upFrom, any, keep, before, howMany, greatest}
-use Rattle.answers.specs.Refusals.{answer}
-use Rattle.answers.specs.Sizes.{wrongCount, sizeRefusals, pictureRefusals, countRefusals}
-use Rattle.answers.specs.Cells.{overwrite}
-use Rattle.answers.specs.After.{after, roomRefusals, roomFor}
+use Rattle.answers.specs.After.{after}
 use Rattle.key.specs.Spread.{spreadTo, spread}
 use Rattle.key.specs.Picture.{place}
 use Rattle.key.specs.Key.{pixelKey, blockKey}
 use Rattle.key.specs.Form.{from, formOf}
 use Rattle.window.specs.declared.Window.{Window}
-use Rattle.window.specs.Window.{window, beyond, outside, windowRefusals}
+use Rattle.window.specs.Window.{window}
 use Rattle.window.specs.Blocks.{floor, lies, fits, exponent, corner, across, rows, isCorner, maximal}
 use Rattle.window.specs.Keys.{keyOf, keysOf}
 use Rattle.map.specs.Spans as spans
-use Rattle.map.specs.Check.{late, refusalsFrom, mapRefusals}
 use Rattle.map.specs.Records.{recordOf, exponentOf}
 use Rattle.map.specs.Runs.{runOf}
 use Rattle.border.specs.declared.Stepped.the-variants as stepped
-use Rattle.border.specs.declared.Opened.{Opened}
-use Rattle.border.specs.declared.Opened.the-variants.{Done, Refused}
 use Rattle.border.specs.Openings.{isHanded, made, opening, openFrom, handedAfter, openings, handedCount, cellsOf}
 use Rattle.map.specs.Spans.{within}
 use Rattle.border.specs.Cells.{filled, pushed, closed}
 use Rattle.border.specs.Step.{stepOf}
-use Rattle.border.specs.Promises.{Answerable, openingsIn, bringing}
-use Rattle.border.specs.Open.{useRefusals, spent, usedFor, openOf, borderRefusals}
-use Rattle.border.proofs.Use.{use-answerable}
+use Rattle.border.specs.Promises.{openingsIn, bringing}
 
 abbrev keys : List ℕ
 keys = 5 ∷ 11 ∷ 12 ∷ 13 ∷ 14 ∷ 15 ∷ 20 ∷ []
@@ -53,14 +43,8 @@ pub record Examples : Type 0 where
   pub step-7 : stepOf 2 2 keys W (0, 1) (0 ∷ 0 ∷ 0 ∷ []) ≡ after (stepped.Opened 7 0 1 1 0) (2 ∷ 0 ∷ 0 ∷ [])
   pub step-10 : stepOf 2 2 keys W (0, 2) (2 ∷ 0 ∷ 0 ∷ []) ≡ after (stepped.Opened 10 1 4 1 0) (2 ∷ 2 ∷ 2 ∷ [])
   pub step-9 : stepOf 2 2 keys W (1, 1) (2 ∷ 2 ∷ 2 ∷ []) ≡ after stepped.Skipped (2 ∷ 2 ∷ 2 ∷ [])
-  -- borders of two and of three cells, answer slices of 11 and of 12 cells
-  pub narrow : openOf 2 keys 7 W (take 2 old) old ≡ after (Refused 7 3) (take 2 old, old)
-  pub short : openOf 2 keys 7 W (take 3 old) (take 11 old) ≡ after (Refused 8 12) (3 ∷ 3 ∷ 3 ∷ [], take 11 old)
-  pub done : openOf 2 keys 7 W (take 4 old) old ≡ after (Done 4 7) (3 ∷ 3 ∷ 3 ∷ 93 ∷ [], 7 ∷ 0 ∷ 1 ∷ 10 ∷ 1 ∷ 4 ∷ 17 ∷ 5 ∷ 1 ∷ 21 ∷ 6 ∷ 1 ∷ 102 ∷ [])
   -- the openings that stand in those cells; and three border cells are enough, two are not
   pub in-cells : openingsIn (7 ∷ 0 ∷ 1 ∷ 10 ∷ 1 ∷ 4 ∷ 17 ∷ 5 ∷ 1 ∷ 21 ∷ 6 ∷ 1 ∷ []) ≡ openings 2 2 keys W
-  pub answerable : Answerable 2 keys 7 W 3
-  pub not-answerable : Answerable 2 keys 7 W 2 → ⊥
   -- a map with gaps, of the records 11 and 20 alone: blocks 7, 9 and 17 meet no record and are opened empty, and block 22 lies in record 1
   pub gaps : openings 2 2 gapped W ≡ made 7 0 0 ∷ made 10 0 1 ∷ made 9 0 0 ∷ made 17 0 0 ∷ made 21 1 1 ∷ []
   -- two of them bring a record
@@ -69,32 +53,20 @@ pub record Examples : Type 0 where
   pub step-none : stepOf 2 2 gapped W (0, 1) (0 ∷ 0 ∷ 0 ∷ []) ≡ after (stepped.Opened 7 0 0 0 0) (1 ∷ 0 ∷ 0 ∷ [])
   -- with blocks of one pixel and no larger, P1's records 1 to 4 take an opening each, and record 6 one still
   pub pixels : openings 2 0 keys W ≡ made 7 0 1 ∷ made 11 1 1 ∷ made 12 2 1 ∷ made 13 3 1 ∷ made 14 4 1 ∷ made 17 5 1 ∷ made 21 6 1 ∷ []
-  -- refusals in their order: the map's, then the window's, then the border's
-  pub map-first : openOf 2 (take 6 keys) 6 (window 0 0 0 0) [] [] ≡ after (Refused 5 6) ([], [])
-  pub window-next : openOf 2 keys 7 (window 2 0 3 1) [] [] ≡ after (Refused 6 0) ([], [])
-  pub large : openOf 13 [] 7 (window 0 0 0 0) [] [] ≡ after (Refused 1 0) ([], [])
 
 pub examples : Examples
-unfolding pictureRefusals countRefusals borderRefusals roomRefusals roomFor answer wrongCount sizeRefusals overwrite upFrom spreadTo spread place pixelKey blockKey from formOf beyond outside windowRefusals keep floor lies
+unfolding upFrom spreadTo spread place pixelKey blockKey from formOf keep floor lies
     fits greatest exponent corner across rows isCorner maximal keyOf keysOf spans.malformed spans.formExponent spans.start spans.end spans.holds
-    spans.overlap late refusalsFrom mapRefusals before howMany recordOf exponentOf runOf any within isHanded opening openFrom handedAfter openings
-    handedCount cellsOf openingsIn bringing filled pushed closed stepOf useRefusals spent usedFor openOf
+    spans.overlap before howMany recordOf exponentOf runOf any within isHanded opening openFrom handedAfter openings
+    handedCount cellsOf openingsIn bringing filled pushed closed stepOf
 examples = record {
   single = refl;
   step-7 = refl;
   step-10 = refl;
   step-9 = refl;
-  narrow = refl;
-  short = refl;
-  done = refl;
   in-cells = refl;
-  answerable = use-answerable 2 keys 7 W 3 .0 refl;
-  not-answerable = λ A. omega (arith, A .wide);
   gaps = refl;
   two = refl;
   step-none = refl;
   pixels = refl;
-  map-first = refl;
-  window-next = refl;
-  large = refl;
 }

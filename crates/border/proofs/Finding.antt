@@ -19,10 +19,10 @@ use Rattle.border.specs.declared.Found.the-variants as found
 use Rattle.border.specs.Openings.{Opening, made, opening, handedAfter, openings}
 use Rattle.border.specs.Border.{Stated, Covered}
 use Rattle.border.specs.Cells.{filled}
-use Rattle.border.specs.Step.{Corner, Usable}
+use Rattle.border.specs.Step.{Corner}
+use Rattle.used.specs.Used.{Usable, spent}
 use Rattle.border.specs.Found.{stepsLeave, walkMakes, walkLeaves, walk, spot, Reached, Kept, Finds}
 use Rattle.border.specs.Found as finds
-use Rattle.border.specs.Open.{spent}
 use Rattle.border.proofs.Filled.{filled-length, filled-beyond}
 use Rattle.border.proofs.Columns.{left-first}
 use Rattle.border.proofs.Stays.{begins, ends}

@@ -32,7 +32,6 @@ use Rattle.border.proofs.Fold.{opens-none, skip-opens, take-opens, open
 use Rattle.border.proofs.Hands.{hands-append}
 use Rattle.border.proofs.Covering.{covered-append}
 use Rattle.border.proofs.Earlier.{own-corner, stated-out, stated-now, skip-test}
-use Rattle.border.specs.declared.Opened.{Opened}
 
 -- ---- the two ways of a step
 

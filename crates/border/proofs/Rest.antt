@@ -11,7 +11,8 @@ use Rattle.window.specs.Keys.{keyOf}
 use Rattle.border.specs.declared.Stepped.{Stepped}
 use Rattle.border.specs.Openings.{openFrom, handedAfter}
 use Rattle.border.specs.Border.{Stated, handedBy, Covered}
-use Rattle.border.specs.Step.{Corner, Usable, Step}
+use Rattle.border.specs.Step.{Corner, Step}
+use Rattle.used.specs.Used.{Usable}
 use Rattle.border.specs.Found.{stepsMake, stepsLeave, Kept}
 use Rattle.border.proofs.Fold.{opens-none, opens-append, handed-append}
 use Rattle.border.proofs.Earlier.{own-corner}

@@ -14,14 +14,14 @@ use Rattle.border.specs.declared.Stepped.{Stepped}
 use Rattle.border.specs.declared.Stepped.the-variants as stepped
 use Rattle.border.specs.declared.Walk.{Walk}
 use Rattle.border.specs.declared.Found.the-variants as found
-use Rattle.border.specs.Step.{madeBy, Corner, Usable, Ready, Step}
+use Rattle.border.specs.Step.{madeBy, Corner, Ready, Step}
+use Rattle.used.specs.Used.{Usable}
 use Rattle.border.specs.Found.{stepsMake, stepsLeave, walkMakes, walkLeaves, columnsLeft, walk, spot, Reached, Kept, Finds}
 use Rattle.border.specs.Found as finds
 use Rattle.border.proofs.Columns.{left-none}
 use Rattle.border.proofs.Handing.{listed-corner}
 use Rattle.border.proofs.Making.{high-is, stated-step}
 use Rattle.border.proofs.Stepping.{kept-none, kept-more, step-kept, step-key, made-step, left-step, shutBy, step-left}
-use Rattle.border.specs.declared.Opened.{Opened}
 
 -- ---- where no column is left, every block is skipped
 

@@ -19,9 +19,9 @@ use Rattle.border.specs.declared.Stepped.{Stepped}
 use Rattle.border.specs.declared.Stepped.the-variants as stepped
 use Rattle.border.specs.Border.{Stated, Covered}
 use Rattle.border.specs.Cells.{filled}
-use Rattle.border.specs.Step.{reach, stepOf, madeBy, Corner, Usable, Ready, Step}
+use Rattle.border.specs.Step.{reach, stepOf, madeBy, Corner, Ready, Step}
+use Rattle.used.specs.Used.{Usable, spent}
 use Rattle.border.specs.Found.{stepsMake, stepsLeave, columnsLeft, Kept}
-use Rattle.border.specs.Open.{spent}
 use Rattle.border.proofs.Filled.{pushed-length, pushed-beyond}
 use Rattle.border.proofs.Columns.{left-pushed}
 use Rattle.border.proofs.Sweep.{Out}
@@ -29,7 +29,6 @@ use Rattle.border.proofs.Stays.{skip-iff, fresh-high}
 use Rattle.border.proofs.Making.{low-is, high-is}
 use Rattle.border.proofs.Steps.{opened-not-skipped, step-skipped, step-opened}
 use Rattle.border.proofs.Earlier.{stated-out}
-use Rattle.border.specs.declared.Opened.{Opened}
 
 pub kept-none : {W : Window} {cells : List ℕ} → Kept W cells cells
 kept-none = record { same = refl; beyond = refl }

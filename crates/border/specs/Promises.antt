@@ -2,22 +2,15 @@
 -- Assumes nothing.
 use mathlib.Core.Path.{_≡_}
 use mathlib.Core.List.{List, [], _∷_, _++_, List·Memᴰ}
-use Prim.Native.Nat.{ℕ, _*_, _≤_, _<_}
+use Prim.Native.Nat.{ℕ, _<_}
 use lib.Dec.{ltb}
-use lib.ListN.{length, take}
+use lib.ListN.{length}
 use Rattle.lists.specs.Lists.{keep}
 use Rattle.window.specs.declared.Window.{Window}
-use Rattle.window.specs.Window.{Px, In, Inside}
+use Rattle.window.specs.Window.{Px, In}
 use Rattle.window.specs.Keys.{keyOf, keysOf}
-use Rattle.map.specs.Sound.{Follow, SoundMap}
 use Rattle.map.specs.Records.{pixelRecord}
-use Rattle.border.specs.Openings.{met, Opening, made, opening, hands, openings, handedCount, cellsOf}
-
--- what refusals 1 to 7 pass: a sound map, a window inside the picture, and a border of at least w cells. Of m, the keys, the number of classes, the window and the number of cells
-pub record Answerable (m : ℕ) (keys : List ℕ) (classes : ℕ) (W : Window) (cells : ℕ) : Type 0 where
-  pub sound : SoundMap m keys classes
-  pub inside : Inside m W
-  pub wide : W .w ≤ cells
+use Rattle.border.specs.Openings.{met, Opening, made, opening, hands}
 
 -- the window has a pixel of record n. Of a pixel in no record `pixelRecord` is the number of records: where the map has gaps, that number may touch the window too
 pub record Touches (m : ℕ) (keys : List ℕ) (W : Window) (n : ℕ) : Type 0 where
@@ -63,11 +56,3 @@ Apart o o′ = (n : ℕ) → List·Memᴰ n (hands o) → ¬ List·Memᴰ n (han
 pub record Enough (m top : ℕ) (keys : List ℕ) (W : Window) (s : List ℕ) : Type 0 where
   pub blocks : (k : ℕ) → List·Memᴰ k s → List·Memᴰ k (keysOf m top W)
   pub brings : (n : ℕ) → Overlaps m keys W n → (k : ℕ) × List·Memᴰ k s × List·Memᴰ n (met m keys k)
-
--- what an accepted call tells: the map is sound, the window inside, and the answer counts the list that was written
-pub record Answered (m : ℕ) (keys : List ℕ) (W : Window) (count records : ℕ) (out : List ℕ) : Type 0 where
-  pub sound : Follow m 0 keys
-  pub inside : Inside m W
-  pub many : count ≡ length (openings m m keys W)
-  pub records-are : records ≡ handedCount (openings m m keys W)
-  pub list : take (3 * count) out ≡ cellsOf (openings m m keys W)

@@ -4,15 +4,15 @@ use mathlib.Core.Path.{_≡_}
 use mathlib.Core.Logic.{_↔_}
 use mathlib.Core.Bool.{cond}
 use mathlib.Core.List.{List, [], _∷_, _++_}
-use Prim.Native.Nat.{ℕ, max, _-_, _≤_, _<_}
+use Prim.Native.Nat.{ℕ, max, _-_, _<_}
 use lib.Dec.{ltb}
-use lib.ListN.{length, getD}
+use lib.ListN.{getD}
 use Rattle.answers.specs.After.{After, after}
+use Rattle.used.specs.Used.{Usable}
 use Rattle.window.specs.declared.Window.{Window}
-use Rattle.window.specs.Window.{Px, In, Inside}
+use Rattle.window.specs.Window.{Px, In}
 use Rattle.window.specs.Blocks.{exponent, corner, maximal}
 use Rattle.window.specs.Keys.{keyOf}
-use Rattle.map.specs.Sound.{Spaced}
 use Rattle.map.specs.Records.{pixelExponent}
 use Rattle.map.specs.Runs.{runOf}
 use Rattle.border.specs.declared.Stepped.{Stepped}
@@ -38,15 +38,6 @@ stepOf m top keys W b cells =
 pub record Corner (W : Window) (top : ℕ) (b : Px) : Type 0 where
   pub inside : In W b
   pub own : corner W top b ≡ b
-
--- a map, perhaps with gaps, and a window inside it, with a border of so many cells
-pub record Usable (m top : ℕ) (keys : List ℕ) (W : Window) (cells : ℕ) : Type 0 where
-  pub small : m ≤ 12
-  pub cap : top ≤ m
-  pub few : length keys ≤ 65536
-  pub spaced : Spaced m 0 keys
-  pub inside : Inside m W
-  pub wide : W .w ≤ cells
 
 -- and one of the window's maximal blocks, by corner and exponent: what a step may take for granted
 pub record Ready (m top : ℕ) (keys : List ℕ) (W : Window) (b : Px) (i cells : ℕ) : Type 0 where

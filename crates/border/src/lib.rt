@@ -1,19 +1,12 @@
-// The active border: one step for one maximal block, and opening a window on a map.
-use answers::Verdict;
-use map::Run;
-use window::Next;
+// The active border: what stands in its cells, the laws of openings, and one step for one maximal block.
 use window::Window;
 ghost use mathlib.Core.Path.{_≡_};
 ghost use Prim.Native.Nat.{_-_, _≤_};
 ghost use lib.ListN.{length};
-ghost use Rattle.answers.specs.Refusals.{verdict};
-ghost use Rattle.answers.specs.After.{after};
 ghost use Rattle.key.specs.Spread.{spreads};
 ghost use Rattle.window.specs.Window.{In, Inside};
-ghost use Rattle.border.specs.Cells.{filled, pushed, closed, entered};
-ghost use Rattle.border.specs.Step.{Usable, Ready, Step};
-ghost use Rattle.border.specs.Found.{walk, Reached, Finds};
-ghost use Rattle.border.specs.Open.{Passed, useRefusals, openOf};
+ghost use Rattle.border.specs.Cells.{filled, pushed, closed};
+ghost use Rattle.border.specs.Step.{Ready, Step};
 
 // What a step answers: the block was skipped, or opened, by its key, with so many records from the first on, which reach so far; that closed so many columns.
 pub enum Stepped {
@@ -47,11 +40,6 @@ pub enum Found {
         on: Walk,
     },
     End,
-}
-
-pub enum Opened {
-    Done { openings: u32, records: u32 },
-    Refused { number: u32, place: u32 },
 }
 
 // How many openings there are, and how many records they hand out.
@@ -126,180 +114,5 @@ pub fn step(
         count: run.count,
         reach: run.reach,
         closed,
-    }
-}
-
-// Writes an opening behind n others, where there is room for it.
-fn put_opening(out: &mut [u32], n: u32, key: u32, first: u32, count: u32)
-    ensures { λ r. ⌜ now (out .exit) ≡ entered n key first count (now (out .entry)) ⌝ }
-{
-    let at = 3 * (n as usize);
-    if out.len() < at + 3 {
-        return;
-    }
-    out[at] = key;
-    out[at + 1] = first;
-    out[at + 2] = count;
-}
-
-fn walk_from(row: u16, col: u16, left: u16) -> Walk
-    ensures { λ r. ⌜ r ≡ walk row col left ⌝ }
-{
-    Walk { row, col, left }
-}
-
-// The walk stands at the window's first pixel, and all columns are left.
-pub fn start(window: Window) -> Walk
-    ensures { λ r. ⌜ r ≡ walk (window .r0) (window .c0) (window .w) ⌝ }
-{
-    walk_from(window.r0, window.c0, window.w)
-}
-
-// The next opening: skips blocks until one is opened. Where no column is left, all is out, and the walk ends.
-pub fn next_opening(
-    table: &[u32; 256],
-    m: u32,
-    top: u32,
-    keys: &[u32],
-    window: Window,
-    at: Walk,
-    border: &mut [u16],
-) -> Found
-    requires { ⌜ (now table ≡ spreads) × Usable m top (now keys) window (length (now border)) × Reached m top (now keys) window at (now border) ⌝ }
-    ensures { λ r. ⌜ Finds m top (now (keys .entry)) window at (now (border .entry)) r (now (border .exit)) ⌝ }
-{
-    let left = at.left;
-    if left == 0 {
-        return Found::End;
-    }
-    let mut r = at.row;
-    let mut c = at.col;
-    loop {
-        let next = window::next_block(window, top, r, c);
-        let Next::Block {
-            row,
-            col,
-            exponent,
-            after,
-        } = next
-        else {
-            return Found::End;
-        };
-        let stepped = step(table, m, top, keys, window, row, col, exponent, border);
-        if let Stepped::Opened {
-            key,
-            first,
-            count,
-            reach,
-            closed,
-        } = stepped {
-            return Found::Opening {
-                row,
-                col,
-                exponent,
-                key,
-                first,
-                count,
-                reach,
-                on: walk_from(row, after, left - closed),
-            };
-        }
-        r = row;
-        c = after;
-    }
-}
-
-// Goes through the maximal blocks once, with a border filled anew. Of the openings, those are written for which there is room.
-fn pass(
-    table: &[u32; 256],
-    m: u32,
-    top: u32,
-    keys: &[u32],
-    window: Window,
-    border: &mut [u16],
-    out: &mut [u32],
-) -> Totals
-    requires { ⌜ (now table ≡ spreads) × Usable m top (now keys) window (length (now border)) ⌝ }
-    ensures { λ r. ⌜ Passed m top (now (keys .entry)) window (now (border .entry)) (now (out .entry)) r (now (border .exit)) (now (out .exit)) ⌝ }
-{
-    fill(border, 0, window.w as usize, window.r0);
-    let mut at = start(window);
-    let mut openings: u32 = 0;
-    let mut records: u32 = 0;
-    loop {
-        let found = next_opening(table, m, top, keys, window, at, border);
-        let Found::Opening {
-            key,
-            first,
-            count,
-            on,
-            ..
-        } = found
-        else {
-            return Totals { openings, records };
-        };
-        put_opening(out, openings, key, first, count);
-        openings += 1;
-        records += count;
-        at = on;
-    }
-}
-
-// Refusals 1 to 7: whoever uses a map and a window asks this first.
-pub fn usable(m: u32, keys: &[u32], classes: &[u8], window: Window, cells: usize) -> Verdict
-    ensures { λ r. ⌜ r ≡ verdict (useRefusals m (now (keys .entry)) (length (now (classes .entry))) window cells) ⌝ }
-{
-    let sound = map::sound(m, keys, classes);
-    if let Verdict::Refused { number, place } = sound {
-        return Verdict::Refused { number, place };
-    }
-    if window::outside(m, window) {
-        return Verdict::Refused {
-            number: 6,
-            place: 0,
-        };
-    }
-    let w = window.w;
-    if cells < w as usize {
-        return Verdict::Refused {
-            number: 7,
-            place: w as u32,
-        };
-    }
-    Verdict::Passed
-}
-
-// Opens the window on the map. A slice with room for as many openings as a window can have takes one pass; otherwise a first pass counts them and writes none, since 8 writes
-// nothing into the slice.
-pub fn open(
-    m: u32,
-    keys: &[u32],
-    classes: &[u8],
-    window: Window,
-    border: &mut [u16],
-    out: &mut [u32],
-) -> Opened
-    ensures { λ r. ⌜ after r (now (border .exit), now (out .exit)) ≡ openOf m (now (keys .entry)) (length (now (classes .entry))) window (now (border .entry)) (now (out .entry)) ⌝ }
-{
-    let verdict = usable(m, keys, classes, window, border.len());
-    if let Verdict::Refused { number, place } = verdict {
-        return Opened::Refused { number, place };
-    }
-    let table = key::spread_table();
-    let most = 12 * ((window.w as usize) + (window.h as usize));
-    if out.len() < most {
-        let counted = pass(&table, m, m, keys, window, border, &mut out[..0]);
-        let needed = 3 * counted.openings;
-        if out.len() < needed as usize {
-            return Opened::Refused {
-                number: 8,
-                place: needed,
-            };
-        }
-    }
-    let totals = pass(&table, m, m, keys, window, border, out);
-    Opened::Done {
-        openings: totals.openings,
-        records: totals.records,
     }
 }

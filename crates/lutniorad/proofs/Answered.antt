@@ -21,9 +21,9 @@ use Rattle.map.specs.declared.Checked.the-variants as checked
 use Rattle.map.specs.Sound.{SoundMap}
 use Rattle.map.specs.Check.{mapRefusals}
 use Rattle.map.proofs.Laws.{sound-map, check-is, numbered-map}
-use Rattle.border.specs.Open.{useRefusals}
-use Rattle.border.specs.Promises.{Answerable}
-use Rattle.border.proofs.Laws.{use-answerable, numbered-use}
+use Rattle.used.specs.Used.{useRefusals}
+use Rattle.used.specs.Promises.{Answerable}
+use Rattle.used.proofs.Laws.{use-answerable, numbered-use}
 use Rattle.query.specs.declared.Existence.the-variants as existence
 use Rattle.query.specs.Classes.{exists}
 use Rattle.query.proofs.Laws.{exist-by-lengths, exist-untouched}

@@ -17,9 +17,9 @@ use Rattle.answers.proofs.Laws.{on-passed, take-overwrite, drop-overwrite}
 use Rattle.window.specs.Blocks.{pixels}
 use Rattle.window.specs.declared.Window.{Window}
 use Rattle.map.proofs.Laws.{spaced}
-use Rattle.border.specs.Open.{useRefusals, spent, usedFor}
-use Rattle.border.specs.Promises.{Answerable}
-use Rattle.border.proofs.Laws.{use-answerable}
+use Rattle.used.specs.Used.{useRefusals, spent, usedFor}
+use Rattle.used.specs.Promises.{Answerable}
+use Rattle.used.proofs.Laws.{use-answerable}
 use Rattle.query.specs.declared.Queried.the-variants.{Done, Refused}
 use Rattle.query.specs.Classes.{exists, totals}
 use Rattle.query.specs.Select.{selection}

@@ -22,7 +22,8 @@ use Rattle.map.specs.Records.{recordOf, exponentOf}
 use Rattle.map.specs.Runs.{runOf}
 use Rattle.border.specs.Openings.{isHanded, made, opening, openFrom, openings, handedCount, cellsOf}
 use Rattle.map.specs.Spans.{within}
-use Rattle.border.specs.Open.{useRefusals, spent, usedFor, openOf, borderRefusals}
+use Rattle.used.specs.Used.{useRefusals, spent, usedFor, borderRefusals}
+use Rattle.open.specs.Open.{openOf}
 use Rattle.border.specs.Promises.{openingsIn}
 use Rattle.lutniorad.specs.Numbers.{values}
 use Rattle.lutniorad.specs.Calls.{Decompose, Open}

@@ -25,7 +25,7 @@ use Rattle.map.specs.Records.{recordOf, exponentOf}
 use Rattle.map.specs.Runs.{runOf}
 use Rattle.border.specs.Openings.{isHanded, made, opening, openFrom, openings, handedCount}
 use Rattle.map.specs.Spans.{within}
-use Rattle.border.specs.Open.{useRefusals, spent, usedFor, borderRefusals}
+use Rattle.used.specs.Used.{useRefusals, spent, usedFor, borderRefusals}
 use Rattle.query.specs.declared.Queried.the-variants.{Done}
 use Rattle.query.specs.Classes.{hasClass, total, totals}
 use Rattle.query.specs.Select.{around, inside, selected, allSelected, selection}

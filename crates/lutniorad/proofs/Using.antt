@@ -14,9 +14,9 @@ use Rattle.answers.specs.Cells.{overwrite}
 use Rattle.answers.specs.After.{After, after, roomRefusals}
 use Rattle.answers.proofs.Laws.{on-refused}
 use Rattle.window.specs.declared.Window.{Window}
-use Rattle.border.specs.Open.{useRefusals, spent, usedFor}
-use Rattle.border.specs.Promises.{Answerable}
-use Rattle.border.proofs.Laws.{use-answerable, numbered-use, numbered-used, used-answerable, used-said, used-by-lengths, used-refused, used-short, used-done}
+use Rattle.used.specs.Used.{useRefusals, spent, usedFor}
+use Rattle.used.specs.Promises.{Answerable}
+use Rattle.used.proofs.Laws.{use-answerable, numbered-use, numbered-used, used-answerable, used-said, used-by-lengths, used-refused, used-short, used-done}
 use Rattle.lutniorad.specs.declared.Answer.{Answer}
 use Rattle.lutniorad.specs.Numbers.{values, refused}
 use Rattle.lutniorad.specs.Calls.{Call}

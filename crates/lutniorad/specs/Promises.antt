@@ -17,7 +17,7 @@ use Rattle.window.specs.Blocks.{Maximal, Before}
 use Rattle.map.specs.Spans.{holds}
 use Rattle.map.specs.Records.{pixelRecord}
 use Rattle.border.specs.Openings.{Opening, openings, cellsOf}
-use Rattle.border.specs.Open.{spent}
+use Rattle.used.specs.Used.{spent}
 use Rattle.border.specs.Promises.{Overlaps, HandedOut, Apart, allHands, Enough}
 use Rattle.query.specs.Classes.{total}
 use Rattle.query.specs.Select.{selection}

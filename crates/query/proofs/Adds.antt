@@ -13,7 +13,7 @@ use Rattle.border.specs.declared.Walk.{Walk}
 use Rattle.border.specs.declared.Found.the-variants as found
 use Rattle.border.specs.Openings.{Opening, made}
 use Rattle.border.specs.Promises.{allHands}
-use Rattle.border.specs.Step.{Usable}
+use Rattle.used.specs.Used.{Usable}
 use Rattle.border.specs.Found.{walkMakes, walk, spot, Finds}
 use Rattle.border.proofs.Laws.{hands-none, hands-one, hands-append, records-once}
 use Rattle.border.proofs.Finding.{Finding, finding-next, finding-last, finds-opens, finds-exponent}

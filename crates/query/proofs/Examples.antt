@@ -21,7 +21,7 @@ use Rattle.map.specs.Spans as spans
 use Rattle.map.specs.Check.{late, refusalsFrom, mapRefusals}
 use Rattle.map.specs.Records.{recordOf}
 use Rattle.map.specs.Spans.{within}
-use Rattle.border.specs.Open.{useRefusals, spent, usedFor, borderRefusals}
+use Rattle.used.specs.Used.{useRefusals, spent, usedFor, borderRefusals}
 use Rattle.query.specs.declared.Existence.the-variants as existence
 use Rattle.query.specs.declared.Queried.the-variants.{Done, Refused}
 use Rattle.query.specs.Classes.{hasClass, exists, total, totals}

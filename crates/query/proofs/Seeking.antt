@@ -13,7 +13,7 @@ use Rattle.border.specs.declared.Found.the-variants as found
 use Rattle.border.specs.Openings.{Opening, made, openings}
 use Rattle.border.specs.Promises.{allHands}
 use Rattle.map.specs.Sound.{Follow}
-use Rattle.border.specs.Step.{Usable}
+use Rattle.used.specs.Used.{Usable}
 use Rattle.border.specs.Found.{walkMakes, walk, spot, Finds}
 use Rattle.border.proofs.Finding.{Finding, finding-next, finding-last}
 use Rattle.query.specs.Classes.{classed, exists}

@@ -21,7 +21,8 @@ use Rattle.near.specs.declared.Seen.{Seen}
 use Rattle.map.specs.Runs.{runOf, BlockOf}
 use Rattle.near.specs.Near.{LiesIn, Known}
 use Rattle.map.proofs.Laws.{Alone, reach-beyond}
-use Rattle.border.specs.Step.{Corner, Usable}
+use Rattle.border.specs.Step.{Corner}
+use Rattle.used.specs.Used.{Usable}
 use Rattle.border.proofs.Laws.{met-room, block-key}
 use Rattle.query.specs.Select.{selected, picked, pickedAround, Overlapped, selection}
 use Rattle.query.proofs.Picked.{picked-around, block-selected}

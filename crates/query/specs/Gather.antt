@@ -14,7 +14,8 @@ use Rattle.window.specs.Keys.{keyOf}
 use Rattle.map.specs.Sound.{Follow}
 use Rattle.map.specs.Records.{pixelRecord}
 use Rattle.map.specs.Runs.{run, runOf}
-use Rattle.border.specs.Step.{Usable, Corner}
+use Rattle.used.specs.Used.{Usable}
+use Rattle.border.specs.Step.{Corner}
 
 -- how many pixels of the window are in record n
 unfoldable pub area : ℕ → List ℕ → Window → ℕ → ℕ

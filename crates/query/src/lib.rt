@@ -14,8 +14,7 @@ ghost use Rattle.key.specs.Spread.{spreads};
 ghost use Rattle.key.specs.Along.{onesTable, TellsOnes};
 ghost use Rattle.window.specs.Window.{In, Inside};
 ghost use Rattle.map.specs.Sound.{Follow};
-ghost use Rattle.border.specs.Step.{Usable};
-ghost use Rattle.border.specs.Open.{spent};
+ghost use Rattle.used.specs.Used.{Usable, spent};
 ghost use Rattle.query.specs.Classes.{classed, totals};
 ghost use Rattle.query.specs.Gather.{shared, clipped, gathered, Hands, Fills, Gathering};
 ghost use Rattle.query.specs.Select.{pickedRun, pickedAround, picked, Overlapped, selection};
@@ -65,9 +64,9 @@ fn seek(
 {
     let w = window.w as usize;
     border::fill(border, 0, w, window.r0);
-    let mut at = border::start(window);
+    let mut at = openings::start(window);
     loop {
-        let found = border::next_opening(table, m, m, keys, window, at, border);
+        let found = openings::next_opening(table, m, m, keys, window, at, border);
         let Found::Opening {
             first,
             count,
@@ -96,7 +95,7 @@ pub fn exist(
 ) -> Existence
     ensures { λ r. ⌜ after r (now (border .exit)) ≡ existOf m (now (keys .entry)) (now (classes .entry)) window class (now (border .entry)) ⌝ }
 {
-    let verdict = border::usable(m, keys, classes, window, border.len());
+    let verdict = used::usable(m, keys, classes, window, border.len());
     if let Verdict::Refused { number, place } = verdict {
         return Existence::Refused { number, place };
     }
@@ -216,9 +215,9 @@ fn add_up(
     ensures { λ r. ⌜ (now (counts .exit) ≡ totals m (now (keys .entry)) (now (classes .entry)) window) × (now (border .exit) ≡ spent window (now (border .entry))) ⌝ }
 {
     border::fill(border, 0, window.w as usize, window.r0);
-    let mut at = border::start(window);
+    let mut at = openings::start(window);
     loop {
-        let found = border::next_opening(table, m, m, keys, window, at, border);
+        let found = openings::next_opening(table, m, m, keys, window, at, border);
         let Found::Opening {
             row,
             col,
@@ -275,7 +274,7 @@ pub fn report(
 ) -> Queried
     ensures { λ r. ⌜ after r (now (border .exit), now (out .exit)) ≡ reportOf m (now (keys .entry)) (now (classes .entry)) window (now (border .entry)) (now (out .entry)) ⌝ }
 {
-    let verdict = border::usable(m, keys, classes, window, border.len());
+    let verdict = used::usable(m, keys, classes, window, border.len());
     if let Verdict::Refused { number, place } = verdict {
         return Queried::Refused { number, place };
     }
@@ -448,7 +447,7 @@ pub fn select(
 ) -> Queried
     ensures { λ r. ⌜ after r (now (border .exit), now (out .exit)) ≡ selectOf m (now (keys .entry)) (now (classes .entry)) window class (now (border .entry)) (now (out .entry)) ⌝ }
 {
-    let verdict = border::usable(m, keys, classes, window, border.len());
+    let verdict = used::usable(m, keys, classes, window, border.len());
     if let Verdict::Refused { number, place } = verdict {
         return Queried::Refused { number, place };
     }

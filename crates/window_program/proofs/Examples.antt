@@ -20,7 +20,7 @@ use Rattle.map.specs.Records.{recordOf, exponentOf}
 use Rattle.map.specs.Runs.{runOf}
 use Rattle.border.specs.Openings.{isHanded, opening, openFrom, openings, handedCount, cellsOf}
 use Rattle.map.specs.Spans.{within}
-use Rattle.border.specs.Open.{useRefusals, borderRefusals}
+use Rattle.used.specs.Used.{useRefusals, borderRefusals}
 use Rattle.numbers.specs.Numbers.{bytes, number, bytesOf, numbers}
 use Rattle.house.specs.File.{header, fileOf, layoutRefusals, fileM, fileQ, readRefusals, fileKeys, fileClasses}
 use Rattle.query.specs.Classes.{hasClass, total, totals}

@@ -13,11 +13,13 @@ use Rattle.answers.proofs.Laws.{on-passed, on-refused, refused-not-passed}
 use Rattle.answers.specs.After.{after}
 use Rattle.window.specs.declared.Window.{Window}
 use Rattle.border.specs.Openings.{openings, handedCount, cellsOf}
-use Rattle.border.specs.declared.Opened.{Opened}
-use Rattle.border.specs.declared.Opened.the-variants as opened
-use Rattle.border.specs.Open.{useRefusals, openOf}
-use Rattle.border.specs.Promises.{Answered}
-use Rattle.border.proofs.Laws.{openings-fit, used-roomy, answered}
+use Rattle.open.specs.declared.Opened.{Opened}
+use Rattle.open.specs.declared.Opened.the-variants as opened
+use Rattle.used.specs.Used.{useRefusals}
+use Rattle.open.specs.Open.{openOf}
+use Rattle.open.specs.Promises.{Answered}
+use Rattle.open.proofs.Laws.{openings-fit, answered}
+use Rattle.used.proofs.Laws.{used-roomy}
 use Rattle.query.specs.Classes.{totals}
 use Rattle.query.specs.declared.Queried.{Queried}
 use Rattle.query.specs.declared.Queried.the-variants as queried

@@ -15,7 +15,7 @@ use Rattle.window.specs.declared.Window.{Window}
 use Rattle.window.specs.Window.{window}
 use Rattle.map.specs.Check.{mapRefusals}
 use Rattle.border.specs.Openings.{openings, handedCount, cellsOf}
-use Rattle.border.specs.Open.{useRefusals}
+use Rattle.used.specs.Used.{useRefusals}
 use Rattle.numbers.specs.Numbers.{number}
 use Rattle.house.specs.File.{fileM, fileKeys, fileClasses, FileMap, readRefusals}
 use Rattle.query.specs.Classes.{totals}

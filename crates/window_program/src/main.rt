@@ -1,10 +1,10 @@
 // The window program: it reads a house file and then windows from standard input, and prints for each window what was found.
 // What is printed is put into bytes first, by functions whose contracts say which bytes. Which bytes are handed over, and what is written when, no contract can say.
 use answers::Verdict;
-use border::Opened;
 use house::Reading;
 use libc::STDIN_FILENO;
 use libc::STDOUT_FILENO;
+use open::Opened;
 use query::Queried;
 use window::Window;
 ghost use mathlib.Core.Path.{_≡_};
@@ -112,7 +112,7 @@ fn put_opened(
     ensures { λ r. ⌜ after r (now (out .exit)) ≡ putOf (foundBy m (now (keys .entry)) window (now (totals .entry)) pixels) (now (out .entry)) ⌝ }
 {
     let mut cells = [0u32; 3000];
-    let opened = border::open(m, keys, classes, window, border, &mut cells);
+    let opened = open::open(m, keys, classes, window, border, &mut cells);
     match opened {
         Opened::Refused { number, place } => put_refusal(number, place, out),
         Opened::Done { openings, records } => {

@@ -5,8 +5,8 @@ use lib.ListN.{length}
 use borrow.Author.Needs.{needs}
 use Rattle.answers.specs.declared.Verdict.the-variants.{Passed}
 use Rattle.answers.specs.Refusals.{verdict}
-use Rattle.border.specs.Open.{useRefusals}
-use Rattle.border.proofs.Laws.{use-known, use-same, use-whole}
+use Rattle.used.specs.Used.{useRefusals}
+use Rattle.used.proofs.Laws.{use-known, use-same, use-whole}
 use Rattle.query.proofs.Tables.{exist-refused, exist-done}
 use Rattle.query.proofs.exist.Statement.{statement}
 use Rattle.query.proofs.exist.Tie as tie

@@ -11,12 +11,10 @@ use Rattle.window.specs.declared.Window.{Window}
 use Rattle.window.specs.Window.{Inside}
 use Rattle.map.specs.Sound.{Follow}
 use Rattle.map.proofs.Laws.{spaced}
 use Rattle.border.specs.Openings.{openings, cellsOf}
-use Rattle.border.specs.Open.{useRefusals}
-use Rattle.border.proofs.Use.{use-known, use-whole}
-use Rattle.border.proofs.Hands.{cells-length}
-use Rattle.border.proofs.Fewest.{bringing-records}
-use Rattle.border.proofs.Whole.{all-bring}
+use Rattle.used.specs.Used.{useRefusals}
+use Rattle.used.proofs.Laws.{use-known, use-whole}
+use Rattle.border.proofs.Laws.{cells-length, bringing-records, all-bring}
 
 -- in a whole map each opening brings a record of its own, whatever the cap
 pub openings-records : {m top : ℕ} {keys : List ℕ} → Follow m 0 keys → {W : Window} → Inside m W → top ≤ m → length (openings m top keys W) ≤ length keys

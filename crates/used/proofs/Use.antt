@@ -19,9 +19,8 @@ use Rattle.window.proofs.Laws.{window-refused, window-passed, window-inside, nu
 use Rattle.map.specs.Check.{mapRefusals}
 use Rattle.map.specs.Sound.{Follow}
 use Rattle.map.proofs.Laws.{sound-map, spaced, numbered-map}
-use Rattle.border.specs.Step.{Usable}
-use Rattle.border.specs.Open.{borderRefusals, useRefusals}
-use Rattle.border.specs.Promises.{Answerable}
+use Rattle.used.specs.Used.{Usable, borderRefusals, useRefusals}
+use Rattle.used.specs.Promises.{Answerable}
 
 module _ (W : Window) (cells : ℕ) where
   pub border-passed : (verdict (borderRefusals W cells) ≡ verdict-of.Passed) ↔ (W .w ≤ cells)

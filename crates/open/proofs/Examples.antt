@@ -1,0 +1,69 @@
+-- Opening, in examples: on the map and the window of P1.
+-- Assumes nothing.
+use mathlib.Core.Path.{_≡_, refl}
+use mathlib.Core.List.{List, [], _∷_}
+use Prim.Native.Nat.{ℕ}
+use native.Mathlib.Omega.{arith}
+use lib.ListN.{take}
+use Rattle.lists.specs.Lists.{upFrom, any, keep, before, howMany, greatest}
+use Rattle.answers.specs.Refusals.{answer}
+use Rattle.answers.specs.Sizes.{wrongCount, sizeRefusals, pictureRefusals, countRefusals}
+use Rattle.answers.specs.Cells.{overwrite}
+use Rattle.answers.specs.After.{after, roomRefusals, roomFor}
+use Rattle.key.specs.Spread.{spreadTo, spread}
+use Rattle.key.specs.Picture.{place}
+use Rattle.key.specs.Key.{pixelKey, blockKey}
+use Rattle.key.specs.Form.{from, formOf}
+use Rattle.window.specs.declared.Window.{Window}
+use Rattle.window.specs.Window.{window, beyond, outside, windowRefusals}
+use Rattle.window.specs.Blocks.{floor, lies, fits, exponent, corner, across, rows, isCorner, maximal}
+use Rattle.window.specs.Keys.{keyOf, keysOf}
+use Rattle.map.specs.Spans as spans
+use Rattle.map.specs.Check.{late, refusalsFrom, mapRefusals}
+use Rattle.map.specs.Records.{recordOf, exponentOf}
+use Rattle.map.specs.Runs.{runOf}
+use Rattle.open.specs.declared.Opened.the-variants.{Done, Refused}
+use Rattle.border.specs.Openings.{isHanded, opening, openFrom, openings, handedCount, cellsOf}
+use Rattle.map.specs.Spans.{within}
+use Rattle.used.specs.Promises.{Answerable}
+use Rattle.used.specs.Used.{useRefusals, spent, usedFor, borderRefusals}
+use Rattle.open.specs.Open.{openOf}
+use Rattle.used.proofs.Laws.{use-answerable}
+
+abbrev keys : List ℕ
+keys = 5 ∷ 11 ∷ 12 ∷ 13 ∷ 14 ∷ 15 ∷ 20 ∷ []
+
+abbrev W : Window
+W = window 0 1 3 3
+
+-- old contents of a border and of an answer slice
+abbrev old : List ℕ
+old = 90 ∷ 91 ∷ 92 ∷ 93 ∷ 94 ∷ 95 ∷ 96 ∷ 97 ∷ 98 ∷ 99 ∷ 100 ∷ 101 ∷ 102 ∷ []
+
+pub record Examples : Type 0 where
+  -- borders of two and of three cells, answer slices of 11 and of 12 cells
+  pub narrow : openOf 2 keys 7 W (take 2 old) old ≡ after (Refused 7 3) (take 2 old, old)
+  pub short : openOf 2 keys 7 W (take 3 old) (take 11 old) ≡ after (Refused 8 12) (3 ∷ 3 ∷ 3 ∷ [], take 11 old)
+  pub done : openOf 2 keys 7 W (take 4 old) old ≡ after (Done 4 7) (3 ∷ 3 ∷ 3 ∷ 93 ∷ [], 7 ∷ 0 ∷ 1 ∷ 10 ∷ 1 ∷ 4 ∷ 17 ∷ 5 ∷ 1 ∷ 21 ∷ 6 ∷ 1 ∷ 102 ∷ [])
+  pub answerable : Answerable 2 keys 7 W 3
+  pub not-answerable : Answerable 2 keys 7 W 2 → ⊥
+  -- refusals in their order: the map's, then the window's, then the border's
+  pub map-first : openOf 2 (take 6 keys) 6 (window 0 0 0 0) [] [] ≡ after (Refused 5 6) ([], [])
+  pub window-next : openOf 2 keys 7 (window 2 0 3 1) [] [] ≡ after (Refused 6 0) ([], [])
+  pub large : openOf 13 [] 7 (window 0 0 0 0) [] [] ≡ after (Refused 1 0) ([], [])
+
+pub examples : Examples
+unfolding pictureRefusals countRefusals borderRefusals roomRefusals roomFor answer wrongCount sizeRefusals overwrite upFrom spreadTo spread place pixelKey blockKey from formOf beyond outside windowRefusals keep floor lies
+    fits greatest exponent corner across rows isCorner maximal keyOf keysOf spans.malformed spans.formExponent spans.start spans.end spans.holds
+    spans.overlap late refusalsFrom mapRefusals before howMany recordOf exponentOf runOf any within isHanded opening openFrom openings
+    handedCount cellsOf useRefusals spent usedFor openOf
+examples = record {
+  narrow = refl;
+  short = refl;
+  done = refl;
+  answerable = use-answerable 2 keys 7 W 3 .0 refl;
+  not-answerable = λ A. omega (arith, A .wide);
+  map-first = refl;
+  window-next = refl;
+  large = refl;
+}

@@ -1,0 +1,5 @@
+mod Opening
+mod Answered
+mod Examples
+mod Room
+pub mod Laws

@@ -1,0 +1,80 @@
+-- Opening as a use of a map and a window, and passes over the maximal blocks with and without room.
+-- Assumes nothing.
+use mathlib.Core.Path.{_≡_, refl, sym, ap, _∙_}
+use mathlib.Core.List.{List, []}
+use Prim.Native.Nat.{ℕ, _+_, _*_, _/_, _≤_, _<_}
+use native.Mathlib.Omega.{arith}
+use lib.ListN.{length, take, replicate, length-take, length-replicate}
+use lib.Seq.{take-all}
+use Rattle.answers.specs.declared.Verdict.the-variants as verdict-of
+use Rattle.answers.specs.Refusals.{verdict}
+use Rattle.answers.specs.Cells.{overwrite}
+use Rattle.answers.specs.After.{after}
+use Rattle.answers.proofs.Laws as Answers
+use Rattle.answers.proofs.Laws.{overwrite-length, overwrite-part, overwrite-again}
+use Rattle.window.specs.declared.Window.{Window}
+use Rattle.open.specs.declared.Opened.the-variants.{Done, Refused}
+use Rattle.used.proofs.Laws.{used-refused, used-short, used-done}
+use Rattle.border.specs.declared.Totals.{Totals}
+use Rattle.border.specs.Openings.{openings, handedCount, cellsOf}
+use Rattle.border.specs.Cells.{fitting}
+use Rattle.used.specs.Used.{useRefusals, spent, usedFor}
+use Rattle.border.specs.Found.{Passed}
+use Rattle.open.specs.Open.{openOf, accepted}
+use Rattle.border.proofs.Laws.{cells-length}
+
+module _ (m : ℕ) (keys : List ℕ) (classes : ℕ) (W : Window) (border out : List ℕ) where
+  -- opening is such a use
+  pub open-is : openOf m keys classes W border out
+      ≡ (let os = openings m m keys W in usedFor Refused (Done (length os) (handedCount os)) (cellsOf os) m keys classes W border out)
+  unfolding openOf
+  open-is = refl
+
+  pub open-refused : {n p : ℕ} → verdict (useRefusals m keys classes W (length border)) ≡ verdict-of.Refused n p → openOf m keys classes W border out ≡ after (Refused n p) (border, out)
+  unfolding openOf
+  open-refused e = used-refused Refused _ _ m keys classes W border out e
+
+  module _ (e : verdict (useRefusals m keys classes W (length border)) ≡ verdict-of.Passed) where
+    pub open-short : {needed : ℕ} {left out′ : List ℕ} → needed ≡ 3 * length (openings m m keys W) → length out < needed → left ≡ spent W border → out′ ≡ out
+        → after (Refused 8 needed) (left, out′) ≡ openOf m keys classes W border out
+    unfolding openOf
+    open-short d l spends same =
+        let n = d ∙ sym (cells-length (openings m m keys W)) in
+        rw (n, spends, same) (sym (used-short Refused _ _ m keys classes W border out e (omega (arith, n))))
+
+    pub open-done : 3 * length (openings m m keys W) ≤ length out → openOf m keys classes W border out ≡ accepted m keys W border out
+    unfolding openOf accepted
+    open-done l = used-done Refused _ _ m keys classes W border out e (omega (arith, cells-length (openings m m keys W)))
+
+-- a border that is spent already is spent no further
+pub accepted-again : (m : ℕ) (keys : List ℕ) (W : Window) (border out : List ℕ) → accepted m keys W (spent W border) out ≡ accepted m keys W border out
+unfolding accepted spent
+accepted-again m keys W border out =
+    ap (λ (t : List ℕ). after (Done (length (openings m m keys W)) (handedCount (openings m m keys W))) (t, overwrite (cellsOf (openings m m keys W)) out))
+    (overwrite-again (replicate (W .w) (W .r0 + W .h)) border)
+
+-- a pass over a slice with no room
+pub passed-none : {m top : ℕ} {keys : List ℕ} {W : Window} {border₀ border out : List ℕ} {totals : Totals} → Passed m top keys W border₀ [] totals border out → out ≡ []
+unfolding fitting
+passed-none p = p .written ∙ sym (overwrite-part [] [])
+
+-- a pass keeps the lengths of both slices
+pub passed-same : {m top : ℕ} {keys : List ℕ} {W : Window} {border₀ out₀ border out : List ℕ} {totals : Totals}
+    → Passed m top keys W border₀ out₀ totals border out → W .w ≤ length border₀
+    → (length border ≡ length border₀) × (length out ≡ length out₀)
+unfolding spent fitting
+passed-same {m} {top} {keys} {W} {border₀} {out₀} p wide =
+    let l : length (replicate (W .w) (W .r0 + W .h)) ≡ W .w = length-replicate (W .w) (W .r0 + W .h) in
+    let cells = cellsOf (openings m top keys W) in (
+      ap length (p .ends) ∙ overwrite-length (replicate (W .w) (W .r0 + W .h)) border₀ (rw l wide),
+      ap length (p .written) ∙ overwrite-length (take (3 * (length out₀ / 3)) cells) out₀ (omega (arith, length-take (3 * (length out₀ / 3)) cells)),
+    )
+
+-- a pass over a slice with room for all
+pub passed-all : {m : ℕ} {keys : List ℕ} {W : Window} {border₀ out₀ border out : List ℕ} {totals : Totals} → Passed m m keys W border₀ out₀ totals border out
+    → 3 * length (openings m m keys W) ≤ length out₀ → after (Done (totals .openings) (totals .records)) (border, out) ≡ accepted m keys W border₀ out₀
+unfolding accepted fitting
+passed-all {m} {keys} {W} {out₀ = out₀} p l =
+    let os = openings m m keys W in
+    let all = take-all (3 * (length out₀ / 3)) (cellsOf os) (omega (arith, cells-length os)) in
+    rw (p .many, p .records, p .ends, p .written, all)

@@ -1,0 +1,49 @@
+// Opening a window on a map.
+use answers::Verdict;
+use window::Window;
+ghost use mathlib.Core.Path.{_≡_};
+ghost use Prim.Native.Nat.{_-_, _≤_};
+ghost use lib.ListN.{length};
+ghost use Rattle.answers.specs.Refusals.{verdict};
+ghost use Rattle.answers.specs.After.{after};
+ghost use Rattle.open.specs.Open.{openOf};
+
+pub enum Opened {
+    Done { openings: u32, records: u32 },
+    Refused { number: u32, place: u32 },
+}
+
+// Opens the window on the map. A slice with room for as many openings as a window can have takes one pass; otherwise a first pass counts them and writes none, since 8 writes
+// nothing into the slice.
+pub fn open(
+    m: u32,
+    keys: &[u32],
+    classes: &[u8],
+    window: Window,
+    border: &mut [u16],
+    out: &mut [u32],
+) -> Opened
+    ensures { λ r. ⌜ after r (now (border .exit), now (out .exit)) ≡ openOf m (now (keys .entry)) (length (now (classes .entry))) window (now (border .entry)) (now (out .entry)) ⌝ }
+{
+    let verdict = used::usable(m, keys, classes, window, border.len());
+    if let Verdict::Refused { number, place } = verdict {
+        return Opened::Refused { number, place };
+    }
+    let table = key::spread_table();
+    let most = 12 * ((window.w as usize) + (window.h as usize));
+    if out.len() < most {
+        let counted = openings::pass(&table, m, m, keys, window, border, &mut out[..0]);
+        let needed = 3 * counted.openings;
+        if out.len() < needed as usize {
+            return Opened::Refused {
+                number: 8,
+                place: needed,
+            };
+        }
+    }
+    let totals = openings::pass(&table, m, m, keys, window, border, out);
+    Opened::Done {
+        openings: totals.openings,
+        records: totals.records,
+    }
+}

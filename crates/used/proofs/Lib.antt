@@ -1,0 +1,3 @@
+mod Use
+mod Used
+pub mod Laws

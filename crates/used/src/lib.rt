@@ -1,0 +1,32 @@
+// What any use of a map and a window asks first, and what it leaves.
+use answers::Verdict;
+use window::Window;
+ghost use mathlib.Core.Path.{_≡_};
+ghost use Prim.Native.Nat.{_-_, _≤_};
+ghost use lib.ListN.{length};
+ghost use Rattle.answers.specs.Refusals.{verdict};
+ghost use Rattle.used.specs.Used.{useRefusals};
+
+// Refusals 1 to 7: whoever uses a map and a window asks this first.
+pub fn usable(m: u32, keys: &[u32], classes: &[u8], window: Window, cells: usize) -> Verdict
+    ensures { λ r. ⌜ r ≡ verdict (useRefusals m (now (keys .entry)) (length (now (classes .entry))) window cells) ⌝ }
+{
+    let sound = map::sound(m, keys, classes);
+    if let Verdict::Refused { number, place } = sound {
+        return Verdict::Refused { number, place };
+    }
+    if window::outside(m, window) {
+        return Verdict::Refused {
+            number: 6,
+            place: 0,
+        };
+    }
+    let w = window.w;
+    if cells < w as usize {
+        return Verdict::Refused {
+            number: 7,
+            place: w as u32,
+        };
+    }
+    Verdict::Passed
+}
