@@ -12,7 +12,8 @@ use borrow.Author.Tests.{lt-ltb, le-ltb}
 use Rattle.lists.specs.Lists.{upFrom, howMany}
 use Rattle.lists.proofs.Laws.{up-in, up-length, up-append, many-same, many-none, many-all, many-some, many-append}
 use Rattle.window.specs.declared.Window.{Window}
-use Rattle.window.specs.Window.{Px, In}
+use Rattle.key.specs.Picture.{Px}
+use Rattle.window.specs.Window.{In}
 use Rattle.window.specs.Blocks.{floor}
 use Rattle.window.proofs.Laws.{floor-le, floor-lt, floor-eq}
 use Rattle.border.specs.Cells.{filled, west, east, south, pushed, closed}

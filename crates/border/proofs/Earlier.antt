@@ -8,9 +8,9 @@ use Prim.Native.Nat.{ℕ, _≤_, _<_}
 use native.Mathlib.Omega.{arith}
 use lib.ListN.{length}
 use Rattle.lists.specs.Lists.{Ordered}
-use Rattle.key.specs.Picture.{place}
+use Rattle.key.specs.Picture.{place, Px}
 use Rattle.window.specs.declared.Window.{Window}
-use Rattle.window.specs.Window.{Px, In, Inside}
+use Rattle.window.specs.Window.{In, Inside}
 use Rattle.window.specs.Blocks.{maximal, Before}
 use Rattle.window.specs.Keys.{keyOf}
 use Rattle.window.proofs.Laws.{before-irrefl, listed-ordered, ordered-front, front-all}

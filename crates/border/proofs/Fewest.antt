@@ -13,7 +13,8 @@ use lib.ListN.{length, length-map}
 use Rattle.lists.specs.Lists.{upFrom, keep}
 use Rattle.lists.proofs.Laws.{ordered-imp, ordered-keep, keep-in, keep-true, pigeon, up-in, up-length}
 use Rattle.window.specs.declared.Window.{Window}
-use Rattle.window.specs.Window.{Px, Inside}
+use Rattle.key.specs.Picture.{Px}
+use Rattle.window.specs.Window.{Inside}
 use Rattle.window.specs.Blocks.{maximal, Before}
 use Rattle.window.specs.Keys.{keyOf, keysOf}
 use Rattle.window.proofs.Laws.{before-irrefl, trichotomy, keys-of, blocks-few, blocks-capped}

@@ -7,7 +7,7 @@ use native.Mathlib.Omega.{arith}
 use lib.ListN.{length, replicate, length-replicate, take-append-drop}
 use Rattle.answers.proofs.Laws.{overwrite-part}
 use Rattle.window.specs.declared.Window.{Window}
-use Rattle.window.specs.Window.{Px}
+use Rattle.key.specs.Picture.{Px}
 use Rattle.window.specs.Blocks.{exponent, maximal}
 use Rattle.window.specs.Walk.{Walked}
 use Rattle.window.specs.Keys.{keyOf}

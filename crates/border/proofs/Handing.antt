@@ -9,11 +9,11 @@ use native.Mathlib.Omega.{arith}
 use lib.ListN.{length, getD}
 use Rattle.lists.specs.Lists.{any}
 use Rattle.lists.proofs.Laws.{any-has, has-any}
-use Rattle.key.specs.Picture.{place}
+use Rattle.key.specs.Picture.{place, Px}
 use Rattle.key.specs.Form.{formOf}
 use Rattle.key.proofs.Laws.{place-one}
 use Rattle.window.specs.declared.Window.{Window}
-use Rattle.window.specs.Window.{Px, In, Inside}
+use Rattle.window.specs.Window.{In, Inside}
 use Rattle.window.specs.Blocks.{exponent, corner, maximal}
 use Rattle.window.specs.Keys.{keyOf}
 use Rattle.window.proofs.Laws.{same-up, corner-in, corner-corner, corner→same, listed→, →listed, pixel-in}

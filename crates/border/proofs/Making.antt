@@ -12,7 +12,8 @@ use borrow.Author.Tests.{lt-ltb, le-ltb}
 use Rattle.lists.proofs.Tests.{refuted}
 use Rattle.answers.specs.After.{After, after}
 use Rattle.window.specs.declared.Window.{Window}
-use Rattle.window.specs.Window.{Px, Inside}
+use Rattle.key.specs.Picture.{Px}
+use Rattle.window.specs.Window.{Inside}
 use Rattle.window.specs.Blocks.{maximal}
 use Rattle.window.specs.Keys.{keyOf}
 use Rattle.map.specs.Sound.{Spaced}

@@ -7,7 +7,8 @@ use Prim.Native.Nat.{ℕ, _≤_}
 use Rattle.lists.specs.Lists.{Ordered, none, more}
 use Rattle.lists.proofs.Laws.{ordered-append, up-distinct}
 use Rattle.window.specs.declared.Window.{Window}
-use Rattle.window.specs.Window.{Px, Inside}
+use Rattle.key.specs.Picture.{Px}
+use Rattle.window.specs.Window.{Inside}
 use Rattle.window.specs.Blocks.{maximal, Before}
 use Rattle.window.specs.Keys.{keyOf}
 use Rattle.map.specs.Sound.{Spaced}

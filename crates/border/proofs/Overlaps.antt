@@ -8,12 +8,12 @@ use Prim.Native.Nat.{ℕ, max, _+_, _^_, _≤_, _<_}
 use native.Mathlib.Decide.{decLt}
 use native.Mathlib.Omega.{arith}
 use lib.ListN.{length, getD}
-use Rattle.key.specs.Picture.{Pixel, place, PixelAt}
+use Rattle.key.specs.Picture.{Pixel, place, PixelAt, Px}
 use Rattle.key.specs.Form.{formOf}
 use Rattle.key.specs.Blocks.{Names, Among, Covers, Stand, within as lies-in, around, after, before}
 use Rattle.key.proofs.Laws.{block-lies, blocks-stand, holds-same, place-onto, pow-least, size-le}
 use Rattle.window.specs.declared.Window.{Window}
-use Rattle.window.specs.Window.{Px, In, Inside}
+use Rattle.window.specs.Window.{In, Inside}
 use Rattle.window.specs.Blocks.{Same, exponent, corner}
 use Rattle.window.specs.Keys.{keyOf}
 use Rattle.window.proofs.Laws.{same-div, fits-all, exponent-fits, same→corner, corner→same, pixel-in, key-named}

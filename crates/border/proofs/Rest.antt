@@ -5,7 +5,7 @@ use mathlib.Core.List.{List, [], _∷_, _++_, map, map-append, append-assoc, app
 use Prim.Native.Nat.{ℕ}
 use lib.ListN.{length}
 use Rattle.window.specs.declared.Window.{Window}
-use Rattle.window.specs.Window.{Px}
+use Rattle.key.specs.Picture.{Px}
 use Rattle.window.specs.Blocks.{maximal}
 use Rattle.window.specs.Keys.{keyOf}
 use Rattle.border.specs.declared.Stepped.{Stepped}

@@ -7,7 +7,8 @@ use native.Mathlib.Omega.{arith}
 use lib.ListN.{length}
 use Rattle.window.specs.declared.Window.{Window}
 use Rattle.window.specs.declared.Next.the-variants.{Block, End}
-use Rattle.window.specs.Window.{Px, In}
+use Rattle.key.specs.Picture.{Px}
+use Rattle.window.specs.Window.{In}
 use Rattle.window.specs.Walk.{blocksFrom, Goes, block, end}
 use Rattle.window.proofs.Laws.{walked-next, walked-split, goes-in, goes-corner, goes-exponent}
 use Rattle.border.specs.declared.Stepped.{Stepped}

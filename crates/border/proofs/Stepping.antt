@@ -10,7 +10,7 @@ use lib.ListN.{length, getD, take, drop, replicate, length-replicate}
 use Rattle.answers.proofs.Laws.{overwrite-part, overwrite-same}
 use Rattle.answers.specs.After.{After}
 use Rattle.window.specs.declared.Window.{Window}
-use Rattle.window.specs.Window.{Px}
+use Rattle.key.specs.Picture.{Px}
 use Rattle.window.specs.Blocks.{exponent, maximal}
 use Rattle.window.specs.Keys.{keyOf}
 use Rattle.map.specs.Records.{pixelTile, pixelExponent}

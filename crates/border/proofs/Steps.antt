@@ -6,10 +6,9 @@ use Prim.Native.Nat.{ℕ, _-_, _≤_, _<_}
 use native.Mathlib.Omega.{arith}
 use lib.ListN.{length, getD}
 use Rattle.answers.specs.After.{after}
-use Rattle.key.specs.Picture.{Pixel}
+use Rattle.key.specs.Picture.{Pixel, Px}
 use Rattle.key.specs.Key.{blockKey}
 use Rattle.window.specs.declared.Window.{Window}
-use Rattle.window.specs.Window.{Px}
 use Rattle.window.specs.Keys.{keyOf}
 use Rattle.window.proofs.Laws.{exponent-le, pixel-in, key-at}
 use Rattle.map.specs.declared.Run.{Run}

@@ -7,7 +7,8 @@ use Prim.Native.Nat.{ℕ, _≤_}
 use native.Mathlib.Omega.{arith}
 use lib.ListN.{length}
 use Rattle.window.specs.declared.Window.{Window}
-use Rattle.window.specs.Window.{Px, In, Inside}
+use Rattle.key.specs.Picture.{Px}
+use Rattle.window.specs.Window.{In, Inside}
 use Rattle.window.specs.Blocks.{maximal}
 use Rattle.window.proofs.Laws.{pixel-in, key-named}
 use Rattle.map.specs.Sound.{Follow}

@@ -7,7 +7,8 @@ use lib.Dec.{ltb}
 use lib.ListN.{length}
 use Rattle.lists.specs.Lists.{keep}
 use Rattle.window.specs.declared.Window.{Window}
-use Rattle.window.specs.Window.{Px, In}
+use Rattle.key.specs.Picture.{Px}
+use Rattle.window.specs.Window.{In}
 use Rattle.window.specs.Keys.{keyOf, keysOf}
 use Rattle.map.specs.Records.{pixelRecord}
 use Rattle.border.specs.Openings.{met, Opening, made, opening, hands}

@@ -10,7 +10,8 @@ use lib.ListN.{getD}
 use Rattle.answers.specs.After.{After, after}
 use Rattle.used.specs.Used.{Usable}
 use Rattle.window.specs.declared.Window.{Window}
-use Rattle.window.specs.Window.{Px, In}
+use Rattle.key.specs.Picture.{Px}
+use Rattle.window.specs.Window.{In}
 use Rattle.window.specs.Blocks.{exponent, corner, maximal}
 use Rattle.window.specs.Keys.{keyOf}
 use Rattle.map.specs.Records.{pixelExponent}

@@ -24,9 +24,9 @@ use Rattle.map.proofs.Laws.{sound-map, check-is, numbered-map}
 use Rattle.used.specs.Used.{useRefusals}
 use Rattle.used.specs.Promises.{Answerable}
 use Rattle.used.proofs.Laws.{use-answerable, numbered-use}
-use Rattle.query.specs.declared.Existence.the-variants as existence
-use Rattle.query.specs.Classes.{exists}
-use Rattle.query.proofs.Laws.{exist-by-lengths, exist-untouched}
+use Rattle.exist.specs.declared.Existence.the-variants as existence
+use Rattle.exist.specs.Exist.{exists}
+use Rattle.exist.proofs.Laws.{exist-by-lengths, exist-untouched}
 use Rattle.house.specs.declared.Reading.the-variants as reading
 use Rattle.house.specs.declared.Writing.the-variants as writing
 use Rattle.house.specs.File.{readRefusals, writeRefusals, fileM, fileQ}

@@ -20,12 +20,17 @@ use Rattle.map.proofs.Laws.{spaced}
 use Rattle.used.specs.Used.{useRefusals, spent, usedFor}
 use Rattle.used.specs.Promises.{Answerable}
 use Rattle.used.proofs.Laws.{use-answerable}
-use Rattle.query.specs.declared.Queried.the-variants.{Done, Refused}
-use Rattle.query.specs.Classes.{exists, totals}
-use Rattle.query.specs.Select.{selection}
-use Rattle.query.proofs.Laws.{exists-means, exist-leaves, report-is, totals-length, totals-at, totals-sum, select-is, selection-pixels, selection-one, selection-once, selection-few}
+use Rattle.report.specs.declared.Reported.the-variants as reported-as
+use Rattle.select.specs.declared.Selected.the-variants as selected-as
+use Rattle.exist.specs.Exist.{exists}
+use Rattle.totals.specs.Totals.{totals}
+use Rattle.select.specs.Select.{selection}
+use Rattle.exist.proofs.Laws.{exists-means, exist-leaves}
+use Rattle.report.proofs.Laws.{report-is}
+use Rattle.totals.proofs.Laws.{totals-length, totals-at, totals-sum}
+use Rattle.select.proofs.Laws.{select-is, selection-pixels, selection-one, selection-once, selection-few}
 use Rattle.lutniorad.specs.declared.Answer.{Answer}
-use Rattle.lutniorad.specs.Numbers.{values, refused, ofQueried}
+use Rattle.lutniorad.specs.Numbers.{values, refused, ofReported, ofSelected}
 use Rattle.lutniorad.specs.Calls.{Exist, Report, Select}
 use Rattle.lutniorad.specs.Promises.{RefusalLeaves, SomePixel, ExistPromise, ReportPromise, SelectPromise}
 use Rattle.lutniorad.proofs.Answered.{sayExists, exist-says, exist-answered}
@@ -62,7 +67,7 @@ module _ (m : ℕ) (keys classes : List ℕ) (W : Window) (border out : List ℕ
 
   -- the call in numbers
   reported : after r (border′, out′) ≡ usedFor refused (values (W .h * W .w) 0) counts m keys (length classes) W border out
-  reported = used-crossed ofQueried Refused (Done (W .h * W .w)) counts m keys (length classes) W border out (report-is m keys classes W border out) call
+  reported = used-crossed ofReported reported-as.Refused (reported-as.Done (W .h * W .w)) counts m keys (length classes) W border out (report-is m keys classes W border out) call
 
   pub report-says : r
       ≡ answer refused (useRefusals m keys (length classes) W (length border) ++ roomRefusals (length out) (length counts)) (values (W .h * W .w) 0)
@@ -100,7 +105,7 @@ module _ (m : ℕ) (keys classes : List ℕ) (W : Window) (class : ℕ) (border 
 
   -- the call in numbers
   selects : after r (border′, out′) ≡ usedFor refused (values (length ks) 0) ks m keys (length classes) W border out
-  selects = used-crossed ofQueried Refused (Done (length ks)) ks m keys (length classes) W border out (select-is m keys classes W class border out) call
+  selects = used-crossed ofSelected selected-as.Refused (selected-as.Done (length ks)) ks m keys (length classes) W border out (select-is m keys classes W class border out) call
 
   pub select-says : r ≡ answer refused (useRefusals m keys (length classes) W (length border) ++ roomRefusals (length out) (length ks)) (values (length ks) 0)
   select-says = used-says (length ks) 0 ks m keys (length classes) W border out selects

@@ -13,7 +13,8 @@ use Rattle.answers.specs.After.{after, roomRefusals}
 use Rattle.answers.proofs.Laws.{on-passed, take-overwrite}
 use Rattle.key.specs.Key.{blockKey}
 use Rattle.window.specs.declared.Window.{Window}
-use Rattle.window.specs.Window.{Px, Inside}
+use Rattle.key.specs.Picture.{Px}
+use Rattle.window.specs.Window.{Inside}
 use Rattle.window.specs.Blocks.{Maximal, exponent, maximal}
 use Rattle.window.specs.Keys.{keysOf}
 use Rattle.window.proofs.Laws.{maximal-listed, listed-ordered, blocks-few, keys-of, keys-length, key-at}

@@ -26,10 +26,12 @@ use Rattle.map.specs.Runs.{runOf}
 use Rattle.border.specs.Openings.{isHanded, made, opening, openFrom, openings, handedCount}
 use Rattle.map.specs.Spans.{within}
 use Rattle.used.specs.Used.{useRefusals, spent, usedFor, borderRefusals}
-use Rattle.query.specs.declared.Queried.the-variants.{Done}
-use Rattle.query.specs.Classes.{hasClass, total, totals}
-use Rattle.query.specs.Select.{around, inside, selected, allSelected, selection}
-use Rattle.query.specs.Query.{reportOf, selectOf}
+use Rattle.report.specs.declared.Reported.the-variants as reported
+use Rattle.select.specs.declared.Selected.the-variants as selected
+use Rattle.map.specs.Classes.{hasClass}
+use Rattle.totals.specs.Totals.{total, totals}
+use Rattle.select.specs.Select.{around, inside, selected, allSelected, selection, selectOf}
+use Rattle.report.specs.Report.{reportOf}
 use Rattle.numbers.specs.Numbers.{bytes, bytesOf}
 use Rattle.house.specs.File.{header, fileOf}
 
@@ -52,10 +54,10 @@ pub record Table : Type 0 where
   pub p1-header : take 20 (fileOf 2 keys classes) ≡ bytesOf (55 ∷ 2 ∷ 7 ∷ 20 ∷ 48 ∷ [])
   pub p1-openings : openings 2 2 keys W ≡ made 7 0 1 ∷ made 10 1 4 ∷ made 17 5 1 ∷ made 21 6 1 ∷ []
   pub p1-records : handedCount (openings 2 2 keys W) ≡ 7
-  pub p1-counts : reportOf 2 keys classes W (old 4) (old 257) ≡ after (Done 9) (3 ∷ 3 ∷ 3 ∷ 99 ∷ [], 0 ∷ 4 ∷ 4 ∷ 1 ∷ replicate 252 0 ++ (99 ∷ []))
+  pub p1-counts : reportOf 2 keys classes W (old 4) (old 257) ≡ after (reported.Done 9) (3 ∷ 3 ∷ 3 ∷ 99 ∷ [], 0 ∷ 4 ∷ 4 ∷ 1 ∷ replicate 252 0 ++ (99 ∷ []))
   pub p2 : keysOf 2 2 W ≡ 7 ∷ 10 ∷ 9 ∷ 17 ∷ 21 ∷ 22 ∷ []
-  pub p3 : selectOf 2 keys classes W 1 (old 3) (old 5) ≡ after (Done 4) (3 ∷ 3 ∷ 3 ∷ [], 7 ∷ 14 ∷ 9 ∷ 17 ∷ 99 ∷ [])
-  pub p4 : selectOf 2 keys classes W 2 (old 3) (old 4) ≡ after (Done 4) (3 ∷ 3 ∷ 3 ∷ [], 11 ∷ 12 ∷ 21 ∷ 22 ∷ [])
+  pub p3 : selectOf 2 keys classes W 1 (old 3) (old 5) ≡ after (selected.Done 4) (3 ∷ 3 ∷ 3 ∷ [], 7 ∷ 14 ∷ 9 ∷ 17 ∷ 99 ∷ [])
+  pub p4 : selectOf 2 keys classes W 2 (old 3) (old 4) ≡ after (selected.Done 4) (3 ∷ 3 ∷ 3 ∷ [], 11 ∷ 12 ∷ 21 ∷ 22 ∷ [])
   pub p5 : openings 2 2 keys (window 0 0 4 4) ≡ made 0 0 7 ∷ []
   pub p6 : openings 0 0 (0 ∷ []) (window 0 0 1 1) ≡ made 0 0 1 ∷ []
   pub p7 : pixelKey 2 1 2 ≡ 13

@@ -12,7 +12,8 @@ use lib.Count.{leadingZeros}
 use lib.Pow.{pow-pos, pow-add}
 use Rattle.key.proofs.Laws.{log-of}
 use Rattle.window.specs.declared.Window.{Window}
-use Rattle.window.specs.Window.{Px, In}
+use Rattle.key.specs.Picture.{Px}
+use Rattle.window.specs.Window.{In}
 use Rattle.window.specs.Blocks.{floor, Fits, exponent}
 use Rattle.window.specs.Walk.{Between, Reach}
 use Rattle.window.proofs.Dyadic.{floor-le, floor-lt, floor-eq, floor-div}

@@ -15,7 +15,8 @@ use Rattle.lists.specs.Lists.{upFrom}
 use Rattle.lists.proofs.Laws.{ordered-imp, pigeon, up-in, up-length}
 use Rattle.key.proofs.Laws.{pow-least}
 use Rattle.window.specs.declared.Window.{Window}
-use Rattle.window.specs.Window.{Px, Inside}
+use Rattle.key.specs.Picture.{Px}
+use Rattle.window.specs.Window.{Inside}
 use Rattle.window.specs.Blocks.{floor, Fits, exponent, maximal}
 use Rattle.window.proofs.Dyadic.{side-square}
 use Rattle.window.proofs.Blocks.{exponent-le, exponent-fits, exponent-max}

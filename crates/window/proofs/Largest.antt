@@ -7,7 +7,8 @@ use native.Mathlib.Decide.{decLt}
 use native.Mathlib.Omega.{arith}
 use Rattle.key.proofs.Laws.{alignment-most}
 use Rattle.window.specs.declared.Window.{Window}
-use Rattle.window.specs.Window.{Px, In, window}
+use Rattle.key.specs.Picture.{Px}
+use Rattle.window.specs.Window.{In, window}
 use Rattle.window.specs.Blocks.{floor, Fits, Maximal, exponent}
 use Rattle.window.specs.Promises.{BlockAt, Largest}
 use Rattle.window.proofs.Dyadic.{floor-le, same-refl, fits-all, fits-by}

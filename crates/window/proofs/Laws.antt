@@ -7,7 +7,8 @@ use Prim.Native.Nat.{ℕ, _<_}
 use native.Mathlib.Decide.{decLt}
 use native.Mathlib.Omega.{arith}
 use Rattle.window.specs.declared.Window.{Window}
-use Rattle.window.specs.Window.{Px, In}
+use Rattle.key.specs.Picture.{Px}
+use Rattle.window.specs.Window.{In}
 use Rattle.window.specs.Blocks.{floor, Maximal, exponent, corner, maximal}
 use Rattle.window.proofs.Dyadic.{same-refl, fits-all, fits-by}
 use Rattle.window.proofs.Blocks.{exponent-le, exponent-fits, exponent-max}
@@ -20,7 +21,7 @@ pub use Rattle.window.proofs.Few.{blocks-few, blocks-capped}
 pub use Rattle.window.proofs.Tests.{inside, window-refused, window-passed, window-inside, numbered-window, inside-12}
 pub use Rattle.window.proofs.Keys.{keys-of, key-at, pixel-in, key-named, keys-length, keys-few}
 pub use Rattle.window.proofs.Past.{walked-first, walked-next, walked-last, walked-split, walked-room, goes-in, goes-corner, goes-exponent, goes-cursor, goes-less}
-pub use Rattle.window.proofs.Counts.{rows-count, maximal-most, rows-length, pixels-most}
+pub use Rattle.window.proofs.Counts.{rows-count, maximal-most, pixels-length, in-pixels, pixels-most}
 
 -- The list has the maximal blocks, and no other: each lies in the window, and no larger block that lies in the window contains it. That each is listed once, by row and then by
 -- column, is `listed-ordered`.

@@ -9,7 +9,8 @@ use Rattle.lists.specs.Lists.{keep}
 use Rattle.lists.proofs.Laws.{keep-true}
 use Rattle.window.specs.declared.Window.{Window}
 use Rattle.window.specs.declared.Next.the-variants.{Block, End}
-use Rattle.window.specs.Window.{Px, In, Inside}
+use Rattle.key.specs.Picture.{Px}
+use Rattle.window.specs.Window.{In, Inside}
 use Rattle.window.specs.Blocks.{exponent, corner, isCorner, maximal}
 use Rattle.window.specs.Walk.{Cursor, pixelsFrom, blocksFrom, Walked, Goes, block, end}
 use Rattle.window.proofs.Listed.{corner-is}

@@ -3,7 +3,7 @@
 use Prim.Native.Nat.{ℕ, _+_, _^_, _≤_}
 use Rattle.key.specs.Alignment.{alignment}
 use Rattle.window.specs.declared.Window.{Window}
-use Rattle.window.specs.Window.{Px}
+use Rattle.key.specs.Picture.{Px}
 
 -- the block of side 2 ^ i may start at p: i is at most the smaller alignment of its row and column, and it ends where the window does, or before. Alignments are cut at `top`, which
 -- is m where blocks may be as large as the picture

@@ -23,7 +23,8 @@ use Rattle.map.specs.Spans.{within}
 use Rattle.used.specs.Used.{useRefusals, borderRefusals}
 use Rattle.numbers.specs.Numbers.{bytes, number, bytesOf, numbers}
 use Rattle.house.specs.File.{header, fileOf, layoutRefusals, fileM, fileQ, readRefusals, fileKeys, fileClasses}
-use Rattle.query.specs.Classes.{hasClass, total, totals}
+use Rattle.map.specs.Classes.{hasClass}
+use Rattle.totals.specs.Totals.{total, totals}
 use Rattle.text.specs.Text.{digits, digitsOf, spaced, lineOf}
 use Rattle.window_program.specs.Text.{windowOf, openingLines, classLine, classLines, foundLines, foundBy, resultOf, answerOf, leftText, mapText, startRefusals, startText, announcedOf, wholeOf, fileIn}
 

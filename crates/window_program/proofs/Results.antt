@@ -20,11 +20,12 @@ use Rattle.open.specs.Open.{openOf}
 use Rattle.open.specs.Promises.{Answered}
 use Rattle.open.proofs.Laws.{openings-fit, answered}
 use Rattle.used.proofs.Laws.{used-roomy}
-use Rattle.query.specs.Classes.{totals}
-use Rattle.query.specs.declared.Queried.{Queried}
-use Rattle.query.specs.declared.Queried.the-variants as queried
-use Rattle.query.specs.Query.{reportOf}
-use Rattle.query.proofs.Laws.{Counted, counted, uncounted, totals-length}
+use Rattle.totals.specs.Totals.{totals}
+use Rattle.report.specs.declared.Reported.{Reported}
+use Rattle.report.specs.declared.Reported.the-variants as reported
+use Rattle.report.specs.Report.{reportOf}
+use Rattle.report.proofs.Laws.{Counted, uncounted, counted}
+use Rattle.totals.proofs.Laws.{totals-length}
 use Rattle.text.proofs.Laws.{line-most}
 use Rattle.window_program.specs.Text.{refusalLine, foundLines, foundBy, resultOf, answerOf}
 use Rattle.window_program.proofs.Lines.{openings-most, classes-most}
@@ -56,19 +57,19 @@ module _ (m : ℕ) (keys classes : List ℕ) (W : Window) where
 
 -- ---- what the calls answer
 
-module _ (m : ℕ) (keys classes : List ℕ) (W : Window) (border out : List ℕ) {r : Queried} {border′ out′ : List ℕ} (e : after r (border′, out′) ≡ reportOf m keys classes W border out)
+module _ (m : ℕ) (keys classes : List ℕ) (W : Window) (border out : List ℕ) {r : Reported} {border′ out′ : List ℕ} (e : after r (border′, out′) ≡ reportOf m keys classes W border out)
     (wide : length border ≡ 4096) (room : length out ≡ 256) where
-  told : {a : Queried} → r ≡ a → reportOf m keys classes W border out ≡ after a (border′, out′)
-  told d = sym e ∙ ap (λ (x : Queried). after x (border′, out′)) d
+  told : {a : Reported} → r ≡ a → reportOf m keys classes W border out ≡ after a (border′, out′)
+  told d = sym e ∙ ap (λ (x : Reported). after x (border′, out′)) d
 
   -- report refuses, with the number and place that are said
-  pub report-refused : {n p : ℕ} → r ≡ queried.Refused n p → refusalLine n p ≡ resultOf m keys classes W
+  pub report-refused : {n p : ℕ} → r ≡ reported.Refused n p → refusalLine n p ≡ resultOf m keys classes W
   unfolding resultOf
   report-refused d =
       let v = rw wide at (uncounted m keys classes W border out (omega arith) (told d)) in
       sym (on-refused refusalLine (useRefusals m keys (length classes) W 4096) _ v)
 
-  module _ {value : ℕ} (d : r ≡ queried.Done value) where
+  module _ {value : ℕ} (d : r ≡ reported.Done value) where
     C : Counted m keys classes W (length border) value out′
     C = counted m keys classes W border out (told d)
 

@@ -18,7 +18,7 @@ use Rattle.border.specs.Openings.{openings, handedCount, cellsOf}
 use Rattle.used.specs.Used.{useRefusals}
 use Rattle.numbers.specs.Numbers.{number}
 use Rattle.house.specs.File.{fileM, fileKeys, fileClasses, FileMap, readRefusals}
-use Rattle.query.specs.Classes.{totals}
+use Rattle.totals.specs.Totals.{totals}
 use Rattle.text.specs.Text.{lineOf, putOf}
 use Rattle.window_program.specs.declared.Begun.{Begun}
 

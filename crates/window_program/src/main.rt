@@ -5,7 +5,7 @@ use house::Reading;
 use libc::STDIN_FILENO;
 use libc::STDOUT_FILENO;
 use open::Opened;
-use query::Queried;
+use report::Reported;
 use window::Window;
 ghost use mathlib.Core.Path.{_≡_};
 ghost use Prim.Native.Nat.{_+_, _*_, _≤_};
@@ -129,17 +129,17 @@ fn put_result(m: u32, keys: &[u32], classes: &[u8], window: Window, out: &mut [u
 {
     let mut border = [0u16; 4096];
     let mut totals = [0u32; 256];
-    let reported = query::report(m, keys, classes, window, &mut border, &mut totals);
+    let reported = report::report(m, keys, classes, window, &mut border, &mut totals);
     match reported {
-        Queried::Refused { number, place } => put_refusal(number, place, out),
-        Queried::Done { value } => put_opened(
+        Reported::Refused { number, place } => put_refusal(number, place, out),
+        Reported::Done { pixels } => put_opened(
             m,
             keys,
             classes,
             window,
             &mut border,
             &totals,
-            value,
+            pixels,
             out,
         ),
     }

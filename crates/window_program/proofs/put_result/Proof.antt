@@ -7,7 +7,7 @@ use native.Mathlib.Omega.{arith}
 use borrow.Author.Needs.{needs}
 use lib.ListN.{length, replicate, length-replicate}
 use Rattle.answers.specs.After.{after}
-use Rattle.query.specs.Query.{reportOf}
+use Rattle.report.specs.Report.{reportOf}
 use Rattle.text.specs.Text.{putOf}
 use Rattle.window_program.proofs.Results.{report-refused, report-passed, report-counted}
 use Rattle.window_program.proofs.put_result.Statement.{statement}

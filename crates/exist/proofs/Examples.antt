@@ -1,0 +1,55 @@
+-- Exist, in examples. P1's map has m = 2 and the keys 5, 11, 12, 13, 14, 15, 20; its window is 0 1 3 3.
+-- Assumes nothing.
+use mathlib.Core.Path.{_≡_, refl}
+use mathlib.Core.List.{List, [], _∷_}
+use Prim.Native.Nat.{ℕ}
+use lib.ListN.{replicate}
+use Rattle.lists.specs.Lists.{upFrom, any, before, howMany}
+use Rattle.answers.specs.Refusals.{answer}
+use Rattle.answers.specs.Sizes.{wrongCount, sizeRefusals, pictureRefusals, countRefusals}
+use Rattle.answers.specs.Cells.{overwrite}
+use Rattle.answers.specs.After.{after}
+use Rattle.key.specs.Spread.{spreadTo, spread}
+use Rattle.key.specs.Picture.{place}
+use Rattle.key.specs.Form.{from, formOf}
+use Rattle.window.specs.declared.Window.{Window}
+use Rattle.window.specs.Window.{window, beyond, outside, windowRefusals}
+use Rattle.window.specs.Blocks.{across, rows}
+use Rattle.map.specs.Spans as spans
+use Rattle.map.specs.Check.{late, refusalsFrom, mapRefusals}
+use Rattle.map.specs.Records.{recordOf}
+use Rattle.used.specs.Used.{useRefusals, spent, borderRefusals}
+use Rattle.exist.specs.declared.Existence.the-variants as existence
+use Rattle.map.specs.Classes.{hasClass}
+use Rattle.exist.specs.Exist.{exists, existing, existOf}
+
+abbrev keys : List ℕ
+keys = 5 ∷ 11 ∷ 12 ∷ 13 ∷ 14 ∷ 15 ∷ 20 ∷ []
+
+abbrev classes : List ℕ
+classes = 1 ∷ 2 ∷ 2 ∷ 3 ∷ 1 ∷ 1 ∷ 2 ∷ []
+
+abbrev W : Window
+W = window 0 1 3 3
+
+-- old contents of a border and of an answer slice
+abbrev old : ℕ → List ℕ
+old n = replicate n 99
+
+-- the four pixels of a picture
+abbrev pixels : List ℕ
+pixels = 1 ∷ 2 ∷ 3 ∷ 4 ∷ []
+
+pub record Examples : Type 0 where
+  pub yes : existOf 2 keys classes W 3 (old 4) ≡ after existence.Yes (3 ∷ 3 ∷ 3 ∷ 99 ∷ [])
+  pub no : existOf 2 keys classes W 4 (old 3) ≡ after existence.No (3 ∷ 3 ∷ 3 ∷ [])
+  -- the class is in the picture, but not in the window
+  pub elsewhere : existOf 1 pixels (7 ∷ 0 ∷ 0 ∷ 0 ∷ []) (window 1 0 1 2) 7 (old 2) ≡ after existence.No (2 ∷ 2 ∷ [])
+
+pub examples : Examples
+unfolding pictureRefusals countRefusals borderRefusals answer wrongCount sizeRefusals overwrite upFrom spreadTo spread place from formOf beyond outside windowRefusals across rows spans.malformed spans.formExponent spans.start spans.end spans.holds late refusalsFrom mapRefusals before howMany recordOf any useRefusals spent hasClass exists existing existOf
+examples = record {
+  yes = refl;
+  no = refl;
+  elsewhere = refl;
+}

@@ -1,0 +1,77 @@
+-- Whether some pixel of a window has a class: exactly when some record that the openings hand out has it. They hand out the records of the window's pixels, and no other.
+-- Assumes nothing.
+use mathlib.Core.Path.{_≡_, refl}
+use mathlib.Core.Logic.{_↔_}
+use mathlib.Core.Bool.{Bool, true, false}
+use mathlib.Core.List.{List, [], _∷_, _++_, List·Memᴰ·head, Memᴰ·append-right}
+use Prim.Native.Nat.{ℕ, _≤_}
+use lib.ListN.{getD}
+use borrow.Author.Tests.{eqb-true, eq-eqb}
+use Rattle.lists.specs.Lists.{any}
+use Rattle.lists.proofs.Tests.{agree}
+use Rattle.lists.proofs.Laws.{any-none, any-has, has-any, any-append}
+use Rattle.window.specs.declared.Window.{Window}
+use Rattle.key.specs.Picture.{Px}
+use Rattle.window.specs.Window.{In, Inside}
+use Rattle.map.specs.Sound.{Follow}
+use Rattle.map.specs.Records.{pixelRecord}
+use Rattle.border.specs.Openings.{Opening, openings, hands}
+use Rattle.border.specs.Promises.{allHands}
+use Rattle.border.proofs.Laws.{hands-none, hands-one, hands-append, in-hands, hands-whole}
+use Rattle.map.specs.Classes.{classed, hasClass}
+use Rattle.exist.specs.Exist.{exists}
+use Rattle.window.specs.Blocks.{pixels}
+use Rattle.window.proofs.Laws.{in-pixels}
+
+-- ---- what it means
+
+module _ (m : ℕ) (keys classes : List ℕ) (class : ℕ) where
+  pub class-is : (p : Px) → (hasClass m keys classes class p ≡ true) ↔ (getD classes (pixelRecord m keys (p .0) (p .1)) 0 ≡ class)
+  unfolding hasClass
+  class-is p = (λ e. eqb-true _ _ e, λ e. eq-eqb _ _ e)
+
+  pub exists-means : (W : Window) → (exists m keys classes W class ≡ true) ↔ ((p : Px) × In W p × (getD classes (pixelRecord m keys (p .0) (p .1)) 0 ≡ class))
+  unfolding exists
+  exists-means W = (
+    λ e. let t = any-has (hasClass m keys classes class) (pixels W) e in (t .0, in-pixels W .0 (t .1), class-is (t .0) .0 (t .2)),
+    λ t. has-any (hasClass m keys classes class) (in-pixels W .1 (t .1)) (class-is (t .0) .1 (t .2)),
+  )
+
+-- ---- by what the openings hand out
+
+pub exists-hands : {m top : ℕ} {keys : List ℕ} → Follow m 0 keys → {W : Window} → Inside m W → top ≤ m → (classes : List ℕ) (class : ℕ)
+    → exists m keys classes W class ≡ any (classed classes class) (allHands (openings m top keys W))
+exists-hands {m} {top} {keys} F {W} I small classes class = agree _ _ (to, from)
+  where
+    test : ℕ → Bool
+    test = classed classes class
+
+    os : List Opening
+    os = openings m top keys W
+
+    to : exists m keys classes W class ≡ true → any test (allHands os) ≡ true
+    to e =
+        let t = exists-means m keys classes class W .0 e in
+        let h = hands-whole F I small _ .0 (record { at = t .0; inside = t .1; is = refl }) in
+        has-any test (in-hands os _ .1 h) (eq-eqb _ _ (t .2))
+
+    from : any test (allHands os) ≡ true → exists m keys classes W class ≡ true
+    from e =
+        let t = any-has test (allHands os) e in
+        let h = hands-whole F I small (t .0) .1 (in-hands os (t .0) .0 (t .1)) in
+        exists-means m keys classes class W .1 (h .at, h .inside, rw (h .is) (eqb-true _ _ (t .2)))
+
+-- ---- part by part
+
+module _ (f : ℕ → Bool) where
+  -- no opening, and one more
+  pub any-no-opening : any f (allHands []) ≡ false
+  any-no-opening = rw (hands-none, any-none f)
+
+  pub any-opening : (os : List Opening) (o : Opening) → any f (allHands os) ≡ false → any f (hands o) ≡ false → any f (allHands (os ++ (o ∷ []))) ≡ false
+  any-opening os o e d = rw (hands-append os (o ∷ []), hands-one o, any-append f (allHands os) (hands o), e, d)
+
+  pub opening-any : (os : List Opening) (o : Opening) (os′ : List Opening) → any f (hands o) ≡ true → any f (allHands (os ++ o ∷ os′)) ≡ true
+  opening-any os o os′ e =
+      let t = any-has f (hands o) e in
+      has-any f (in-hands (os ++ o ∷ os′) (t .0) .1 (record { by = o; listed = Memᴰ·append-right os (List·Memᴰ·head refl); hands = t .1 })) (t .2)

@@ -1,0 +1,5 @@
+mod Found
+mod Seeking
+mod Tables
+mod Examples
+pub mod Laws

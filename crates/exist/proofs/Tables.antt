@@ -1,0 +1,56 @@
+-- What exist answers and leaves, by the verdict of its refusals.
+-- Assumes nothing.
+use mathlib.Core.Path.{_≡_, refl, ap}
+use mathlib.Core.Bool.{true, false}
+use mathlib.Core.List.{List}
+use Prim.Native.Nat.{ℕ}
+use lib.ListN.{length}
+use Rattle.answers.specs.declared.Verdict.the-variants as verdict-of
+use Rattle.answers.specs.Refusals.{verdict, answer}
+use Rattle.answers.specs.After.{After, after}
+use Rattle.answers.proofs.Laws.{answer-kept, on-passed, on-refused, answer-part}
+use Rattle.window.specs.declared.Window.{Window}
+use Rattle.used.specs.Used.{useRefusals, spent}
+use Rattle.exist.specs.declared.Existence.{Existence}
+use Rattle.exist.specs.declared.Existence.the-variants as existence
+use Rattle.exist.specs.Exist.{exists, existing, existOf}
+use mathlib.Core.Path.{_≡_}
+use mathlib.Core.Bool.{cond}
+use Prim.Native.Nat.{ℕ}
+
+module _ (m : ℕ) (keys classes : List ℕ) (W : Window) (class : ℕ) (border : List ℕ) where
+  pub exist-refused : {n p : ℕ} → verdict (useRefusals m keys (length classes) W (length border)) ≡ verdict-of.Refused n p
+      → existOf m keys classes W class border ≡ after (existence.Refused n p) border
+  unfolding existOf
+  exist-refused e = on-refused _ (useRefusals m keys (length classes) W (length border)) _ e
+
+  pub exist-done : verdict (useRefusals m keys (length classes) W (length border)) ≡ verdict-of.Passed → existOf m keys classes W class border ≡ existing m keys classes W class border
+  unfolding existOf
+  exist-done e = on-passed _ (useRefusals m keys (length classes) W (length border)) _ e
+
+  -- an accepted call spends the border
+  pub exist-leaves : verdict (useRefusals m keys (length classes) W (length border)) ≡ verdict-of.Passed → existOf m keys classes W class border .lent ≡ spent W border
+  unfolding existing
+  exist-leaves e = ap (λ (x : After Existence (List ℕ)). x .lent) (exist-done e)
+
+  -- and a refused one leaves it as it was
+  pub exist-untouched : (verdict (useRefusals m keys (length classes) W (length border)) ≡ verdict-of.Passed → ⊥) → existOf m keys classes W class border .lent ≡ border
+  unfolding existOf
+  exist-untouched held =
+      answer-kept (λ (x : After Existence (List ℕ)). x .lent) (λ n p. after (existence.Refused n p) border) (useRefusals m keys (length classes) W (length border)) _ (λ n p. refl) held
+
+  pub existing-yes : {left : List ℕ} → exists m keys classes W class ≡ true → left ≡ spent W border → after existence.Yes left ≡ existing m keys classes W class border
+  unfolding existing
+  existing-yes e d = rw (e, d)
+
+  pub existing-no : {left : List ℕ} → exists m keys classes W class ≡ false → left ≡ spent W border → after existence.No left ≡ existing m keys classes W class border
+  unfolding existing
+  existing-no e d = rw (e, d)
+
+-- of the border only the length counts
+pub exist-by-lengths : (m : ℕ) (keys classes : List ℕ) (W : Window) (class : ℕ) (border : List ℕ)
+    → existOf m keys classes W class border .answer
+    ≡ answer existence.Refused (useRefusals m keys (length classes) W (length border)) (cond (exists m keys classes W class) existence.Yes existence.No)
+unfolding existOf existing
+exist-by-lengths m keys classes W class border =
+    answer-part (λ (x : After Existence (List ℕ)). x .answer) (λ n p. after (existence.Refused n p) border) (useRefusals m keys (length classes) W (length border)) _

@@ -1,0 +1,31 @@
+-- Exist: whether some pixel of a window has a class; the answer and every lent cell, on every input.
+-- Assumes nothing.
+use mathlib.Core.Bool.{Bool}
+use mathlib.Core.List.{List}
+use Prim.Native.Nat.{ℕ}
+use Rattle.lists.specs.Lists.{any}
+use Rattle.window.specs.declared.Window.{Window}
+use Rattle.window.specs.Blocks.{pixels}
+use mathlib.Core.Bool.{cond}
+use mathlib.Core.List.{List}
+use Prim.Native.Nat.{ℕ}
+use lib.ListN.{length}
+use Rattle.answers.specs.Refusals.{answer}
+use Rattle.answers.specs.After.{After, after}
+use Rattle.map.specs.Classes.{hasClass}
+use Rattle.used.specs.Used.{useRefusals, spent}
+use Rattle.exist.specs.declared.Existence.{Existence}
+use Rattle.exist.specs.declared.Existence.the-variants as existence
+
+-- some pixel of the window has the class
+unfoldable pub exists : ℕ → List ℕ → List ℕ → Window → ℕ → Bool
+exists m keys classes W class = any (hasClass m keys classes class) (pixels W)
+
+-- an accepted call
+unfoldable pub existing : ℕ → List ℕ → List ℕ → Window → ℕ → List ℕ → After Existence (List ℕ)
+existing m keys classes W class border = after (cond (exists m keys classes W class) existence.Yes existence.No) (spent W border)
+
+unfoldable pub existOf : ℕ → List ℕ → List ℕ → Window → ℕ → List ℕ → After Existence (List ℕ)
+existOf m keys classes W class border =
+    answer (λ number place. after (existence.Refused number place) border) (useRefusals m keys (length classes) W (length border))
+    (existing m keys classes W class border)

@@ -1,0 +1,4 @@
+mod Tables
+mod Told
+mod Examples
+pub mod Laws

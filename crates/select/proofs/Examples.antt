@@ -1,0 +1,55 @@
+-- Select, in examples. P1's map has m = 2 and the keys 5, 11, 12, 13, 14, 15, 20; its window is 0 1 3 3.
+-- Assumes nothing.
+use mathlib.Core.Path.{_≡_, refl}
+use mathlib.Core.List.{List, [], _∷_}
+use Prim.Native.Nat.{ℕ}
+use lib.ListN.{replicate}
+use Rattle.lists.specs.Lists.{upFrom, any, keep, greatest}
+use Rattle.answers.specs.Refusals.{answer}
+use Rattle.answers.specs.Sizes.{wrongCount, sizeRefusals, pictureRefusals, countRefusals}
+use Rattle.answers.specs.Cells.{overwrite}
+use Rattle.answers.specs.After.{after, roomRefusals, roomFor}
+use Rattle.key.specs.Spread.{spreadTo, spread}
+use Rattle.key.specs.Key.{pixelKey, blockKey}
+use Rattle.key.specs.Form.{from, formOf}
+use Rattle.window.specs.declared.Window.{Window}
+use Rattle.window.specs.Window.{window, beyond, outside, windowRefusals}
+use Rattle.window.specs.Blocks.{floor, lies, fits, exponent, corner, across, rows, isCorner, maximal}
+use Rattle.window.specs.Keys.{keyOf, keysOf}
+use Rattle.map.specs.Spans as spans
+use Rattle.map.specs.Check.{late, refusalsFrom, mapRefusals}
+use Rattle.map.specs.Spans.{within}
+use Rattle.used.specs.Used.{useRefusals, spent, usedFor, borderRefusals}
+use Rattle.select.specs.declared.Selected.the-variants.{Done, Refused}
+use Rattle.select.specs.Select.{around, inside, selected, allSelected, selection, selectOf}
+
+abbrev keys : List ℕ
+keys = 5 ∷ 11 ∷ 12 ∷ 13 ∷ 14 ∷ 15 ∷ 20 ∷ []
+
+abbrev classes : List ℕ
+classes = 1 ∷ 2 ∷ 2 ∷ 3 ∷ 1 ∷ 1 ∷ 2 ∷ []
+
+abbrev W : Window
+W = window 0 1 3 3
+
+-- old contents of a border and of an answer slice
+abbrev old : ℕ → List ℕ
+old n = replicate n 99
+
+pub record Examples : Type 0 where
+  pub select-short : selectOf 2 keys classes W 1 (old 3) (old 3) ≡ after (Refused 8 4) (3 ∷ 3 ∷ 3 ∷ [], old 3)
+  pub select-none : selectOf 2 keys classes W 4 (old 3) [] ≡ after (Done 0) (3 ∷ 3 ∷ 3 ∷ [], [])
+  pub outside-first : selectOf 2 keys classes (window 2 0 3 1) 1 [] [] ≡ after (Refused 6 0) ([], [])
+  -- a block that is a record of the class is listed once; one of another class is not
+  pub own : selected 2 keys classes 3 13 ≡ 13 ∷ []
+  pub other : selected 2 keys classes 1 13 ≡ []
+
+pub examples : Examples
+unfolding pictureRefusals countRefusals borderRefusals roomRefusals roomFor answer wrongCount sizeRefusals overwrite upFrom spreadTo spread pixelKey blockKey from formOf beyond outside windowRefusals keep floor lies fits greatest exponent corner across rows isCorner maximal keyOf keysOf spans.malformed spans.formExponent spans.start spans.end late refusalsFrom mapRefusals any within useRefusals spent around inside selected allSelected selection usedFor selectOf
+examples = record {
+  select-short = refl;
+  select-none = refl;
+  outside-first = refl;
+  own = refl;
+  other = refl;
+}

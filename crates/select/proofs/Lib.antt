@@ -1,0 +1,10 @@
+mod Choices
+mod Picking
+mod Picked
+mod Blockwise
+mod Chosen
+mod Selection
+mod Selects
+mod Tables
+mod Examples
+pub mod Laws

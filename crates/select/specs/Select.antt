@@ -1,0 +1,75 @@
+-- Selecting a class: for each maximal block its own key, or the keys of records inside it.
+-- Assumes nothing.
+use mathlib.Core.Bool.{Bool, cond, _&&_}
+use mathlib.Core.List.{List, [], _∷_, _++_, map}
+use Prim.Native.Nat.{ℕ, _+_, _≤_, _<_}
+use lib.Dec.{ltb}
+use lib.ListN.{length, getD}
+use Rattle.lists.specs.Lists.{upFrom, any, keep}
+use Rattle.key.specs.Form.{formOf}
+use Rattle.window.specs.declared.Window.{Window}
+use Rattle.window.specs.Keys.{keysOf}
+use Rattle.map.specs.declared.Run.{Run}
+use Rattle.map.specs.Spans.{within}
+use Rattle.map.specs.Classes.{classed}
+use mathlib.Core.Bool.{cond}
+use mathlib.Core.List.{List}
+use Prim.Native.Nat.{ℕ}
+use lib.ListN.{length}
+use Rattle.answers.specs.After.{After, roomFor}
+use Rattle.used.specs.Used.{usedFor}
+use Rattle.select.specs.declared.Selected.{Selected}
+use Rattle.select.specs.declared.Selected.the-variants.{Done, Refused}
+
+module _ (m : ℕ) (keys classes : List ℕ) (class : ℕ) where
+  -- record n has the class, and the block of a key lies in it
+  unfoldable pub around : ℕ → ℕ → Bool
+  around key n = classed classes class n && within (formOf m key) (formOf m (getD keys n 0))
+
+  -- record n has the class and lies in the block of a key
+  unfoldable pub inside : ℕ → ℕ → Bool
+  inside key n = classed classes class n && within (formOf m (getD keys n 0)) (formOf m key)
+
+  -- of the block of a key: its own key if it lies in a record of the class, else the keys of the records inside it that have the class, in map order
+  unfoldable pub selected : ℕ → List ℕ
+  selected key =
+      let records = upFrom 0 (length keys) in
+      cond (any (around key) records) (key ∷ []) (map (λ n. getD keys n 0) (keep (inside key) records))
+
+  -- of blocks, one after another
+  unfoldable pub allSelected : List ℕ → List ℕ
+  allSelected [] = []
+  allSelected (k ∷ ks) = selected k ++ allSelected ks
+
+-- of the window's maximal blocks, in their order
+unfoldable pub selection : ℕ → ℕ → List ℕ → List ℕ → Window → ℕ → List ℕ
+selection m top keys classes W class = allSelected m keys classes class (keysOf m top W)
+
+-- ---- the same by the run of records that overlap a block
+
+-- the key of a block that lies in record n, if the record has the class
+unfoldable pub pickedAround : List ℕ → ℕ → ℕ → ℕ → List ℕ
+pickedAround classes class key n = cond (classed classes class n) (key ∷ []) []
+
+module _ (keys classes : List ℕ) (class : ℕ) where
+  -- the keys of the records of a run that have the class
+  unfoldable pub pickedRun : ℕ → ℕ → List ℕ
+  pickedRun first count = map (λ n. getD keys n 0) (keep (classed classes class) (upFrom first count))
+
+  -- of a block of this key and exponent i: a record that reaches further contains it, and otherwise those of the run lie in it
+  unfoldable pub picked : ℕ → ℕ → Run → List ℕ
+  picked key i run = cond (ltb i (run .reach)) (pickedAround classes class key (run .first)) (pickedRun (run .first) (run .count))
+
+-- what the records of a block of exponent i are: records of the map, and one where they reach further
+pub record Overlapped (keys : List ℕ) (i : ℕ) (run : Run) : Type 0 where
+  pub some : i < run .reach → 1 ≤ run .count
+  pub room : run .first + run .count ≤ length keys
+
+-- ---- the call
+
+-- keys in a slice that has room for them; or refusal 8, and the slice as it was
+abbrev pub keysInto : List ℕ → List ℕ → After Selected (List ℕ)
+keysInto ks = roomFor Refused (Done (length ks)) ks
+
+unfoldable pub selectOf : ℕ → List ℕ → List ℕ → Window → ℕ → List ℕ → List ℕ → After Selected (List ℕ × List ℕ)
+selectOf m keys classes W class = let ks = selection m m keys classes W class in usedFor Refused (Done (length ks)) ks m keys (length classes) W

@@ -1,0 +1,169 @@
+// Select: the keys of a class in a window.
+use answers::Verdict;
+use map::Run;
+use window::Next;
+use window::Window;
+ghost use mathlib.Core.Path.{_≡_};
+ghost use Prim.Native.Nat.{_+_, _≤_, _<_};
+ghost use lib.ListN.{length, replicate};
+ghost use Rattle.answers.specs.Cells.{Listed};
+ghost use Rattle.answers.specs.After.{after};
+ghost use Rattle.key.specs.Spread.{spreads};
+ghost use Rattle.used.specs.Used.{Usable};
+ghost use Rattle.select.specs.Select.{pickedRun, pickedAround, picked, Overlapped, selection, keysInto, selectOf};
+
+// What select answers: how many keys there are, or a refusal.
+pub enum Selected {
+    Done { count: u32 },
+    Refused { number: u32, place: u32 },
+}
+
+// Of a block that lies in a record, lists the block's key behind n others if the record has the class. How many there are then.
+fn pick_around(classes: &[u8], class: u8, key: u32, around: usize, out: &mut [u32], n: u32) -> u32
+    requires { ⌜ (around < length (now classes)) × (n < 4294967295) ⌝ }
+    ensures { λ r. ⌜ Listed n (pickedAround (now (classes .entry)) class key around) (now (out .entry)) r (now (out .exit)) ⌝ }
+{
+    if classes[around] == class {
+        answers::put(out, n, key);
+        return n + 1;
+    }
+    n
+}
+
+// Lists the keys of the records of a run that have the class: each lies in itself.
+fn pick_run(
+    keys: &[u32],
+    classes: &[u8],
+    class: u8,
+    first: u32,
+    count: u32,
+    out: &mut [u32],
+    n: u32,
+) -> u32
+    requires { ⌜ (first + count ≤ length (now keys)) × (length (now keys) ≤ 65536) × (length (now keys) ≡ length (now classes)) × (n + count ≤ 4294967295) ⌝ }
+    ensures { λ r. ⌜ Listed n (pickedRun (now (keys .entry)) (now (classes .entry)) class first count) (now (out .entry)) r (now (out .exit)) ⌝ }
+{
+    let mut i = first as usize;
+    let end = i + (count as usize);
+    let mut k = n;
+    while i < end {
+        k = pick_around(classes, class, keys[i], i, out, k);
+        i += 1;
+    }
+    k
+}
+
+// Of a maximal block and the records that overlap it: lists its own key if it lies in a record of the class, else the keys of the records inside it that have the class.
+fn pick(
+    keys: &[u32],
+    classes: &[u8],
+    class: u8,
+    key: u32,
+    exponent: u32,
+    run: Run,
+    out: &mut [u32],
+    n: u32,
+) -> u32
+    requires { ⌜ Overlapped (now keys) exponent run × (length (now keys) ≤ 65536) × (length (now keys) ≡ length (now classes)) × (n + run .count ≤ 4294967295) ⌝ }
+    ensures { λ r. ⌜ Listed n (picked (now (keys .entry)) (now (classes .entry)) class key exponent run) (now (out .entry)) r (now (out .exit)) ⌝ }
+{
+    if exponent < run.reach {
+        return pick_around(classes, class, key, run.first as usize, out, n);
+    }
+    pick_run(keys, classes, class, run.first, run.count, out, n)
+}
+
+// Goes through the maximal blocks and lists what each has. How many keys there are; those are written for which there is room. A block in one of the two records found last is not
+// searched for.
+fn pick_all(
+    table: &[u32; 256],
+    m: u32,
+    keys: &[u32],
+    classes: &[u8],
+    window: Window,
+    class: u8,
+    out: &mut [u32],
+) -> u32
+    requires { ⌜ (now table ≡ spreads) × Usable m m (now keys) window (window .w) × (length (now keys) ≡ length (now classes)) ⌝ }
+    ensures { λ r. ⌜ Listed 0 (selection m m (now (keys .entry)) (now (classes .entry)) window class) (now (out .entry)) r (now (out .exit)) ⌝ }
+{
+    let mut r = window.r0;
+    let mut c = window.c0;
+    let mut n: u32 = 0;
+    let mut seen = near::first_seen(table, m, keys);
+    loop {
+        let next = window::next_block(window, m, r, c);
+        let Next::Block {
+            row,
+            col,
+            exponent,
+            after,
+        } = next
+        else {
+            return n;
+        };
+        r = row;
+        c = after;
+        let key = key::block_key(table, m, exponent, row, col);
+        if near::lies_in(seen.near, key) {
+            n = pick_around(classes, class, key, seen.near.first as usize, out, n);
+            continue;
+        }
+        if near::lies_in(seen.other, key) {
+            seen = near::exchanged(seen);
+            n = pick_around(classes, class, key, seen.near.first as usize, out, n);
+            continue;
+        }
+        seen = near::look_up(table, m, keys, key, exponent, seen);
+        n = pick(keys, classes, class, key, exponent, seen.run, out, n);
+    }
+}
+
+// The keys of the class, in the order of maximal blocks. A slice with room for as many as there can be takes one pass; otherwise a first pass counts them and writes none, since 8
+// writes nothing into the slice.
+fn list_keys(
+    table: &[u32; 256],
+    m: u32,
+    keys: &[u32],
+    classes: &[u8],
+    window: Window,
+    class: u8,
+    out: &mut [u32],
+) -> Selected
+    requires { ⌜ (now table ≡ spreads) × Usable m m (now keys) window (window .w) × (length (now keys) ≡ length (now classes)) ⌝ }
+    ensures { λ r. ⌜ after r (now (out .exit)) ≡ keysInto (selection m m (now (keys .entry)) (now (classes .entry)) window class) (now (out .entry)) ⌝ }
+{
+    let most = 4 * ((window.w as usize) + (window.h as usize)) + keys.len();
+    if out.len() < most {
+        let needed = pick_all(table, m, keys, classes, window, class, &mut out[..0]);
+        if out.len() < needed as usize {
+            return Selected::Refused {
+                number: 8,
+                place: needed,
+            };
+        }
+    }
+    let count = pick_all(table, m, keys, classes, window, class, out);
+    Selected::Done { count }
+}
+
+// The keys of a class in the window. Nothing of it needs the border, which is spent at once.
+pub fn select(
+    m: u32,
+    keys: &[u32],
+    classes: &[u8],
+    window: Window,
+    class: u8,
+    border: &mut [u16],
+    out: &mut [u32],
+) -> Selected
+    ensures { λ r. ⌜ after r (now (border .exit), now (out .exit)) ≡ selectOf m (now (keys .entry)) (now (classes .entry)) window class (now (border .entry)) (now (out .entry)) ⌝ }
+{
+    let verdict = used::usable(m, keys, classes, window, border.len());
+    if let Verdict::Refused { number, place } = verdict {
+        return Selected::Refused { number, place };
+    }
+    border::fill(border, 0, window.w as usize, window.r0 + window.h);
+    let table = key::spread_table();
+    list_keys(&table, m, keys, classes, window, class, out)
+}

@@ -1,0 +1,6 @@
+mod Totals
+mod Areas
+mod Parts
+mod Gathers
+mod Adds
+pub mod Laws

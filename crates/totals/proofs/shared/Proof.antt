@@ -1,0 +1,33 @@
+-- `totals::shared` meets its contract.
+-- Assumes nothing.
+use native.Mathlib.Omega.{arith}
+use borrow.Author.Needs.{needs}
+use Rattle.totals.specs.Gather.{shared}
+use Rattle.totals.proofs.shared.Statement.{statement}
+use Rattle.totals.proofs.shared.Tie as tie
+
+add-least : tie.Need-add-least
+add-least c = search needs
+
+add-least-2 : tie.Need-add-least-2
+add-least-2 c = search needs
+
+least-requires : tie.Need-least-requires
+least-requires c κs = search needs
+
+ahead-requires : tie.Need-ahead-requires
+ahead-requires c κs = search needs
+
+returns : tie.Need-returns
+unfolding shared
+returns c = omega (arith, c .ahead .ensures, c .before .if1 .taken, c .before .before .least .ensures)
+
+ahead-requires-2 : tie.Need-ahead-requires-2
+ahead-requires-2 c κs = search needs
+
+returns-2 : tie.Need-returns-2
+unfolding shared
+returns-2 c = omega (arith, c .ahead2 .ensures, c .before .if1 .left, c .before .before .least .ensures)
+
+pub shared-spec : {M : Type 1} → statement M
+shared-spec = tie.close (tie.spec add-least add-least-2 least-requires ahead-requires ahead-requires-2 returns returns-2)

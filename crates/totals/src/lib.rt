@@ -1,0 +1,162 @@
+// The pixels of each class in a window, gathered from opening to opening.
+use border::Found;
+use window::Window;
+ghost use mathlib.Core.Path.{_≡_};
+ghost use Prim.Native.Nat.{_+_, _≤_, _<_};
+ghost use lib.ListN.{length, replicate};
+ghost use Rattle.lists.specs.Lists.{upFrom};
+ghost use Rattle.key.specs.Spread.{spreads};
+ghost use Rattle.key.specs.Along.{onesTable, TellsOnes};
+ghost use Rattle.window.specs.Window.{In, Inside};
+ghost use Rattle.map.specs.Sound.{Follow};
+ghost use Rattle.used.specs.Used.{Usable, spent};
+ghost use Rattle.totals.specs.Totals.{totals};
+ghost use Rattle.totals.specs.Gather.{shared, clipped, gathered, Hands, Fills, Gathering};
+
+// How many numbers the n from a on and the k from b on share.
+fn shared(a: u16, n: u16, b: u16, k: u16) -> u16
+    requires { ⌜ (a + n ≤ 65535) × (b + k ≤ 65535) ⌝ }
+    ensures { λ r. ⌜ r ≡ shared a n b k ⌝ }
+{
+    let high = window::least(a + n, b + k);
+    if a < b {
+        border::ahead(high, b)
+    } else {
+        border::ahead(high, a)
+    }
+}
+
+// How many pixels the window shares with the block of side 2^e around one of its pixels.
+fn clipped(window: Window, e: u32, row: u16, col: u16) -> u32
+    requires { ⌜ (e ≤ 12) × Inside 12 window × In window (row, col) ⌝ }
+    ensures { λ r. ⌜ r ≡ clipped window e (row, col) ⌝ }
+{
+    let side = key::side(e);
+    let rows = shared(window.r0, window.h, window::floor(e, row), side);
+    let cols = shared(window.c0, window.w, window::floor(e, col), side);
+    (rows as u32) * (cols as u32)
+}
+
+// Adds the pixels of several records, which fill the block of this key and exponent, to the totals of their classes. The block is gone through as the check goes through a picture,
+// and what a record has over the block's key is its key there. m and the window are there for the contract alone.
+fn gather_run(
+    ones: &[u32; 13],
+    digits: &[u8; 16],
+    m: u32,
+    keys: &[u32],
+    classes: &[u8],
+    window: Window,
+    key: u32,
+    exponent: u32,
+    first: u32,
+    count: u32,
+    totals: &mut [u32; 256],
+)
+    requires { ⌜ (now ones ≡ onesTable) × TellsOnes (now digits) × Fills m (now keys) (length (now classes)) window key exponent first count × Gathering m (now keys) (now classes) window first count (now totals) ⌝ }
+    ensures { λ r. ⌜ now (totals .exit) ≡ gathered m (now (keys .entry)) (now (classes .entry)) window (upFrom first count) (now (totals .entry)) ⌝ }
+{
+    let end = first + count;
+    let mut spot = spots::first_spot(exponent);
+    let mut n = first;
+    while n < end {
+        let at = n as usize;
+        let inner = keys[at] - key;
+        let e = spots::exponent_here(ones, digits, exponent, spot, inner);
+        totals[classes[at] as usize] += key::pow4(e);
+        spot = spots::advance(ones, exponent, inner, e, spot.place);
+        n += 1;
+    }
+}
+
+// Adds the parts of the records that an opening hands out to the totals of their classes. One that reaches beyond the block contains it and may stick out of the window, and
+// otherwise they fill the block.
+fn gather(
+    ones: &[u32; 13],
+    digits: &[u8; 16],
+    m: u32,
+    keys: &[u32],
+    classes: &[u8],
+    window: Window,
+    row: u16,
+    col: u16,
+    key: u32,
+    exponent: u32,
+    first: u32,
+    count: u32,
+    reach: u32,
+    totals: &mut [u32; 256],
+)
+    requires { ⌜ (now ones ≡ onesTable) × TellsOnes (now digits) × Hands m (now keys) (length (now classes)) window (row, col) key exponent first count reach × Gathering m (now keys) (now classes) window first count (now totals) ⌝ }
+    ensures { λ r. ⌜ now (totals .exit) ≡ gathered m (now (keys .entry)) (now (classes .entry)) window (upFrom first count) (now (totals .entry)) ⌝ }
+{
+    if exponent < reach {
+        let area = clipped(window, reach, row, col);
+        totals[classes[first as usize] as usize] += area;
+        return;
+    }
+    gather_run(
+        ones,
+        digits,
+        m,
+        keys,
+        classes,
+        window,
+        key,
+        exponent,
+        first,
+        count,
+        totals,
+    );
+}
+
+// Gathers the totals of all classes from opening to opening. In a whole map, those are the totals of all pixels.
+pub fn add_up(
+    table: &[u32; 256],
+    ones: &[u32; 13],
+    digits: &[u8; 16],
+    m: u32,
+    keys: &[u32],
+    classes: &[u8],
+    window: Window,
+    border: &mut [u16],
+    counts: &mut [u32; 256],
+)
+    requires { ⌜ (now table ≡ spreads) × (now ones ≡ onesTable) × TellsOnes (now digits) × Usable m m (now keys) window (length (now border)) × (length (now keys) ≡ length (now classes)) × (now counts ≡ replicate 256 0) × Follow m 0 (now keys) ⌝ }
+    ensures { λ r. ⌜ (now (counts .exit) ≡ totals m (now (keys .entry)) (now (classes .entry)) window) × (now (border .exit) ≡ spent window (now (border .entry))) ⌝ }
+{
+    border::fill(border, 0, window.w as usize, window.r0);
+    let mut at = openings::start(window);
+    loop {
+        let found = openings::next_opening(table, m, m, keys, window, at, border);
+        let Found::Opening {
+            row,
+            col,
+            exponent,
+            key,
+            first,
+            count,
+            reach,
+            on,
+        } = found
+        else {
+            return;
+        };
+        gather(
+            ones,
+            digits,
+            m,
+            keys,
+            classes,
+            window,
+            row,
+            col,
+            key,
+            exponent,
+            first,
+            count,
+            reach,
+            counts,
+        );
+        at = on;
+    }
+}
