@@ -1,5 +1,5 @@
 # What a user does, a target each.
-.PHONY: lib demo test bench check format
+.PHONY: lib demo test bench check format statement
 
 # The library for C: target/staticlib/liblutniorad.a. Its header is include/lutniorad.h.
 lib:
@@ -27,3 +27,7 @@ check:
 # Lays out every Rattle and antt file as the gate wants it.
 format:
 	rt fmt
+
+# docs/STATEMENT.md, the page of all that the calls promise, anew from the crates.
+statement:
+	@. tests/tools.sh && need python3:python3 && python3 docs/statement.py
