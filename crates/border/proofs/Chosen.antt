@@ -6,17 +6,18 @@ use mathlib.Core.List.{List, [], _∷_, _++_, append-assoc, map, List·Memᴰ, L
 use Prim.Native.Nat.{ℕ, _≤_}
 use Rattle.lists.specs.Lists.{Ordered, none, more}
 use Rattle.lists.proofs.Tests.{never}
-use Rattle.window.specs.declared.Window.{Window}
 use Rattle.key.specs.Picture.{Px}
+use Rattle.window.specs.declared.Window.{Window}
 use Rattle.window.specs.Window.{Inside}
-use Rattle.window.specs.Blocks.{maximal, Before}
+use Rattle.window.specs.Blocks.{maximal}
+use Rattle.window.specs.Promises.{Before}
 use Rattle.window.specs.Keys.{keyOf}
 use Rattle.window.proofs.Laws.{listed-ordered, ordered-back}
 use Rattle.map.specs.Sound.{Spaced}
-use Rattle.map.specs.Records.{pixelTile}
+use Rattle.map.proofs.Tiles.{pixelTile}
 use Rattle.border.specs.Openings.{met, isHanded, Opening, opening, openFrom, openings}
-use Rattle.border.specs.Border.{handedBy}
 use Rattle.border.specs.Promises.{openingAt}
+use Rattle.border.proofs.Gone.{handedBy}
 use Rattle.border.proofs.Sweep.{Out}
 use Rattle.border.proofs.Fold.{handedWith, opens-none, skip-opens, take-opens, openings-are, handed-snoc, handed-none}
 use Rattle.border.proofs.Earlier.{skip-test}

@@ -4,15 +4,15 @@ use mathlib.Core.Path.{_≡_, refl, sym, ap, _∙_}
 use mathlib.Core.Bool.{Bool, true, false, cond}
 use mathlib.Core.List.{List, _++_, List·Memᴰ}
 use Prim.Native.Nat.{ℕ, _+_, _-_, _≤_, _<_}
-use native.Mathlib.Omega.{arith}
 use native.Mathlib.Decide.{decLt}
+use native.Mathlib.Omega.{arith}
 use lib.Dec.{ltb}
 use lib.ListN.{length, getD}
 use borrow.Author.Tests.{lt-ltb, le-ltb}
 use Rattle.lists.specs.Lists.{upFrom, howMany}
 use Rattle.lists.proofs.Laws.{up-in, up-length, up-append, many-same, many-none, many-all, many-some, many-append}
-use Rattle.window.specs.declared.Window.{Window}
 use Rattle.key.specs.Picture.{Px}
+use Rattle.window.specs.declared.Window.{Window}
 use Rattle.window.specs.Window.{In}
 use Rattle.window.specs.Blocks.{floor}
 use Rattle.window.proofs.Laws.{floor-le, floor-lt, floor-eq}

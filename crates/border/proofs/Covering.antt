@@ -12,12 +12,14 @@ use Rattle.window.specs.Window.{In, Inside}
 use Rattle.window.specs.Blocks.{corner, maximal}
 use Rattle.window.specs.Keys.{keyOf}
 use Rattle.map.specs.Sound.{Spaced}
-use Rattle.map.specs.Records.{Holder, Free, pixelRecord, pixelTile}
+use Rattle.map.specs.Records.{pixelRecord}
+use Rattle.map.proofs.Tiles.{Holder, Free, pixelTile}
 use Rattle.map.proofs.Laws.{find, record-of, tile-of, tile-none, tile-record}
-use Rattle.border.specs.Openings.{Opening}
-use Rattle.border.specs.Border.{Handed, handedBy, openedBy, InOpened, CoveredBy, Covered}
+use Rattle.border.specs.Openings.{Opening, allHands}
+use Rattle.border.specs.Promises.{openingAt}
+use Rattle.border.specs.Border.{Handed, openedBy, InOpened, CoveredBy, Covered}
 use Rattle.border.specs.Step.{Corner}
-use Rattle.border.specs.Promises.{openingAt, allHands}
+use Rattle.border.proofs.Gone.{handedBy}
 use Rattle.border.proofs.Overlaps.{block-holds}
 use Rattle.border.proofs.Fold.{opening-key, opens-none, opens-or-lies, opened-block, handed-opened}
 use Rattle.border.proofs.Hands.{hands-none, hands-append}

@@ -11,15 +11,17 @@ use Rattle.lists.specs.Lists.{Ordered}
 use Rattle.key.specs.Picture.{place, Px}
 use Rattle.window.specs.declared.Window.{Window}
 use Rattle.window.specs.Window.{In, Inside}
-use Rattle.window.specs.Blocks.{maximal, Before}
+use Rattle.window.specs.Blocks.{maximal}
+use Rattle.window.specs.Promises.{Before}
 use Rattle.window.specs.Keys.{keyOf}
 use Rattle.window.proofs.Laws.{before-irrefl, listed-ordered, ordered-front, front-all}
 use Rattle.map.specs.Sound.{Spaced}
-use Rattle.map.specs.Records.{Holder, Free, pixelTile}
+use Rattle.map.proofs.Tiles.{Holder, Free, pixelTile}
 use Rattle.map.proofs.Laws.{tiles, find, tile-of}
 use Rattle.border.specs.Openings.{isHanded}
-use Rattle.border.specs.Border.{Stated, handedBy, Covered}
+use Rattle.border.specs.Border.{Stated, Covered}
 use Rattle.border.specs.Step.{Corner}
+use Rattle.border.proofs.Gone.{handedBy}
 use Rattle.border.proofs.Sweep.{Out, Now, out-larger}
 use Rattle.border.proofs.Stays.{stated-as}
 use Rattle.border.proofs.Handing.{Brought, listed-corner, corner-listed, skip-corner, handed-by, brought-free}

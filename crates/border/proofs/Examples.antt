@@ -14,14 +14,15 @@ use Rattle.window.specs.Window.{window}
 use Rattle.window.specs.Blocks.{floor, lies, fits, exponent, corner, across, rows, isCorner, maximal}
 use Rattle.window.specs.Keys.{keyOf, keysOf}
 use Rattle.map.specs.Spans as spans
+use Rattle.map.specs.Spans.{within}
 use Rattle.map.specs.Records.{recordOf, exponentOf}
 use Rattle.map.specs.Runs.{runOf}
 use Rattle.border.specs.declared.Stepped.the-variants as stepped
-use Rattle.border.specs.Openings.{isHanded, made, opening, openFrom, handedAfter, openings, handedCount, cellsOf}
-use Rattle.map.specs.Spans.{within}
+use Rattle.border.specs.Openings.{isHanded, made, opening, openFrom, openings, handedCount, cellsOf}
+use Rattle.border.specs.Promises.{openingsIn, bringing}
 use Rattle.border.specs.Cells.{filled, pushed, closed}
 use Rattle.border.specs.Step.{stepOf}
-use Rattle.border.specs.Promises.{openingsIn, bringing}
+use Rattle.border.proofs.Gone.{handedAfter}
 
 abbrev keys : List ℕ
 keys = 5 ∷ 11 ∷ 12 ∷ 13 ∷ 14 ∷ 15 ∷ 20 ∷ []

@@ -8,21 +8,22 @@ use mathlib.Core.List.{List, map, List·Memᴰ, Memᴰ·cast, Memᴰ·map, Mem�
 use Prim.Native.Nat.{ℕ, _+_, _*_, _/_, _^_, _≤_, _<_}
 use native.Mathlib.Omega.{arith}
 use lib.Dec.{ltb}
-use borrow.Author.Tests.{ltb-true}
 use lib.ListN.{length, length-map}
+use borrow.Author.Tests.{ltb-true}
 use Rattle.lists.specs.Lists.{upFrom, keep}
 use Rattle.lists.proofs.Laws.{ordered-imp, ordered-keep, keep-in, keep-true, pigeon, up-in, up-length}
-use Rattle.window.specs.declared.Window.{Window}
 use Rattle.key.specs.Picture.{Px}
+use Rattle.window.specs.declared.Window.{Window}
 use Rattle.window.specs.Window.{Inside}
-use Rattle.window.specs.Blocks.{maximal, Before}
+use Rattle.window.specs.Blocks.{maximal}
+use Rattle.window.specs.Promises.{Before}
 use Rattle.window.specs.Keys.{keyOf, keysOf}
 use Rattle.window.proofs.Laws.{before-irrefl, trichotomy, keys-of, blocks-few, blocks-capped}
 use Rattle.map.specs.Sound.{Spaced}
 use Rattle.map.proofs.Laws.{tiles}
-use Rattle.border.specs.Openings.{met, Opening, openings, handedCount, hands}
+use Rattle.border.specs.Openings.{met, Opening, openings, handedCount, hands, allHands}
+use Rattle.border.specs.Promises.{Overlaps, openingAt, HandedOut, bringing, Enough}
 use Rattle.border.specs.Step.{Corner}
-use Rattle.border.specs.Promises.{Overlaps, openingAt, allHands, HandedOut, bringing, Enough}
 use Rattle.border.proofs.Sweep.{clash}
 use Rattle.border.proofs.Overlaps.{met-pixels}
 use Rattle.border.proofs.Fold.{opening-own}

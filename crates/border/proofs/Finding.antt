@@ -6,23 +6,24 @@ use Prim.Native.Nat.{ℕ, _+_, _≤_, _<_}
 use native.Mathlib.Omega.{arith}
 use lib.ListN.{length, replicate, length-replicate, take-append-drop}
 use Rattle.answers.proofs.Laws.{overwrite-part}
-use Rattle.window.specs.declared.Window.{Window}
 use Rattle.key.specs.Picture.{Px}
+use Rattle.window.specs.declared.Window.{Window}
 use Rattle.window.specs.Blocks.{exponent, maximal}
 use Rattle.window.specs.Walk.{Walked}
 use Rattle.window.specs.Keys.{keyOf}
 use Rattle.window.proofs.Laws.{walked-first}
 use Rattle.map.specs.Runs.{runOf}
 use Rattle.map.specs.Runs as runs
+use Rattle.used.specs.Used.{Usable, spent}
 use Rattle.border.specs.declared.Walk.{Walk}
 use Rattle.border.specs.declared.Found.the-variants as found
-use Rattle.border.specs.Openings.{Opening, made, opening, handedAfter, openings}
+use Rattle.border.specs.Openings.{Opening, made, opening, openings}
 use Rattle.border.specs.Border.{Stated, Covered}
 use Rattle.border.specs.Cells.{filled}
 use Rattle.border.specs.Step.{Corner}
-use Rattle.used.specs.Used.{Usable, spent}
 use Rattle.border.specs.Found.{stepsLeave, walkMakes, walkLeaves, walk, spot, Reached, Kept, Finds}
 use Rattle.border.specs.Found as finds
+use Rattle.border.proofs.Gone.{handedAfter}
 use Rattle.border.proofs.Filled.{filled-length, filled-beyond}
 use Rattle.border.proofs.Columns.{left-first}
 use Rattle.border.proofs.Stays.{begins, ends}

@@ -17,14 +17,15 @@ use Rattle.window.specs.Window.{In, Inside}
 use Rattle.window.specs.Blocks.{exponent, corner, maximal}
 use Rattle.window.specs.Keys.{keyOf}
 use Rattle.window.proofs.Laws.{same-up, corner-in, corner-corner, corner→same, listed→, →listed, pixel-in}
+use Rattle.map.specs.Spans.{within}
 use Rattle.map.specs.Sound.{Spaced}
-use Rattle.map.specs.Records.{Holder, Free, pixelTile, pixelExponent}
+use Rattle.map.specs.Records.{pixelExponent}
+use Rattle.map.proofs.Tiles.{Holder, Free, pixelTile}
 use Rattle.map.proofs.Laws.{tiles, find, tile-of, tile-none, record-tile}
 use Rattle.border.specs.Openings.{met, isHanded, opening, openFrom, hands}
-use Rattle.map.specs.Spans.{within}
-use Rattle.border.specs.Border.{handedBy}
-use Rattle.border.specs.Step.{Corner}
 use Rattle.border.specs.Promises.{Overlaps}
+use Rattle.border.specs.Step.{Corner}
+use Rattle.border.proofs.Gone.{handedBy}
 use Rattle.border.proofs.Sweep.{joined}
 use Rattle.border.proofs.Overlaps.{met-pixels, in-record}
 use Rattle.border.proofs.Fold.{hands-opens, opens-or-lies, opened-block}

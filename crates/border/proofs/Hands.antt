@@ -3,9 +3,7 @@
 use mathlib.Core.Path.{_≡_, refl, sym}
 use mathlib.Core.Logic.{_↔_, _⊎_, inl, inr}
 use mathlib.Core.Bool.{Bool}
-use mathlib.Core.List.{List, [], _∷_, _++_, append-assoc, append-nil, map}
-use mathlib.Core.List.{List·Memᴰ, List·Memᴰ·head, List·Memᴰ·tail, List·Memᴰ·not-nil, List·Memᴰ·cases-cons, List·Memᴰ·append-cases}
-use mathlib.Core.List.{Memᴰ·append-left, Memᴰ·append-right}
+use mathlib.Core.List.{List, [], _∷_, _++_, append-assoc, append-nil, map, List·Memᴰ, List·Memᴰ·head, List·Memᴰ·tail, List·Memᴰ·not-nil, List·Memᴰ·cases-cons, List·Memᴰ·append-cases, Memᴰ·append-left, Memᴰ·append-right}
 use Prim.Native.Nat.{ℕ, _+_, _*_, _≤_, _<_}
 use native.Mathlib.Decide.{decLt}
 use native.Mathlib.Omega.{arith}
@@ -14,8 +12,8 @@ use lib.ListN.{length, length-append}
 use borrow.Author.Tests.{lt-ltb, le-ltb}
 use Rattle.lists.specs.Lists.{keep}
 use Rattle.lists.proofs.Laws.{up-in, up-length, keep-empty, keep-taken, keep-passed, keep-in, in-keep, keep-map, keep-all}
-use Rattle.border.specs.Openings.{Opening, handedCount, cellsOf, hands}
-use Rattle.border.specs.Promises.{openingsIn, allHands, HandedOut, bringing}
+use Rattle.border.specs.Openings.{Opening, handedCount, cellsOf, hands, allHands}
+use Rattle.border.specs.Promises.{openingsIn, HandedOut, bringing}
 
 pub hands-none : allHands [] ≡ []
 unfolding allHands

@@ -11,22 +11,23 @@ use lib.ListN.{getD}
 use borrow.Author.Tests.{lt-ltb, le-ltb}
 use Rattle.lists.proofs.Tests.{refuted}
 use Rattle.answers.specs.After.{After, after}
-use Rattle.window.specs.declared.Window.{Window}
 use Rattle.key.specs.Picture.{Px}
+use Rattle.window.specs.declared.Window.{Window}
 use Rattle.window.specs.Window.{Inside}
 use Rattle.window.specs.Blocks.{maximal}
 use Rattle.window.specs.Keys.{keyOf}
 use Rattle.map.specs.Sound.{Spaced}
-use Rattle.map.specs.Records.{pixelTile, pixelExponent}
+use Rattle.map.specs.Records.{pixelExponent}
 use Rattle.map.specs.Runs.{runOf}
+use Rattle.map.proofs.Tiles.{pixelTile}
 use Rattle.map.proofs.Laws.{tiles}
 use Rattle.border.specs.declared.Stepped.{Stepped}
 use Rattle.border.specs.declared.Stepped.the-variants as stepped
-use Rattle.border.specs.Openings.{isHanded, Opening, opening, openFrom}
-use Rattle.border.specs.Border.{Stated, handedBy, openedBy, CoveredBy, Covered}
+use Rattle.border.specs.Openings.{isHanded, Opening, opening, openFrom, allHands}
+use Rattle.border.specs.Border.{Stated, openedBy, CoveredBy, Covered}
 use Rattle.border.specs.Cells.{pushed, closed}
-use Rattle.border.specs.Step.{reach, stepOf, madeBy, handsBy, Step}
-use Rattle.border.specs.Promises.{allHands}
+use Rattle.border.specs.Step.{reach, stepOf, madeBy, Step}
+use Rattle.border.proofs.Gone.{handedBy, handsBy}
 use Rattle.border.proofs.Sweep.{Out, Now}
 use Rattle.border.proofs.Stays.{skip-iff}
 use Rattle.border.proofs.Fold.{opens-none, skip-opens, take-opens, opened-snoc, handed-opened}

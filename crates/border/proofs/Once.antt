@@ -6,18 +6,19 @@ use mathlib.Core.List.{List, map, List·Memᴰ, List·Memᴰ·head, List·Memᴰ
 use Prim.Native.Nat.{ℕ, _≤_}
 use Rattle.lists.specs.Lists.{Ordered, none, more}
 use Rattle.lists.proofs.Laws.{ordered-append, up-distinct}
-use Rattle.window.specs.declared.Window.{Window}
 use Rattle.key.specs.Picture.{Px}
+use Rattle.window.specs.declared.Window.{Window}
 use Rattle.window.specs.Window.{Inside}
-use Rattle.window.specs.Blocks.{maximal, Before}
+use Rattle.window.specs.Blocks.{maximal}
+use Rattle.window.specs.Promises.{Before}
 use Rattle.window.specs.Keys.{keyOf}
 use Rattle.map.specs.Sound.{Spaced}
-use Rattle.map.specs.Records.{pixelTile}
+use Rattle.map.proofs.Tiles.{pixelTile}
 use Rattle.map.proofs.Laws.{tiles}
-use Rattle.border.specs.Openings.{met, Opening, openings, hands}
-use Rattle.border.specs.Border.{handedBy}
+use Rattle.border.specs.Openings.{met, Opening, openings, hands, allHands}
+use Rattle.border.specs.Promises.{Overlaps, openingAt, HandedOut, Apart}
 use Rattle.border.specs.Step.{Corner}
-use Rattle.border.specs.Promises.{Overlaps, openingAt, allHands, HandedOut, Apart}
+use Rattle.border.proofs.Gone.{handedBy}
 use Rattle.border.proofs.Sweep.{Out, Now, now-fresh}
 use Rattle.border.proofs.Overlaps.{met-pixels}
 use Rattle.border.proofs.Fold.{openings-are, handed-opened}

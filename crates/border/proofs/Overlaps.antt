@@ -8,19 +8,22 @@ use Prim.Native.Nat.{ℕ, max, _+_, _^_, _≤_, _<_}
 use native.Mathlib.Decide.{decLt}
 use native.Mathlib.Omega.{arith}
 use lib.ListN.{length, getD}
-use Rattle.key.specs.Picture.{Pixel, place, PixelAt, Px}
+use Rattle.key.specs.Picture.{Pixel, place, Px}
 use Rattle.key.specs.Form.{formOf}
-use Rattle.key.specs.Blocks.{Names, Among, Covers, Stand, within as lies-in, around, after, before}
+use Rattle.key.specs.Blocks.{Names, Among}
+use Rattle.key.proofs.Standing.{PixelAt, Covers, Stand, within as lies-in, around, after, before}
 use Rattle.key.proofs.Laws.{block-lies, blocks-stand, holds-same, place-onto, pow-least, size-le}
 use Rattle.window.specs.declared.Window.{Window}
 use Rattle.window.specs.Window.{In, Inside}
-use Rattle.window.specs.Blocks.{Same, exponent, corner}
+use Rattle.window.specs.Blocks.{exponent, corner}
+use Rattle.window.specs.Promises.{Same}
 use Rattle.window.specs.Keys.{keyOf}
 use Rattle.window.proofs.Laws.{same-div, fits-all, exponent-fits, same→corner, corner→same, pixel-in, key-named}
 use Rattle.map.specs.Spans.{holds, within}
 use Rattle.map.specs.Sound.{Spaced}
-use Rattle.map.specs.Records.{Record, SomeRecord, Holder, pixelTile, pixelExponent}
-use Rattle.map.specs.Runs.{runOf, BlockOf, Overlap, Meets}
+use Rattle.map.specs.Records.{pixelExponent}
+use Rattle.map.specs.Runs.{runOf, BlockOf}
+use Rattle.map.proofs.Tiles.{Record, SomeRecord, Holder, pixelTile, Overlap, Meets}
 use Rattle.map.proofs.Laws.{record-at, apart, block-records, reach-is, tile-of, tile-holder, exponent-of, holds-is, within-is}
 use Rattle.border.specs.Openings.{met}
 use Rattle.border.specs.Step.{Corner, reach}

@@ -4,16 +4,17 @@ use mathlib.Core.Path.{_≡_, sym, _∙_}
 use mathlib.Core.List.{List, [], _∷_, _++_, map, map-append, append-assoc, append-nil}
 use Prim.Native.Nat.{ℕ}
 use lib.ListN.{length}
-use Rattle.window.specs.declared.Window.{Window}
 use Rattle.key.specs.Picture.{Px}
+use Rattle.window.specs.declared.Window.{Window}
 use Rattle.window.specs.Blocks.{maximal}
 use Rattle.window.specs.Keys.{keyOf}
-use Rattle.border.specs.declared.Stepped.{Stepped}
-use Rattle.border.specs.Openings.{openFrom, handedAfter}
-use Rattle.border.specs.Border.{Stated, handedBy, Covered}
-use Rattle.border.specs.Step.{Corner, Step}
 use Rattle.used.specs.Used.{Usable}
+use Rattle.border.specs.declared.Stepped.{Stepped}
+use Rattle.border.specs.Openings.{openFrom, openings}
+use Rattle.border.specs.Border.{Stated, Covered}
+use Rattle.border.specs.Step.{Corner, Step}
 use Rattle.border.specs.Found.{stepsMake, stepsLeave, Kept}
+use Rattle.border.proofs.Gone.{handedAfter, handedBy}
 use Rattle.border.proofs.Fold.{opens-none, opens-append, handed-append}
 use Rattle.border.proofs.Earlier.{own-corner}
 use Rattle.border.proofs.Making.{made-is, stated-step}

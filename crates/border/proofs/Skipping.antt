@@ -5,18 +5,18 @@ use mathlib.Core.List.{List, [], _∷_, _++_, List·Memᴰ, List·Memᴰ·head, 
 use Prim.Native.Nat.{ℕ, _+_, _≤_}
 use native.Mathlib.Omega.{arith}
 use lib.ListN.{length}
+use Rattle.key.specs.Picture.{Px}
 use Rattle.window.specs.declared.Window.{Window}
 use Rattle.window.specs.declared.Next.the-variants.{Block, End}
-use Rattle.key.specs.Picture.{Px}
 use Rattle.window.specs.Window.{In}
 use Rattle.window.specs.Walk.{blocksFrom, Goes, block, end}
 use Rattle.window.proofs.Laws.{walked-next, walked-split, goes-in, goes-corner, goes-exponent}
+use Rattle.used.specs.Used.{Usable}
 use Rattle.border.specs.declared.Stepped.{Stepped}
 use Rattle.border.specs.declared.Stepped.the-variants as stepped
 use Rattle.border.specs.declared.Walk.{Walk}
 use Rattle.border.specs.declared.Found.the-variants as found
 use Rattle.border.specs.Step.{madeBy, Corner, Ready, Step}
-use Rattle.used.specs.Used.{Usable}
 use Rattle.border.specs.Found.{stepsMake, stepsLeave, walkMakes, walkLeaves, columnsLeft, walk, spot, Reached, Kept, Finds}
 use Rattle.border.specs.Found as finds
 use Rattle.border.proofs.Columns.{left-none}

@@ -7,20 +7,21 @@ use native.Mathlib.Decide.{decLt}
 use native.Mathlib.Nat.{add-zero}
 use native.Mathlib.Omega.{arith}
 use lib.ListN.{length, getD, take, drop, replicate, length-replicate}
-use Rattle.answers.proofs.Laws.{overwrite-part, overwrite-same}
 use Rattle.answers.specs.After.{After}
-use Rattle.window.specs.declared.Window.{Window}
+use Rattle.answers.proofs.Laws.{overwrite-part, overwrite-same}
 use Rattle.key.specs.Picture.{Px}
+use Rattle.window.specs.declared.Window.{Window}
 use Rattle.window.specs.Blocks.{exponent, maximal}
 use Rattle.window.specs.Keys.{keyOf}
-use Rattle.map.specs.Records.{pixelTile, pixelExponent}
+use Rattle.map.specs.Records.{pixelExponent}
+use Rattle.map.proofs.Tiles.{pixelTile}
 use Rattle.map.proofs.Laws.{tiles}
+use Rattle.used.specs.Used.{Usable, spent}
 use Rattle.border.specs.declared.Stepped.{Stepped}
 use Rattle.border.specs.declared.Stepped.the-variants as stepped
 use Rattle.border.specs.Border.{Stated, Covered}
 use Rattle.border.specs.Cells.{filled}
 use Rattle.border.specs.Step.{reach, stepOf, madeBy, Corner, Ready, Step}
-use Rattle.used.specs.Used.{Usable, spent}
 use Rattle.border.specs.Found.{stepsMake, stepsLeave, columnsLeft, Kept}
 use Rattle.border.proofs.Filled.{pushed-length, pushed-beyond}
 use Rattle.border.proofs.Columns.{left-pushed}

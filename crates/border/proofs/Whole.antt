@@ -6,8 +6,8 @@ use mathlib.Core.List.{List, [], _∷_, _++_, List·Memᴰ}
 use Prim.Native.Nat.{ℕ, _≤_}
 use native.Mathlib.Omega.{arith}
 use lib.ListN.{length}
-use Rattle.window.specs.declared.Window.{Window}
 use Rattle.key.specs.Picture.{Px}
+use Rattle.window.specs.declared.Window.{Window}
 use Rattle.window.specs.Window.{In, Inside}
 use Rattle.window.specs.Blocks.{maximal}
 use Rattle.window.proofs.Laws.{pixel-in, key-named}
@@ -15,9 +15,10 @@ use Rattle.map.specs.Sound.{Follow}
 use Rattle.map.proofs.Laws.{spaced, some-records, record-of, pixel-holder}
 use Rattle.border.specs.declared.Stepped.{Stepped}
 use Rattle.border.specs.Openings.{Opening, opening, openings}
-use Rattle.border.specs.Border.{Stated, Handed, handedBy, Covered}
-use Rattle.border.specs.Step.{handsBy, Corner, Step}
 use Rattle.border.specs.Promises.{Touches, HandedOut, bringing, Enough}
+use Rattle.border.specs.Border.{Stated, Handed, Covered}
+use Rattle.border.specs.Step.{Corner, Step}
+use Rattle.border.proofs.Gone.{handedBy, handsBy}
 use Rattle.border.proofs.Stays.{stated-as}
 use Rattle.border.proofs.Fold.{opening-block, handed-opened}
 use Rattle.border.proofs.Hands.{bringing-all}

@@ -1,13 +1,13 @@
 -- The words in which the promises about the openings of a window are said.
 -- Assumes nothing.
 use mathlib.Core.Path.{_≡_}
-use mathlib.Core.List.{List, [], _∷_, _++_, List·Memᴰ}
+use mathlib.Core.List.{List, [], _∷_, List·Memᴰ}
 use Prim.Native.Nat.{ℕ, _<_}
 use lib.Dec.{ltb}
 use lib.ListN.{length}
 use Rattle.lists.specs.Lists.{keep}
-use Rattle.window.specs.declared.Window.{Window}
 use Rattle.key.specs.Picture.{Px}
+use Rattle.window.specs.declared.Window.{Window}
 use Rattle.window.specs.Window.{In}
 use Rattle.window.specs.Keys.{keyOf, keysOf}
 use Rattle.map.specs.Records.{pixelRecord}
@@ -33,11 +33,6 @@ openingsIn [] = []
 openingsIn (key ∷ []) = []
 openingsIn (key ∷ first ∷ []) = []
 openingsIn (key ∷ first ∷ count ∷ cells) = made key first count ∷ openingsIn cells
-
--- and all that a list of openings does, one opening after another
-unfoldable pub allHands : List Opening → List ℕ
-allHands [] = []
-allHands (o ∷ os) = hands o ++ allHands os
 
 -- one of these openings hands out record n
 pub record HandedOut (os : List Opening) (n : ℕ) : Type 0 where

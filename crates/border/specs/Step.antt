@@ -8,20 +8,19 @@ use Prim.Native.Nat.{ℕ, max, _-_, _<_}
 use lib.Dec.{ltb}
 use lib.ListN.{getD}
 use Rattle.answers.specs.After.{After, after}
-use Rattle.used.specs.Used.{Usable}
-use Rattle.window.specs.declared.Window.{Window}
 use Rattle.key.specs.Picture.{Px}
+use Rattle.window.specs.declared.Window.{Window}
 use Rattle.window.specs.Window.{In}
 use Rattle.window.specs.Blocks.{exponent, corner, maximal}
 use Rattle.window.specs.Keys.{keyOf}
 use Rattle.map.specs.Records.{pixelExponent}
 use Rattle.map.specs.Runs.{runOf}
+use Rattle.used.specs.Used.{Usable}
 use Rattle.border.specs.declared.Stepped.{Stepped}
 use Rattle.border.specs.declared.Stepped.the-variants.{Skipped, Opened}
 use Rattle.border.specs.Openings.{Opening, made}
 use Rattle.border.specs.Border.{Stated, CoveredBy, openedBy}
 use Rattle.border.specs.Cells.{pushed, closed}
-use Rattle.border.specs.Promises.{allHands}
 
 -- of the block with corner b and the record of b, by the exponents of records, the exponent of the larger
 abbrev pub reach : Window → ℕ → (ℕ → ℕ → ℕ) → Px → ℕ
@@ -50,10 +49,6 @@ pub record Ready (m top : ℕ) (keys : List ℕ) (W : Window) (b : Px) (i cells 
 unfoldable pub madeBy : Stepped → List Opening
 madeBy Skipped = []
 madeBy (Opened key first count far closed) = made key first count ∷ []
-
--- the records that it hands out: the run of an opened block, or none
-abbrev pub handsBy : Stepped → List ℕ
-handsBy answer = allHands (madeBy answer)
 
 -- what a step promises: for any cells, what it answers and leaves, and when it skips; and cells that are as stated before the step, by the openings made till then, are so after it,
 -- by those and what the step itself has made

@@ -6,15 +6,15 @@ use Prim.Native.Nat.{ℕ}
 use lib.Dec.{lit<}
 use Rattle.lists.specs.Lists.{keep, greatest}
 use Rattle.answers.specs.Refusals.{answer}
+use Rattle.answers.specs.Sizes.{pictureRefusals}
 use Rattle.answers.specs.Cells.{overwrite}
 use Rattle.answers.specs.After.{after, roomRefusals}
-use Rattle.answers.specs.Sizes.{pictureRefusals}
 use Rattle.key.specs.Spread.{spreadTo, spread}
 use Rattle.key.specs.Key.{pixelKey, blockKey}
-use Rattle.decompose.specs.declared.Decomposed.the-variants.{Done, Refused}
 use Rattle.window.specs.Window.{window, beyond, outside, windowRefusals}
 use Rattle.window.specs.Blocks.{floor, lies, fits, exponent, corner, across, rows, isCorner, maximal}
 use Rattle.window.specs.Keys.{keyOf, keysOf}
+use Rattle.decompose.specs.declared.Decomposed.the-variants.{Done, Refused}
 use Rattle.decompose.specs.Decompose.{decomposeRefusals, decomposeOf}
 
 abbrev six : List ℕ

@@ -18,9 +18,9 @@ use Rattle.window.specs.Blocks.{across, rows}
 use Rattle.map.specs.Spans as spans
 use Rattle.map.specs.Check.{late, refusalsFrom, mapRefusals}
 use Rattle.map.specs.Records.{recordOf}
+use Rattle.map.specs.Classes.{hasClass}
 use Rattle.used.specs.Used.{useRefusals, spent, borderRefusals}
 use Rattle.exist.specs.declared.Existence.the-variants as existence
-use Rattle.map.specs.Classes.{hasClass}
 use Rattle.exist.specs.Exist.{exists, existing, existOf}
 
 abbrev keys : List ℕ

@@ -10,18 +10,17 @@ use borrow.Author.Tests.{eqb-true, eq-eqb}
 use Rattle.lists.specs.Lists.{any}
 use Rattle.lists.proofs.Tests.{agree}
 use Rattle.lists.proofs.Laws.{any-none, any-has, has-any, any-append}
-use Rattle.window.specs.declared.Window.{Window}
 use Rattle.key.specs.Picture.{Px}
+use Rattle.window.specs.declared.Window.{Window}
 use Rattle.window.specs.Window.{In, Inside}
-use Rattle.map.specs.Sound.{Follow}
-use Rattle.map.specs.Records.{pixelRecord}
-use Rattle.border.specs.Openings.{Opening, openings, hands}
-use Rattle.border.specs.Promises.{allHands}
-use Rattle.border.proofs.Laws.{hands-none, hands-one, hands-append, in-hands, hands-whole}
-use Rattle.map.specs.Classes.{classed, hasClass}
-use Rattle.exist.specs.Exist.{exists}
 use Rattle.window.specs.Blocks.{pixels}
 use Rattle.window.proofs.Laws.{in-pixels}
+use Rattle.map.specs.Sound.{Follow}
+use Rattle.map.specs.Records.{pixelRecord}
+use Rattle.map.specs.Classes.{classed, hasClass}
+use Rattle.border.specs.Openings.{Opening, openings, hands, allHands}
+use Rattle.border.proofs.Laws.{hands-none, hands-one, hands-append, in-hands, hands-whole}
+use Rattle.exist.specs.Exist.{exists}
 
 -- ---- what it means
 

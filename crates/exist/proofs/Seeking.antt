@@ -8,15 +8,14 @@ use native.Mathlib.Omega.{arith}
 use Rattle.lists.specs.Lists.{upFrom, any}
 use Rattle.lists.proofs.Laws.{any-none, any-next, upto-next, upto-last}
 use Rattle.window.specs.declared.Window.{Window}
+use Rattle.map.specs.Sound.{Follow}
+use Rattle.map.specs.Classes.{classed}
 use Rattle.border.specs.declared.Walk.{Walk}
 use Rattle.border.specs.declared.Found.the-variants as found
-use Rattle.border.specs.Openings.{Opening, made, openings}
-use Rattle.border.specs.Promises.{allHands}
-use Rattle.map.specs.Sound.{Follow}
-use Rattle.used.specs.Used.{Usable}
+use Rattle.border.specs.Openings.{Opening, made, openings, allHands}
 use Rattle.border.specs.Found.{walkMakes, walk, spot, Finds}
 use Rattle.border.proofs.Finding.{Finding, finding-next, finding-last}
-use Rattle.map.specs.Classes.{classed}
+use Rattle.used.specs.Used.{Usable}
 use Rattle.exist.specs.Exist.{exists}
 use Rattle.exist.proofs.Found.{exists-hands, any-no-opening, any-opening, opening-any}
 

@@ -1,7 +1,7 @@
 -- What exist answers and leaves, by the verdict of its refusals.
 -- Assumes nothing.
 use mathlib.Core.Path.{_≡_, refl, ap}
-use mathlib.Core.Bool.{true, false}
+use mathlib.Core.Bool.{true, false, cond}
 use mathlib.Core.List.{List}
 use Prim.Native.Nat.{ℕ}
 use lib.ListN.{length}
@@ -14,9 +14,6 @@ use Rattle.used.specs.Used.{useRefusals, spent}
 use Rattle.exist.specs.declared.Existence.{Existence}
 use Rattle.exist.specs.declared.Existence.the-variants as existence
 use Rattle.exist.specs.Exist.{exists, existing, existOf}
-use mathlib.Core.Path.{_≡_}
-use mathlib.Core.Bool.{cond}
-use Prim.Native.Nat.{ℕ}
 
 module _ (m : ℕ) (keys classes : List ℕ) (W : Window) (class : ℕ) (border : List ℕ) where
   pub exist-refused : {n p : ℕ} → verdict (useRefusals m keys (length classes) W (length border)) ≡ verdict-of.Refused n p

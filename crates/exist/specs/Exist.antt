@@ -1,17 +1,14 @@
 -- Exist: whether some pixel of a window has a class; the answer and every lent cell, on every input.
 -- Assumes nothing.
-use mathlib.Core.Bool.{Bool}
-use mathlib.Core.List.{List}
-use Prim.Native.Nat.{ℕ}
-use Rattle.lists.specs.Lists.{any}
-use Rattle.window.specs.declared.Window.{Window}
-use Rattle.window.specs.Blocks.{pixels}
-use mathlib.Core.Bool.{cond}
+use mathlib.Core.Bool.{Bool, cond}
 use mathlib.Core.List.{List}
 use Prim.Native.Nat.{ℕ}
 use lib.ListN.{length}
+use Rattle.lists.specs.Lists.{any}
 use Rattle.answers.specs.Refusals.{answer}
 use Rattle.answers.specs.After.{After, after}
+use Rattle.window.specs.declared.Window.{Window}
+use Rattle.window.specs.Blocks.{pixels}
 use Rattle.map.specs.Classes.{hasClass}
 use Rattle.used.specs.Used.{useRefusals, spent}
 use Rattle.exist.specs.declared.Existence.{Existence}

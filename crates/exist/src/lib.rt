@@ -9,8 +9,8 @@ ghost use Rattle.lists.specs.Lists.{upFrom, any};
 ghost use Rattle.answers.specs.After.{after};
 ghost use Rattle.key.specs.Spread.{spreads};
 ghost use Rattle.map.specs.Sound.{Follow};
-ghost use Rattle.used.specs.Used.{Usable};
 ghost use Rattle.map.specs.Classes.{classed};
+ghost use Rattle.used.specs.Used.{Usable};
 ghost use Rattle.exist.specs.Exist.{existing, existOf};
 
 // What exist answers.

@@ -4,16 +4,17 @@ use mathlib.Core.Path.{_≡_, refl, sym, ap, _∙_, subst}
 use mathlib.Core.Logic.{_↔_}
 use mathlib.Core.List.{List}
 use Prim.Native.Nat.{ℕ, suc, _+_, _*_, _/_, _%_, _^_, _≤_, _<_}
-use native.Mathlib.Nat.{pow-suc, zero-mod, mod-eq-of-lt}
 use native.Mathlib.Decide.{decLt}
+use native.Mathlib.Nat.{pow-suc, zero-mod, mod-eq-of-lt}
 use native.Mathlib.Omega.{arith}
 use lib.ListN.{getD}
 use Rattle.key.specs.declared.Spot.{Spot}
 use Rattle.key.specs.declared.Fit.the-variants.{Block, Other}
-use Rattle.key.specs.Alignment.{alignment}
-use Rattle.key.specs.Blocks.{Names, Lies}
 use Rattle.key.specs.Key.{ones}
+use Rattle.key.specs.Blocks.{Names}
 use Rattle.key.specs.Along.{onesTable, TellsOnes, pixelAt, Stands, ToldFit, block, other}
+use Rattle.key.specs.Alignment.{alignment}
+use Rattle.key.proofs.Standing.{Lies}
 use Rattle.key.proofs.Powers.{pow-least, pow-most, four}
 use Rattle.key.proofs.Blocks.{At, whole, lies, at-form, form-at, one-at}
 use Rattle.key.proofs.Zeros.{alignment-divides}

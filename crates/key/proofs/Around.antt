@@ -4,12 +4,13 @@
 use mathlib.Core.Path.{_≡_, sym, ap, _∙_}
 use mathlib.Core.Logic.{_⊎_, inl, inr, _↔_}
 use Prim.Native.Nat.{ℕ, suc, _+_, _-_, _*_, _%_, _^_, _≤_, _<_}
+use native.Mathlib.Decide.{decLt}
 use native.Mathlib.Nat.{pow-suc, zero-mod, add-mul, mul-assoc, mul-add-mod-self-right, mod-eq-of-lt, sub-add-cancel, pow-le-pow-right, zero-lt-suc, eq-or-lt-of-le}
 use native.Mathlib.Numerals.{add-one}
-use native.Mathlib.Decide.{decLt}
 use native.Mathlib.Omega.{arith}
 use lib.Pow.{pow-add}
-use Rattle.key.specs.Blocks.{Names, Lies, Among, Stand, within, around, after, before, BelowBlock, Reaches, contains, ends}
+use Rattle.key.specs.Blocks.{Names, Among, BelowBlock, Reaches, contains, ends}
+use Rattle.key.proofs.Standing.{Lies, Stand, within, around, after, before}
 use Rattle.key.proofs.Powers.{pow-least}
 use Rattle.key.proofs.Blocks.{At, whole, quad, lies, form-at, stand}
 use Rattle.key.proofs.Ends.{sub-key}

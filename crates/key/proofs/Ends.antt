@@ -3,13 +3,14 @@
 use mathlib.Core.Path.{_≡_, refl, sym, ap, _∙_, subst}
 use mathlib.Core.Logic.{_⊎_, inl, inr, ⊎-elim}
 use Prim.Native.Nat.{ℕ, suc, _+_, _-_, _*_, _/_, _%_, _^_, _≤_, _<_}
-use native.Mathlib.Nat.{pow-suc, zero-mod, suc-mul, add-mul, mul-assoc, sub-add-cancel, mul-le-mul-right, div-add-mod', eq-or-lt-of-le}
 use native.Mathlib.Decide.{decLt}
+use native.Mathlib.Nat.{pow-suc, zero-mod, suc-mul, add-mul, mul-assoc, sub-add-cancel, mul-le-mul-right, div-add-mod', eq-or-lt-of-le}
 use native.Mathlib.Omega.{arith}
 use lib.Arith.{digits-mod}
 use lib.Pow.{pow-add}
-use Rattle.key.specs.Blocks.{Names, Covers}
 use Rattle.key.specs.Key.{ones}
+use Rattle.key.specs.Blocks.{Names}
+use Rattle.key.proofs.Standing.{Covers}
 use Rattle.key.proofs.Powers.{pow-least}
 use Rattle.key.proofs.Blocks.{At, whole, quad, lies, at-form, form-at, next-le, tri}
 use Rattle.key.proofs.Pixels.{place-onto, block-at}

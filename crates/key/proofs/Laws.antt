@@ -5,9 +5,10 @@ use mathlib.Core.Logic.{_↔_}
 use Prim.Native.Nat.{ℕ, _+_, _-_, _*_, _/_, _^_, _≤_, _<_}
 use native.Mathlib.Nat.{mul-div-cancel, div-mul-le-self, lt-div-mul-add}
 use native.Mathlib.Omega.{arith}
-use Rattle.key.specs.Picture.{Pixel, place, PixelAt}
+use Rattle.key.specs.Picture.{Pixel, place}
 use Rattle.key.specs.Key.{pixelKey, blockKey}
-use Rattle.key.specs.Blocks.{Names, Lies, Among, Covers, Stand, within, around, after, before}
+use Rattle.key.specs.Blocks.{Names, Among}
+use Rattle.key.proofs.Standing.{PixelAt, Lies, Covers, Stand, within, around, after, before}
 use Rattle.key.proofs.Powers.{pow-least}
 use Rattle.key.proofs.Digits.{form-whole}
 use Rattle.key.proofs.Blocks.{At, lies, at-form, form-at, stand, one-at}

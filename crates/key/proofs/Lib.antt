@@ -1,3 +1,4 @@
+pub mod Standing
 mod Bits
 mod Powers
 mod Digits

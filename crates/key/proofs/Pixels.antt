@@ -9,8 +9,9 @@ use lib.Arith.{digits-div}
 use lib.Dec.{lit<}
 use lib.Pow.{pow-add, pow-mono, pow-pos, shr-lt}
 use Rattle.key.specs.Spread.{spread}
-use Rattle.key.specs.Picture.{Pixel, place, PixelAt}
+use Rattle.key.specs.Picture.{Pixel, place}
 use Rattle.key.specs.Key.{pixelKey, blockKey}
+use Rattle.key.proofs.Standing.{PixelAt}
 use Rattle.key.proofs.Bits.{spread-split, spread-bit, spread-lt}
 use Rattle.key.proofs.Blocks.{At, whole, quad}
 

@@ -6,10 +6,10 @@ use mathlib.Core.List.{List, map}
 use Prim.Native.Nat.{ℕ, _+_, _%_, _^_, _≤_, _<_}
 use lib.ListN.{getD}
 use Rattle.lists.specs.Lists.{upFrom}
-use Rattle.key.specs.Key.{ones}
 use Rattle.key.specs.declared.Spot.{Spot}
 use Rattle.key.specs.declared.Fit.{Fit}
 use Rattle.key.specs.declared.Fit.the-variants.{Block, Other}
+use Rattle.key.specs.Key.{ones}
 use Rattle.key.specs.Blocks.{Names}
 
 -- the table of them

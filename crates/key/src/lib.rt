@@ -3,8 +3,8 @@
 ghost use mathlib.Core.Path.{_≡_};
 ghost use Prim.Native.Nat.{_+_, _^_, _<_, _≤_};
 ghost use lib.ListN.{getD};
-ghost use Rattle.key.specs.Picture.{Pixel};
 ghost use Rattle.key.specs.Spread.{E, spreads};
+ghost use Rattle.key.specs.Picture.{Pixel};
 ghost use Rattle.key.specs.Key.{pixelKey, blockKey, ones};
 ghost use Rattle.key.specs.Alignment.{alignment};
 ghost use Rattle.key.specs.Power.{Power};

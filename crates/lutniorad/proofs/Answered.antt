@@ -12,26 +12,26 @@ use Rattle.answers.specs.Refusals.{answer}
 use Rattle.answers.specs.Sizes.{Sized}
 use Rattle.answers.proofs.Laws.{answer-part, on-passed}
 use Rattle.window.specs.declared.Window.{Window}
-use Rattle.decompose.specs.declared.Decomposed.the-variants as decomposed
 use Rattle.window.specs.Window.{Inside}
 use Rattle.window.specs.Keys.{keysOf}
+use Rattle.decompose.specs.declared.Decomposed.the-variants as decomposed
 use Rattle.decompose.specs.Decompose.{decomposeRefusals}
 use Rattle.decompose.proofs.Laws.{numbered-decompose, decompose-passed, decompose-by-length, decompose-untouched}
 use Rattle.map.specs.declared.Checked.the-variants as checked
-use Rattle.map.specs.Sound.{SoundMap}
 use Rattle.map.specs.Check.{mapRefusals}
+use Rattle.map.specs.Sound.{SoundMap}
 use Rattle.map.proofs.Laws.{sound-map, check-is, numbered-map}
 use Rattle.used.specs.Used.{useRefusals}
 use Rattle.used.specs.Promises.{Answerable}
 use Rattle.used.proofs.Laws.{use-answerable, numbered-use}
-use Rattle.exist.specs.declared.Existence.the-variants as existence
-use Rattle.exist.specs.Exist.{exists}
-use Rattle.exist.proofs.Laws.{exist-by-lengths, exist-untouched}
 use Rattle.house.specs.declared.Reading.the-variants as reading
 use Rattle.house.specs.declared.Writing.the-variants as writing
 use Rattle.house.specs.File.{readRefusals, writeRefusals, fileM, fileQ}
 use Rattle.house.specs.Promises.{Readable}
 use Rattle.house.proofs.Laws.{numbered-read, read-passed, read-by-lengths, read-untouched, numbered-write, write-passed, write-by-length, write-untouched}
+use Rattle.exist.specs.declared.Existence.the-variants as existence
+use Rattle.exist.specs.Exist.{exists}
+use Rattle.exist.proofs.Laws.{exist-by-lengths, exist-untouched}
 use Rattle.lutniorad.specs.declared.Answer.{Answer}
 use Rattle.lutniorad.specs.Numbers.{values, refused, ofChecked, ofDecomposed, ofExistence, ofReading, ofWriting}
 use Rattle.lutniorad.specs.Calls.{Check, Decompose, Exist, Read, Write}

@@ -8,26 +8,26 @@ use Prim.Native.Nat.{ℕ, _+_, _*_, _≤_}
 use native.Mathlib.Omega.{arith}
 use lib.ListN.{length, getD, take}
 use lib.Seq.{getD-take}
-use Rattle.lists.specs.Lists.{sum}
+use Rattle.lists.specs.Promises.{sum}
 use Rattle.lists.proofs.Tests.{never}
 use Rattle.answers.specs.Refusals.{refusal, answer}
 use Rattle.answers.specs.Cells.{overwrite}
 use Rattle.answers.specs.After.{after, roomRefusals}
 use Rattle.answers.proofs.Laws.{on-passed, take-overwrite, drop-overwrite}
-use Rattle.window.specs.Blocks.{pixels}
 use Rattle.window.specs.declared.Window.{Window}
+use Rattle.window.specs.Blocks.{pixels}
 use Rattle.map.proofs.Laws.{spaced}
 use Rattle.used.specs.Used.{useRefusals, spent, usedFor}
 use Rattle.used.specs.Promises.{Answerable}
 use Rattle.used.proofs.Laws.{use-answerable}
-use Rattle.report.specs.declared.Reported.the-variants as reported-as
-use Rattle.select.specs.declared.Selected.the-variants as selected-as
 use Rattle.exist.specs.Exist.{exists}
-use Rattle.totals.specs.Totals.{totals}
-use Rattle.select.specs.Select.{selection}
 use Rattle.exist.proofs.Laws.{exists-means, exist-leaves}
-use Rattle.report.proofs.Laws.{report-is}
+use Rattle.totals.specs.Totals.{totals}
 use Rattle.totals.proofs.Laws.{totals-length, totals-at, totals-sum}
+use Rattle.report.specs.declared.Reported.the-variants as reported-as
+use Rattle.report.proofs.Laws.{report-is}
+use Rattle.select.specs.declared.Selected.the-variants as selected-as
+use Rattle.select.specs.Select.{selection}
 use Rattle.select.proofs.Laws.{select-is, selection-pixels, selection-one, selection-once, selection-few}
 use Rattle.lutniorad.specs.declared.Answer.{Answer}
 use Rattle.lutniorad.specs.Numbers.{values, refused, ofReported, ofSelected}

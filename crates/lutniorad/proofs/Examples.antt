@@ -17,14 +17,14 @@ use Rattle.window.specs.Blocks.{floor, lies, fits, exponent, corner, across, ro
 use Rattle.window.specs.Keys.{keyOf, keysOf}
 use Rattle.decompose.specs.Decompose.{decomposeRefusals, decomposeOf}
 use Rattle.map.specs.Spans as spans
+use Rattle.map.specs.Spans.{within}
 use Rattle.map.specs.Check.{late, refusalsFrom, mapRefusals}
 use Rattle.map.specs.Records.{recordOf, exponentOf}
 use Rattle.map.specs.Runs.{runOf}
 use Rattle.border.specs.Openings.{isHanded, made, opening, openFrom, openings, handedCount, cellsOf}
-use Rattle.map.specs.Spans.{within}
+use Rattle.border.specs.Promises.{openingsIn}
 use Rattle.used.specs.Used.{useRefusals, spent, usedFor, borderRefusals}
 use Rattle.open.specs.Open.{openOf}
-use Rattle.border.specs.Promises.{openingsIn}
 use Rattle.lutniorad.specs.Numbers.{values}
 use Rattle.lutniorad.specs.Calls.{Decompose, Open}
 use Rattle.lutniorad.specs.Promises.{DecomposePromise, OpenPromise}

@@ -6,15 +6,15 @@ use Prim.Native.Nat.{ℕ, _^_, _≤_}
 use lib.ListN.{length, take}
 use Rattle.answers.specs.Cells.{overwrite}
 use Rattle.answers.specs.After.{After}
-use Rattle.numbers.specs.Numbers.{Below}
+use Rattle.numbers.specs.Promises.{Below}
+use Rattle.house.specs.declared.Reading.{Reading}
+use Rattle.house.specs.declared.Writing.{Writing}
 use Rattle.house.proofs.Laws.{length-file, read-leaves, write-leaves, written-read-lent, read-written}
 use Rattle.lutniorad.specs.declared.Answer.{Answer}
 use Rattle.lutniorad.specs.Numbers.{values, ofReading, ofWriting}
 use Rattle.lutniorad.specs.Calls.{Read, Write}
 use Rattle.lutniorad.specs.Promises.{ReadPromise, WritePromise}
 use Rattle.lutniorad.proofs.Answered.{read-answered, write-answered}
-use Rattle.house.specs.declared.Reading.{Reading}
-use Rattle.house.specs.declared.Writing.{Writing}
 
 module _ (file keys classes : List ℕ) {keys′ classes′ : List ℕ} {r : Answer} (call : Read file keys classes r keys′ classes′) (z : r .refusal ≡ 0) where
   pub read-promise : ReadPromise file keys classes r keys′ classes′

@@ -11,22 +11,23 @@ use Rattle.answers.specs.Refusals.{refusal, answer}
 use Rattle.answers.specs.Cells.{overwrite}
 use Rattle.answers.specs.After.{after, roomRefusals}
 use Rattle.answers.proofs.Laws.{on-passed, take-overwrite}
+use Rattle.key.specs.Picture.{Px}
 use Rattle.key.specs.Key.{blockKey}
 use Rattle.window.specs.declared.Window.{Window}
-use Rattle.key.specs.Picture.{Px}
 use Rattle.window.specs.Window.{Inside}
-use Rattle.window.specs.Blocks.{Maximal, exponent, maximal}
+use Rattle.window.specs.Blocks.{exponent, maximal}
+use Rattle.window.specs.Promises.{Maximal}
 use Rattle.window.specs.Keys.{keysOf}
 use Rattle.window.proofs.Laws.{maximal-listed, listed-ordered, blocks-few, keys-of, keys-length, key-at}
 use Rattle.decompose.proofs.Laws.{decompose-passed, decompose-leaves}
 use Rattle.map.proofs.Laws.{spaced}
-use Rattle.open.specs.declared.Opened.the-variants.{Done, Refused}
 use Rattle.border.specs.Openings.{Opening, openings, handedCount, cellsOf}
+use Rattle.border.specs.Promises.{openingsIn}
+use Rattle.border.proofs.Laws.{openings-in, cells-length, hands-count, hands-all, hands-once, openings-few, hands-some, fewest-whole}
 use Rattle.used.specs.Used.{useRefusals, spent, usedFor}
 use Rattle.used.specs.Promises.{Answerable}
-use Rattle.border.specs.Promises.{openingsIn}
+use Rattle.open.specs.declared.Opened.the-variants.{Done, Refused}
 use Rattle.open.proofs.Laws.{open-is}
-use Rattle.border.proofs.Laws.{openings-in, cells-length, hands-count, hands-all, hands-once, openings-few, hands-some, fewest-whole}
 use Rattle.lutniorad.specs.declared.Answer.{Answer}
 use Rattle.lutniorad.specs.Numbers.{values, refused, ofOpened}
 use Rattle.lutniorad.specs.Calls.{Decompose, Open}

@@ -20,20 +20,20 @@ use Rattle.window.specs.Blocks.{floor, lies, fits, exponent, corner, across, ro
 use Rattle.window.specs.Keys.{keyOf, keysOf}
 use Rattle.map.specs.declared.Checked.the-variants as checked
 use Rattle.map.specs.Spans as spans
+use Rattle.map.specs.Spans.{within}
 use Rattle.map.specs.Check.{late, refusalsFrom, mapRefusals, checkOf}
 use Rattle.map.specs.Records.{recordOf, exponentOf}
 use Rattle.map.specs.Runs.{runOf}
-use Rattle.border.specs.Openings.{isHanded, made, opening, openFrom, openings, handedCount}
-use Rattle.map.specs.Spans.{within}
-use Rattle.used.specs.Used.{useRefusals, spent, usedFor, borderRefusals}
-use Rattle.report.specs.declared.Reported.the-variants as reported
-use Rattle.select.specs.declared.Selected.the-variants as selected
 use Rattle.map.specs.Classes.{hasClass}
-use Rattle.totals.specs.Totals.{total, totals}
-use Rattle.select.specs.Select.{around, inside, selected, allSelected, selection, selectOf}
-use Rattle.report.specs.Report.{reportOf}
+use Rattle.border.specs.Openings.{isHanded, made, opening, openFrom, openings, handedCount}
+use Rattle.used.specs.Used.{useRefusals, spent, usedFor, borderRefusals}
 use Rattle.numbers.specs.Numbers.{bytes, bytesOf}
 use Rattle.house.specs.File.{header, fileOf}
+use Rattle.totals.specs.Totals.{total, totals}
+use Rattle.report.specs.declared.Reported.the-variants as reported
+use Rattle.report.specs.Report.{reportOf}
+use Rattle.select.specs.declared.Selected.the-variants as selected
+use Rattle.select.specs.Select.{around, inside, selected, allSelected, selection, selectOf}
 
 -- P1's map, of m = 2, and its window
 abbrev pub keys : List ℕ

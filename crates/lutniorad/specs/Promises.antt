@@ -6,22 +6,23 @@ use mathlib.Core.Bool.{true}
 use mathlib.Core.List.{List, List·Memᴰ, map}
 use Prim.Native.Nat.{ℕ, _+_, _*_, _≤_, _<_}
 use lib.ListN.{length, getD, take, drop}
-use Rattle.lists.specs.Lists.{sum, Ordered}
+use Rattle.lists.specs.Promises.{sum}
+use Rattle.lists.specs.Lists.{Ordered}
 use Rattle.answers.specs.Cells.{overwrite}
 use Rattle.key.specs.Picture.{place, Px}
 use Rattle.key.specs.Key.{blockKey}
 use Rattle.key.specs.Form.{formOf}
 use Rattle.window.specs.declared.Window.{Window}
 use Rattle.window.specs.Window.{In}
-use Rattle.window.specs.Blocks.{Maximal, Before}
+use Rattle.window.specs.Promises.{Maximal, Before}
 use Rattle.map.specs.Spans.{holds}
 use Rattle.map.specs.Records.{pixelRecord}
-use Rattle.border.specs.Openings.{Opening, openings, cellsOf}
+use Rattle.border.specs.Openings.{Opening, openings, cellsOf, allHands}
+use Rattle.border.specs.Promises.{Overlaps, HandedOut, Apart, Enough}
 use Rattle.used.specs.Used.{spent}
-use Rattle.border.specs.Promises.{Overlaps, HandedOut, Apart, allHands, Enough}
+use Rattle.house.specs.File.{fileOf, fileM, fileQ, fileKeys, fileClasses}
 use Rattle.totals.specs.Totals.{total}
 use Rattle.select.specs.Select.{selection}
-use Rattle.house.specs.File.{fileOf, fileM, fileQ, fileKeys, fileClasses}
 use Rattle.lutniorad.specs.declared.Answer.{Answer}
 use Rattle.lutniorad.specs.Numbers.{values}
 

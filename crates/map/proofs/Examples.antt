@@ -15,8 +15,9 @@ use Rattle.key.specs.Form.{from, formOf}
 use Rattle.map.specs.declared.Checked.the-variants.{Sound, Refused}
 use Rattle.map.specs.Spans.{malformed, formExponent, start, end, holds, overlap}
 use Rattle.map.specs.Check.{late, refusalsFrom, mapRefusals, checkOf}
-use Rattle.map.specs.Records.{recordOf, exponentOf, tileOf}
+use Rattle.map.specs.Records.{recordOf, exponentOf}
 use Rattle.map.specs.Runs.{run, runOf}
+use Rattle.map.proofs.Tiles.{tileOf}
 
 abbrev keys : List ℕ
 keys = 5 ∷ 11 ∷ 12 ∷ 13 ∷ 14 ∷ 15 ∷ 20 ∷ []

@@ -5,8 +5,8 @@ use mathlib.Core.Logic.{_↔_, _≢_, _⊎_, inl, inr}
 use mathlib.Core.Bool.{Bool, true, cond}
 use mathlib.Core.List.{List}
 use Prim.Native.Nat.{ℕ, max, _+_, _-_, _^_, _≤_, _<_}
-use native.Mathlib.Nat.{add-zero, add-sub-of-le}
 use native.Mathlib.Decide.{decLt, ℕ-discrete}
+use native.Mathlib.Nat.{add-zero, add-sub-of-le}
 use native.Mathlib.Omega.{arith}
 use lib.Dec.{eqb}
 use lib.ListN.{length, getD}
@@ -14,12 +14,14 @@ use borrow.Author.Tests.{eq-eqb, ne-eqb}
 use Rattle.lists.specs.Lists.{before, howMany}
 use Rattle.lists.proofs.Laws.{Stretch, stretch-of, stretch-begins, stretch-counts}
 use Rattle.key.specs.Form.{formOf}
-use Rattle.key.specs.Blocks.{Names, Among, Covers}
+use Rattle.key.specs.Blocks.{Names, Among}
+use Rattle.key.proofs.Standing.{Covers}
 use Rattle.key.proofs.Laws.{one-block, nested, pow-least, size-le}
 use Rattle.map.specs.Spans.{overlap}
 use Rattle.map.specs.Sound.{Spaced}
-use Rattle.map.specs.Records.{Record, SomeRecord, Holder, Free, exponentOf}
-use Rattle.map.specs.Runs.{run, runOf, Meets, Bracket, Splits}
+use Rattle.map.specs.Records.{exponentOf}
+use Rattle.map.specs.Runs.{run, runOf, Bracket, Splits}
+use Rattle.map.proofs.Tiles.{Record, SomeRecord, Holder, Free, Meets}
 use Rattle.map.proofs.Order.{record-at, keys-apart, keys-rise, find}
 use Rattle.map.proofs.Holding.{exponent-of, exponent-none}
 use Rattle.map.proofs.Meeting.{meets-run, meets-around, meets-none, in-block}

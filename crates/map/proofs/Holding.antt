@@ -5,20 +5,21 @@ use mathlib.Core.Logic.{_↔_, _⊎_, inl, inr}
 use mathlib.Core.Bool.{Bool, true}
 use mathlib.Core.List.{List}
 use Prim.Native.Nat.{ℕ, suc, _+_, _/_, _^_, _≤_, _<_}
-use native.Mathlib.Nat.{div-one}
 use native.Mathlib.Decide.{decLt}
+use native.Mathlib.Nat.{div-one}
 use native.Mathlib.Omega.{arith}
 use lib.ListN.{length, getD}
 use borrow.Author.Tests.{lt-ltb, le-ltb}
 use Rattle.lists.proofs.Tests.{refuted}
 use Rattle.lists.proofs.Laws.{stretch-of, stretch-begins, before-none}
-use Rattle.key.specs.Form.{formOf}
 use Rattle.key.specs.Picture.{Pixel, place}
+use Rattle.key.specs.Form.{formOf}
 use Rattle.key.specs.Blocks.{Names, Among}
 use Rattle.key.proofs.Laws.{one-block, block-lies, holds-same, place-lt, place-one}
 use Rattle.map.specs.Spans.{formExponent, holds}
 use Rattle.map.specs.Sound.{Follow, Spaced}
-use Rattle.map.specs.Records.{SomeRecord, Holder, Free, recordOf, exponentOf, tileOf, Tiling, pixelRecord, pixelTile, pixelExponent}
+use Rattle.map.specs.Records.{recordOf, exponentOf, pixelRecord, pixelExponent}
+use Rattle.map.proofs.Tiles.{SomeRecord, Holder, Free, tileOf, Tiling, pixelTile}
 use Rattle.map.proofs.Order.{spaced, record-at, holder, find, one-holder}
 use Rattle.map.proofs.Tests.{exponent-is, holds-is}
 

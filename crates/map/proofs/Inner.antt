@@ -8,12 +8,13 @@ use native.Mathlib.Numerals.{add-one}
 use native.Mathlib.Omega.{arith}
 use lib.ListN.{getD}
 use Rattle.key.specs.Form.{formOf}
-use Rattle.key.specs.Blocks.{Names, Among, Covers}
+use Rattle.key.specs.Blocks.{Names, Among}
+use Rattle.key.proofs.Standing.{Covers}
 use Rattle.key.proofs.Laws.{one-block, block-lies, nested, sub-key, pow-least}
 use Rattle.map.specs.Spans.{formExponent, start}
 use Rattle.map.specs.Sound.{Follow}
-use Rattle.map.specs.Records.{Record, SomeRecord, Holder}
 use Rattle.map.specs.Runs.{runOf}
+use Rattle.map.proofs.Tiles.{Record, SomeRecord, Holder}
 use Rattle.map.proofs.Order.{spaced, record-at, apart, follows, holder}
 use Rattle.map.proofs.Found.{block-records}
 use Rattle.map.proofs.Reach.{reach-within}

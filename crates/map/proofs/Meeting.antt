@@ -6,11 +6,12 @@ use Prim.Native.Nat.{ℕ, suc, max, _+_, _-_, _^_, _≤_, _<_}
 use native.Mathlib.Decide.{decLt}
 use native.Mathlib.Omega.{arith}
 use lib.ListN.{getD}
-use Rattle.key.specs.Blocks.{Names, Among, Covers, Stand, around, after, before, within}
+use Rattle.key.specs.Blocks.{Names, Among}
+use Rattle.key.proofs.Standing.{Covers, Stand, around, after, before, within}
 use Rattle.key.proofs.Laws.{one-block, blocks-stand, nested, pow-least}
 use Rattle.map.specs.Sound.{Spaced}
-use Rattle.map.specs.Records.{Record, SomeRecord}
-use Rattle.map.specs.Runs.{Overlap, contained, filled, Meets, Splits}
+use Rattle.map.specs.Runs.{Splits}
+use Rattle.map.proofs.Tiles.{Record, SomeRecord, Overlap, contained, filled, Meets}
 use Rattle.map.proofs.Order.{record-at, keys-apart, one-holder}
 
 -- a record around a block is the only one that meets it

@@ -10,8 +10,8 @@ use lib.ListN.{length, getD}
 use Rattle.key.specs.Blocks.{Among}
 use Rattle.key.proofs.Laws.{one-block, ordered, pow-least}
 use Rattle.map.specs.Sound.{Follow, full, next, Spaced, ended, later}
-use Rattle.map.specs.Records.{Record, SomeRecord, Holder, Free}
 use Rattle.map.specs.Runs.{Rising}
+use Rattle.map.proofs.Tiles.{Record, SomeRecord, Holder, Free}
 
 module _ {m : ℕ} where
   -- what leaves no gap rises without overlap

@@ -5,11 +5,13 @@ use mathlib.Core.List.{List}
 use Prim.Native.Nat.{ℕ, max, _^_, _≤_, _<_}
 use native.Mathlib.Omega.{arith}
 use lib.ListN.{getD}
-use Rattle.key.specs.Blocks.{Names, Among, Covers, around}
+use Rattle.key.specs.Blocks.{Names, Among}
+use Rattle.key.proofs.Standing.{Covers, around}
 use Rattle.key.proofs.Laws.{one-block, block-lies, pow-least}
 use Rattle.map.specs.Sound.{Follow, Spaced}
-use Rattle.map.specs.Records.{Record, exponentOf}
-use Rattle.map.specs.Runs.{runOf, Nest, contained, filled}
+use Rattle.map.specs.Records.{exponentOf}
+use Rattle.map.specs.Runs.{runOf}
+use Rattle.map.proofs.Tiles.{Record, Nest, contained, filled}
 use Rattle.map.proofs.Order.{spaced, holder}
 use Rattle.map.proofs.Tests.{exponent-is, start-is}
 use Rattle.map.proofs.Found.{reach-inside, reach-around, block-records}

@@ -4,16 +4,16 @@ use mathlib.Core.Path.{_≡_, refl, ap, _∙_}
 use mathlib.Core.Bool.{Bool, false}
 use mathlib.Core.List.{List, [], _∷_}
 use Prim.Native.Nat.{ℕ, suc, _+_, _^_, _≤_, _<_}
-use native.Mathlib.Omega.{arith}
 use native.Mathlib.Numerals.{add-one}
+use native.Mathlib.Omega.{arith}
 use lib.ListN.{length, getD, drop, drop-of-length-le}
 use lib.Seq.{drop-cons}
 use Rattle.answers.specs.declared.Verdict.the-variants as refusal
 use Rattle.answers.specs.Refusals.{verdict}
 use Rattle.key.specs.Blocks.{Names}
 use Rattle.key.proofs.Laws.{block-lies}
-use Rattle.map.specs.Check.{late, refusalsFrom}
 use Rattle.map.specs.declared.Taken.the-variants.{Behind, Refused}
+use Rattle.map.specs.Check.{late, refusalsFrom}
 use Rattle.map.specs.Walk.{Takes, behind, refused, CheckedTo}
 use Rattle.map.proofs.Steps.{step-next}
 

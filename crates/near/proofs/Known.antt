@@ -7,14 +7,14 @@ use Prim.Native.Nat.{ℕ, _+_, _^_, _≤_, _<_}
 use native.Mathlib.Nat.{eq-or-lt-of-le}
 use native.Mathlib.Omega.{arith}
 use lib.ListN.{length, getD}
-use Rattle.key.specs.Blocks.{Covers, Stand, around, after, before, within}
+use Rattle.key.proofs.Standing.{Covers, Stand, around, after, before, within}
 use Rattle.key.proofs.Laws.{one-block, blocks-stand, whole-named, pow-least, size-le}
 use Rattle.map.specs.declared.Run.{Run}
 use Rattle.map.specs.Sound.{Spaced}
-use Rattle.map.specs.Records.{Record}
 use Rattle.map.specs.Runs.{run, runOf, BlockOf}
-use Rattle.near.specs.Near.{near, LiesIn, Known}
+use Rattle.map.proofs.Tiles.{Record}
 use Rattle.map.proofs.Laws.{record-at, found-around}
+use Rattle.near.specs.Near.{near, LiesIn, Known}
 
 -- each block in a record is smaller, and overlaps it alone
 pub known-record : {m : ℕ} {keys : List ℕ} → Spaced m 0 keys → {n j t from end : ℕ} → Record m keys n j t

@@ -1,11 +1,11 @@
 -- Records that are known while one block after another is looked up.
 -- Assumes nothing.
 use mathlib.Core.Path.{_≡_}
-use Prim.Native.Nat.{ℕ, _<_}
 use mathlib.Core.List.{List}
+use Prim.Native.Nat.{ℕ, _<_}
 use Rattle.lists.specs.Lists.{before}
-use Rattle.map.specs.Runs.{BlockOf, runOf}
 use Rattle.map.specs.declared.Run.{Run}
+use Rattle.map.specs.Runs.{BlockOf, runOf}
 use Rattle.near.specs.declared.Near.{Near}
 use Rattle.near.specs.declared.Seen.{Seen}
 

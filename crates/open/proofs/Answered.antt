@@ -5,15 +5,15 @@ use mathlib.Core.List.{List}
 use Prim.Native.Nat.{ℕ, _*_}
 use native.Mathlib.Omega.{arith}
 use lib.ListN.{length}
-use Rattle.answers.proofs.Laws.{take-overwrite}
 use Rattle.answers.specs.After.{after}
+use Rattle.answers.proofs.Laws.{take-overwrite}
 use Rattle.window.specs.declared.Window.{Window}
 use Rattle.border.specs.Openings.{openings, handedCount, cellsOf}
+use Rattle.border.proofs.Laws.{cells-length}
+use Rattle.used.proofs.Laws.{use-known, use-whole, used-told}
 use Rattle.open.specs.declared.Opened.the-variants.{Done, Refused}
 use Rattle.open.specs.Open.{openOf}
 use Rattle.open.specs.Promises.{Answered}
-use Rattle.border.proofs.Laws.{cells-length}
-use Rattle.used.proofs.Laws.{use-known, use-whole, used-told}
 
 refused-not-done : (n p : ℕ) {count records : ℕ} → Refused n p ≡ Done count records → ⊥
 refused-not-done n p e = let z : _≡_ {A = ℕ} 0 1 = cc in omega arith

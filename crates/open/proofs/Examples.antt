@@ -19,16 +19,16 @@ use Rattle.window.specs.Window.{window, beyond, outside, windowRefusals}
 use Rattle.window.specs.Blocks.{floor, lies, fits, exponent, corner, across, rows, isCorner, maximal}
 use Rattle.window.specs.Keys.{keyOf, keysOf}
 use Rattle.map.specs.Spans as spans
+use Rattle.map.specs.Spans.{within}
 use Rattle.map.specs.Check.{late, refusalsFrom, mapRefusals}
 use Rattle.map.specs.Records.{recordOf, exponentOf}
 use Rattle.map.specs.Runs.{runOf}
-use Rattle.open.specs.declared.Opened.the-variants.{Done, Refused}
 use Rattle.border.specs.Openings.{isHanded, opening, openFrom, openings, handedCount, cellsOf}
-use Rattle.map.specs.Spans.{within}
-use Rattle.used.specs.Promises.{Answerable}
 use Rattle.used.specs.Used.{useRefusals, spent, usedFor, borderRefusals}
-use Rattle.open.specs.Open.{openOf}
+use Rattle.used.specs.Promises.{Answerable}
 use Rattle.used.proofs.Laws.{use-answerable}
+use Rattle.open.specs.declared.Opened.the-variants.{Done, Refused}
+use Rattle.open.specs.Open.{openOf}
 
 abbrev keys : List ℕ
 keys = 5 ∷ 11 ∷ 12 ∷ 13 ∷ 14 ∷ 15 ∷ 20 ∷ []

@@ -1,3 +1,4 @@
+pub mod Accepted
 mod Opening
 mod Answered
 mod Examples

@@ -13,15 +13,16 @@ use Rattle.answers.specs.After.{after}
 use Rattle.answers.proofs.Laws as Answers
 use Rattle.answers.proofs.Laws.{overwrite-length, overwrite-part, overwrite-again}
 use Rattle.window.specs.declared.Window.{Window}
-use Rattle.open.specs.declared.Opened.the-variants.{Done, Refused}
-use Rattle.used.proofs.Laws.{used-refused, used-short, used-done}
 use Rattle.border.specs.declared.Totals.{Totals}
 use Rattle.border.specs.Openings.{openings, handedCount, cellsOf}
 use Rattle.border.specs.Cells.{fitting}
-use Rattle.used.specs.Used.{useRefusals, spent, usedFor}
 use Rattle.border.specs.Found.{Passed}
-use Rattle.open.specs.Open.{openOf, accepted}
 use Rattle.border.proofs.Laws.{cells-length}
+use Rattle.used.specs.Used.{useRefusals, spent, usedFor}
+use Rattle.used.proofs.Laws.{used-refused, used-short, used-done}
+use Rattle.open.specs.declared.Opened.the-variants.{Done, Refused}
+use Rattle.open.specs.Open.{openOf}
+use Rattle.open.proofs.Accepted.{accepted}
 
 module _ (m : ℕ) (keys : List ℕ) (classes : ℕ) (W : Window) (border out : List ℕ) where
   -- opening is such a use

@@ -12,9 +12,9 @@ use Rattle.window.specs.Window.{Inside}
 use Rattle.map.specs.Sound.{Follow}
 use Rattle.map.proofs.Laws.{spaced}
 use Rattle.border.specs.Openings.{openings, cellsOf}
+use Rattle.border.proofs.Laws.{cells-length, bringing-records, all-bring}
 use Rattle.used.specs.Used.{useRefusals}
 use Rattle.used.proofs.Laws.{use-known, use-whole}
-use Rattle.border.proofs.Laws.{cells-length, bringing-records, all-bring}
 
 -- in a whole map each opening brings a record of its own, whatever the cap
 pub openings-records : {m top : ℕ} {keys : List ℕ} → Follow m 0 keys → {W : Window} → Inside m W → top ≤ m → length (openings m top keys W) ≤ length keys

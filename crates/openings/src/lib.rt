@@ -10,8 +10,8 @@ ghost use Prim.Native.Nat.{_≤_};
 ghost use lib.ListN.{length};
 ghost use Rattle.key.specs.Spread.{spreads};
 ghost use Rattle.border.specs.Cells.{entered};
-ghost use Rattle.used.specs.Used.{Usable};
 ghost use Rattle.border.specs.Found.{walk, Reached, Finds, Passed};
+ghost use Rattle.used.specs.Used.{Usable};
 
 // Writes an opening behind n others, where there is room for it.
 fn put_opening(out: &mut [u32], n: u32, key: u32, first: u32, count: u32)

@@ -18,10 +18,10 @@ use Rattle.window.specs.Blocks.{across, rows}
 use Rattle.map.specs.Spans as spans
 use Rattle.map.specs.Check.{late, refusalsFrom, mapRefusals}
 use Rattle.map.specs.Records.{recordOf}
-use Rattle.used.specs.Used.{useRefusals, spent, usedFor, borderRefusals}
-use Rattle.report.specs.declared.Reported.the-variants.{Refused}
 use Rattle.map.specs.Classes.{hasClass}
+use Rattle.used.specs.Used.{useRefusals, spent, usedFor, borderRefusals}
 use Rattle.totals.specs.Totals.{total, totals}
+use Rattle.report.specs.declared.Reported.the-variants.{Refused}
 use Rattle.report.specs.Report.{reportOf}
 
 abbrev keys : List ℕ

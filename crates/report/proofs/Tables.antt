@@ -11,10 +11,10 @@ use Rattle.answers.specs.After.{after}
 use Rattle.window.specs.declared.Window.{Window}
 use Rattle.used.specs.Used.{useRefusals, spent, usedFor}
 use Rattle.used.proofs.Laws.{used-refused, used-short, used-done}
-use Rattle.report.specs.declared.Reported.the-variants.{Done, Refused}
 use Rattle.totals.specs.Totals.{totals}
-use Rattle.report.specs.Report.{reportOf}
 use Rattle.totals.proofs.Laws.{totals-length}
+use Rattle.report.specs.declared.Reported.the-variants.{Done, Refused}
+use Rattle.report.specs.Report.{reportOf}
 
 module _ (m : ℕ) (keys classes : List ℕ) (W : Window) (border out : List ℕ) where
   pub report-is : reportOf m keys classes W border out ≡ usedFor Refused (Done (W .h * W .w)) (totals m keys classes W) m keys (length classes) W border out

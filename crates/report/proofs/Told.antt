@@ -7,15 +7,15 @@ use native.Mathlib.Omega.{arith}
 use lib.ListN.{length, take}
 use Rattle.answers.specs.declared.Verdict.the-variants as verdict-of
 use Rattle.answers.specs.Refusals.{verdict}
-use Rattle.answers.proofs.Laws.{take-overwrite}
 use Rattle.answers.specs.After.{after}
+use Rattle.answers.proofs.Laws.{take-overwrite}
 use Rattle.window.specs.declared.Window.{Window}
 use Rattle.used.specs.Used.{useRefusals}
 use Rattle.used.proofs.Laws.{used-told, used-roomy}
-use Rattle.report.specs.declared.Reported.the-variants.{Done, Refused}
 use Rattle.totals.specs.Totals.{totals}
-use Rattle.report.specs.Report.{reportOf}
 use Rattle.totals.proofs.Laws.{totals-length}
+use Rattle.report.specs.declared.Reported.the-variants.{Done, Refused}
+use Rattle.report.specs.Report.{reportOf}
 
 -- what was counted, and into which cells
 pub record Counted (m : ℕ) (keys classes : List ℕ) (W : Window) (border value : ℕ) (out : List ℕ) : Type 0 where

@@ -12,11 +12,12 @@ use Rattle.lists.specs.Lists.{upFrom, any, keep}
 use Rattle.lists.proofs.Tests.{never, refuted, both}
 use Rattle.lists.proofs.Laws.{up-in, any-has, has-any}
 use Rattle.key.specs.Form.{formOf}
-use Rattle.key.specs.Blocks.{Names, Covers}
-use Rattle.map.specs.Records.{Record}
+use Rattle.key.specs.Blocks.{Names}
+use Rattle.key.proofs.Standing.{Covers}
 use Rattle.map.specs.Spans.{within}
-use Rattle.map.proofs.Laws.{within-is}
 use Rattle.map.specs.Classes.{classed}
+use Rattle.map.proofs.Tiles.{Record}
+use Rattle.map.proofs.Laws.{within-is}
 use Rattle.select.specs.Select.{around, inside, selected}
 
 -- ---- the tests

@@ -11,11 +11,12 @@ use lib.ListN.{length, getD}
 use Rattle.lists.specs.Lists.{upFrom, keep, Ordered, none, more}
 use Rattle.lists.proofs.Laws.{distinct-map, up-in, up-distinct, keep-in, keep-true, in-keep, ordered-keep}
 use Rattle.key.specs.Form.{formOf}
-use Rattle.key.specs.Blocks.{Names, Among, Covers, Stand, within as lies-in, around as stands-around, after, before, within}
+use Rattle.key.specs.Blocks.{Names, Among}
+use Rattle.key.proofs.Standing.{Covers, Stand, within as lies-in, around as stands-around, after, before, within}
 use Rattle.key.proofs.Laws.{blocks-stand}
-use Rattle.map.specs.Sound.{Spaced}
 use Rattle.map.specs.Spans.{holds}
-use Rattle.map.specs.Records.{Record, Holder}
+use Rattle.map.specs.Sound.{Spaced}
+use Rattle.map.proofs.Tiles.{Record, Holder}
 use Rattle.map.proofs.Laws.{record-at, one-holder, keys-rise, holds-is}
 use Rattle.select.specs.Select.{inside, selected}
 use Rattle.select.proofs.Choices.{around-is, inside-is, Choice, whole, parts, choice}

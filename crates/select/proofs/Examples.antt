@@ -17,8 +17,8 @@ use Rattle.window.specs.Window.{window, beyond, outside, windowRefusals}
 use Rattle.window.specs.Blocks.{floor, lies, fits, exponent, corner, across, rows, isCorner, maximal}
 use Rattle.window.specs.Keys.{keyOf, keysOf}
 use Rattle.map.specs.Spans as spans
-use Rattle.map.specs.Check.{late, refusalsFrom, mapRefusals}
 use Rattle.map.specs.Spans.{within}
+use Rattle.map.specs.Check.{late, refusalsFrom, mapRefusals}
 use Rattle.used.specs.Used.{useRefusals, spent, usedFor, borderRefusals}
 use Rattle.select.specs.declared.Selected.the-variants.{Done, Refused}
 use Rattle.select.specs.Select.{around, inside, selected, allSelected, selection, selectOf}

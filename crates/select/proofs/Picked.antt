@@ -12,22 +12,23 @@ use borrow.Author.Tests.{eqb-true, eq-eqb, lt-ltb, le-ltb}
 use Rattle.lists.specs.Lists.{upFrom, keep}
 use Rattle.lists.proofs.Tests.{refuted, agree}
 use Rattle.lists.proofs.Laws.{up-in, keep-none, keep-same, keep-run}
-use Rattle.key.specs.Blocks.{Names, Among, Covers}
+use Rattle.key.specs.Picture.{Px}
+use Rattle.key.specs.Blocks.{Names, Among}
+use Rattle.key.proofs.Standing.{Covers}
 use Rattle.key.proofs.Laws.{one-key, nested, pow-least}
 use Rattle.window.specs.declared.Window.{Window}
-use Rattle.key.specs.Picture.{Px}
 use Rattle.window.specs.Window.{Inside}
 use Rattle.window.specs.Blocks.{exponent}
 use Rattle.window.specs.Keys.{keyOf}
 use Rattle.window.proofs.Laws.{key-named}
 use Rattle.map.specs.declared.Run.{Run}
 use Rattle.map.specs.Sound.{Spaced}
-use Rattle.map.specs.Records.{Record}
 use Rattle.map.specs.Runs as runs
-use Rattle.map.specs.Runs.{runOf, Meets}
+use Rattle.map.specs.Runs.{runOf}
+use Rattle.map.specs.Classes.{classed}
+use Rattle.map.proofs.Tiles.{Record, Meets}
 use Rattle.map.proofs.Laws.{record-at, block-records, found-around, Alone, reach-least, reach-within, reach-beyond}
 use Rattle.border.specs.Step.{Corner}
-use Rattle.map.specs.Classes.{classed}
 use Rattle.select.specs.Select.{inside, around, selected, pickedRun, pickedAround, picked}
 use Rattle.select.proofs.Picking.{around-has, around-not, picks-one}
 use Rattle.select.proofs.Choices.{around-is, inside-is, selected-whole, selected-parts, Choice, whole, parts as parts-of, choice}

@@ -10,18 +10,21 @@ use native.Mathlib.Omega.{arith}
 use lib.ListN.{length, getD, length-map, length-append}
 use Rattle.lists.specs.Lists.{Ordered, none, more}
 use Rattle.lists.proofs.Laws.{ordered-append, pigeon, getD-in}
+use Rattle.key.specs.Picture.{place, Px}
 use Rattle.key.specs.Form.{formOf}
-use Rattle.key.specs.Picture.{place, PixelAt, Px}
 use Rattle.key.specs.Blocks.{Names, Among}
+use Rattle.key.proofs.Standing.{PixelAt}
 use Rattle.key.proofs.Laws.{one-block, block-lies, place-onto, pow-least}
 use Rattle.window.specs.declared.Window.{Window}
 use Rattle.window.specs.Window.{In, Inside}
-use Rattle.window.specs.Blocks.{exponent, maximal, Before}
+use Rattle.window.specs.Blocks.{exponent, maximal}
+use Rattle.window.specs.Promises.{Before}
 use Rattle.window.specs.Keys.{keyOf}
 use Rattle.window.proofs.Laws.{blocks-few, blocks-capped, before-irrefl, →listed, listed-ordered, block-of, block-one, key-named, pixel-in, maximal-most}
-use Rattle.map.specs.Sound.{Follow, Spaced}
 use Rattle.map.specs.Spans.{holds}
-use Rattle.map.specs.Records.{Holder, pixelRecord}
+use Rattle.map.specs.Sound.{Follow, Spaced}
+use Rattle.map.specs.Records.{pixelRecord}
+use Rattle.map.proofs.Tiles.{Holder}
 use Rattle.map.proofs.Laws.{spaced, record-of, pixel-holder, holds-is}
 use Rattle.border.specs.Step.{Corner}
 use Rattle.border.proofs.Laws.{spans, listed-corner}

@@ -3,8 +3,8 @@
 use mathlib.Core.Path.{_≡_, refl, sym, ap, _∙_}
 use mathlib.Core.List.{List, [], _∷_, _++_}
 use Prim.Native.Nat.{ℕ, _≤_, _<_}
-use lib.ListN.{length}
 use native.Mathlib.Omega.{arith}
+use lib.ListN.{length}
 use Rattle.answers.specs.Cells.{Listed}
 use Rattle.answers.proofs.Listing.{listed-none, listed-more}
 use Rattle.key.specs.Picture.{Pixel, Px}
@@ -15,14 +15,14 @@ use Rattle.window.specs.Walk.{Walked, Goes}
 use Rattle.window.specs.Keys.{keyOf}
 use Rattle.window.proofs.Laws.{walked-first, walked-next, walked-last, walked-split, goes-in, goes-corner, goes-exponent, exponent-le, key-at, pixel-in, inside-12}
 use Rattle.map.specs.declared.Run.{Run}
+use Rattle.map.specs.Runs.{runOf, BlockOf}
+use Rattle.map.proofs.Laws.{Alone, reach-beyond}
 use Rattle.near.specs.declared.Near.{Near}
 use Rattle.near.specs.declared.Seen.{Seen}
-use Rattle.map.specs.Runs.{runOf, BlockOf}
 use Rattle.near.specs.Near.{LiesIn, Known}
-use Rattle.map.proofs.Laws.{Alone, reach-beyond}
 use Rattle.border.specs.Step.{Corner}
-use Rattle.used.specs.Used.{Usable}
 use Rattle.border.proofs.Laws.{met-room, block-key}
+use Rattle.used.specs.Used.{Usable}
 use Rattle.select.specs.Select.{selected, picked, pickedAround, Overlapped, selection}
 use Rattle.select.proofs.Picked.{picked-around, block-selected}
 use Rattle.select.proofs.Blockwise.{all-none, selectedBy, selection-is, selected-snoc, selected-room}

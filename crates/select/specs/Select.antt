@@ -6,17 +6,13 @@ use Prim.Native.Nat.{ℕ, _+_, _≤_, _<_}
 use lib.Dec.{ltb}
 use lib.ListN.{length, getD}
 use Rattle.lists.specs.Lists.{upFrom, any, keep}
+use Rattle.answers.specs.After.{After, roomFor}
 use Rattle.key.specs.Form.{formOf}
 use Rattle.window.specs.declared.Window.{Window}
 use Rattle.window.specs.Keys.{keysOf}
 use Rattle.map.specs.declared.Run.{Run}
 use Rattle.map.specs.Spans.{within}
 use Rattle.map.specs.Classes.{classed}
-use mathlib.Core.Bool.{cond}
-use mathlib.Core.List.{List}
-use Prim.Native.Nat.{ℕ}
-use lib.ListN.{length}
-use Rattle.answers.specs.After.{After, roomFor}
 use Rattle.used.specs.Used.{usedFor}
 use Rattle.select.specs.declared.Selected.{Selected}
 use Rattle.select.specs.declared.Selected.the-variants.{Done, Refused}

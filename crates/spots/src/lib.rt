@@ -5,8 +5,8 @@ ghost use mathlib.Core.Path.{_≡_};
 ghost use Prim.Native.Nat.{_+_, _^_, _<_, _≤_};
 ghost use lib.ListN.{getD};
 ghost use Rattle.key.specs.Key.{ones};
-ghost use Rattle.key.specs.Along.{onesTable, TellsOnes, pixelAt, Stands, ToldFit, Begins};
 ghost use Rattle.key.specs.Blocks.{Names};
+ghost use Rattle.key.specs.Along.{onesTable, TellsOnes, pixelAt, Stands, ToldFit, Begins};
 
 // i digits 1, which is (5^i - 1)/4, for each i up to 12.
 const ONES: [u32; 13] = [

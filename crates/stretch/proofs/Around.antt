@@ -4,8 +4,8 @@ use mathlib.Core.Path.{_≡_, refl, sym}
 use mathlib.Core.Logic.{_↔_, _⊎_, inl, inr}
 use mathlib.Core.Bool.{Bool, true}
 use Prim.Native.Nat.{ℕ, zero, suc, _+_, _-_, _^_, _≤_, _<_}
-use native.Mathlib.Omega.{arith}
 use native.Mathlib.Nat.{eq-or-lt-of-le}
+use native.Mathlib.Omega.{arith}
 use lib.Dec.{leb, ltb, eqb}
 use borrow.Author.Tests.{eqb-true, eq-eqb, leb-true, le-leb, ltb-true, lt-ltb}
 use Rattle.lists.specs.Lists.{greatest}
@@ -13,7 +13,8 @@ use Rattle.lists.proofs.Tests.{both}
 use Rattle.lists.proofs.Laws.{greatest-le, greatest-holds, greatest-over}
 use Rattle.key.specs.Blocks.{Among}
 use Rattle.key.proofs.Laws.{pow-least}
-use Rattle.stretch.specs.Sets.{base, full, fitsIn, FitsIn, exponentIn, starts, between}
+use Rattle.stretch.specs.Sets.{base, full, fitsIn, exponentIn, starts, between}
+use Rattle.stretch.proofs.Fitting.{FitsIn}
 use Rattle.stretch.proofs.Bases.{base-le, base-lt, base-zero, base-up, base-eq}
 
 -- ---- a block that lies in a set

@@ -3,8 +3,8 @@
 use mathlib.Core.Path.{_≡_, ap}
 use mathlib.Core.Logic.{_↔_}
 use Prim.Native.Nat.{ℕ, suc, _+_, _*_, _/_, _%_, _^_, _≤_, _<_}
-use native.Mathlib.Omega.{arith}
 use native.Mathlib.Nat.{div-div-eq-div-mul, div-add-mod', pow-suc}
+use native.Mathlib.Omega.{arith}
 use Rattle.lists.proofs.Laws.{down-le, down-lt, down-eq, down-zero, down-up}
 use Rattle.stretch.specs.Sets.{base}
 

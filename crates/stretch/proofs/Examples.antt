@@ -7,9 +7,9 @@ use Prim.Native.Nat.{ℕ}
 use Rattle.lists.specs.Lists.{upFrom, keep, greatest}
 use Rattle.key.specs.Key.{ones}
 use Rattle.key.specs.Places.{placeKey, spanKey}
+use Rattle.stretch.specs.Promises.{joined, runs, stretches}
 use Rattle.stretch.specs.Sets.{base, full, fitsIn, exponentIn, starts, between}
 use Rattle.stretch.specs.Fewest.{maximalIn, keyFrom, fewest, stretch}
-use Rattle.stretch.specs.Runs.{joined, runs, stretches}
 use Rattle.stretch.specs.Walk.{largest}
 
 -- two runs, one of them a pixel, a quadrant and a pixel

@@ -6,16 +6,16 @@ use mathlib.Core.Logic.{_⊎_, inl, inr}
 use mathlib.Core.Bool.{Bool}
 use mathlib.Core.List.{List·Memᴰ}
 use Prim.Native.Nat.{ℕ, suc, _+_, _-_, _*_, _/_, _%_, _^_, _≤_, _<_}
-use native.Mathlib.Omega.{arith}
-use native.Mathlib.Nat.{eq-or-lt-of-le, mod-lt, pow-suc}
 use native.Mathlib.Decide.{decLe}
+use native.Mathlib.Nat.{eq-or-lt-of-le, mod-lt, pow-suc}
+use native.Mathlib.Omega.{arith}
 use lib.Dec.{lit<}
 use lib.ListN.{length, length-map}
 use Rattle.lists.specs.Lists.{upFrom}
 use Rattle.lists.proofs.Laws.{rising-distinct, pigeon, up-in, up-length}
+use Rattle.key.proofs.Laws.{size-le}
 use Rattle.stretch.specs.Sets.{base, exponentIn, between}
 use Rattle.stretch.specs.Fewest.{maximalIn, keyFrom, fewest, stretch}
-use Rattle.key.proofs.Laws.{size-le}
 use Rattle.stretch.proofs.Bases.{base-le, base-lt, base-eq, base-digit}
 use Rattle.stretch.proofs.Around.{exponent-fits, exponent-max, between-fits}
 use Rattle.stretch.proofs.Listed.{listed, maximal-rising}

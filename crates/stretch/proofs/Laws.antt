@@ -8,8 +8,9 @@ use native.Mathlib.Omega.{arith}
 use lib.ListN.{length}
 use Rattle.lists.specs.Lists.{Ordered}
 use Rattle.key.specs.Blocks.{Among}
+use Rattle.stretch.specs.Promises.{Has, MakesUp}
 use Rattle.stretch.specs.Sets.{between}
-use Rattle.stretch.specs.Fewest.{fewest, stretch, Has, MakesUp}
+use Rattle.stretch.specs.Fewest.{fewest, stretch}
 use Rattle.stretch.proofs.Around.{between-is}
 use Rattle.stretch.proofs.Listed.{fewest-makes, fewest-once, fewest-rising}
 use Rattle.stretch.proofs.Least.{fewest-least, fewest-only}

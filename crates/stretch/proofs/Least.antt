@@ -11,8 +11,9 @@ use Rattle.lists.specs.Lists.{Ordered}
 use Rattle.lists.proofs.Laws.{rising-distinct, pigeon, pigeon-onto, same-rising}
 use Rattle.key.specs.Blocks.{Among}
 use Rattle.key.proofs.Laws.{one-block, one-key, pow-least, size-le}
+use Rattle.stretch.specs.Promises.{LiesInSet, Has, MakesUp}
 use Rattle.stretch.specs.Sets.{exponentIn}
-use Rattle.stretch.specs.Fewest.{maximalIn, keyFrom, fewest, LiesInSet, Has, MakesUp}
+use Rattle.stretch.specs.Fewest.{maximalIn, keyFrom, fewest}
 use Rattle.stretch.proofs.Around.{first, lies-first, first-among}
 use Rattle.stretch.proofs.Listed.{listed, maximal-rising, one-first, named, fewest-in, fewest-rising}
 

@@ -1,3 +1,4 @@
+pub mod Fitting
 mod Bases
 mod Around
 mod Listed

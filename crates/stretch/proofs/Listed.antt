@@ -5,14 +5,16 @@ use mathlib.Core.Logic.{_↔_}
 use mathlib.Core.Bool.{Bool, true}
 use mathlib.Core.List.{List·Memᴰ, Memᴰ·map, Memᴰ·of-map}
 use Prim.Native.Nat.{ℕ, _+_, _^_, _≤_, _<_}
-use native.Mathlib.Omega.{arith}
 use native.Mathlib.Decide.{decLt}
+use native.Mathlib.Omega.{arith}
 use Rattle.lists.specs.Lists.{upFrom, Ordered}
 use Rattle.lists.proofs.Laws.{ordered-map, up-in, up-rising, keep-in, keep-true, in-keep, ordered-keep}
 use Rattle.key.specs.Blocks.{Names, Among}
 use Rattle.key.proofs.Laws.{one-block, ordered, block-lies, aligned-start, span-named, pow-least}
-use Rattle.stretch.specs.Sets.{base, FitsIn, exponentIn, starts, MaximalIn}
-use Rattle.stretch.specs.Fewest.{maximalIn, keyFrom, fewest, LiesInSet, Has, MakesUp}
+use Rattle.stretch.specs.Promises.{MaximalIn, LiesInSet, Has, MakesUp}
+use Rattle.stretch.specs.Sets.{base, exponentIn, starts}
+use Rattle.stretch.specs.Fewest.{maximalIn, keyFrom, fewest}
+use Rattle.stretch.proofs.Fitting.{FitsIn}
 use Rattle.stretch.proofs.Bases.{base-eq, base-up, base-own}
 use Rattle.stretch.proofs.Around.{fits-own, exponent-le, exponent-fits, exponent-max, exponent-same, first, lies-first, first-among, first-in, starts-is}
 

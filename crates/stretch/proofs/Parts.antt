@@ -4,15 +4,16 @@ use mathlib.Core.Path.{_≡_, sym, ap, _∙_, subst}
 use mathlib.Core.Bool.{Bool, true, false}
 use mathlib.Core.List.{[], _∷_, _++_, map, map-append}
 use Prim.Native.Nat.{ℕ, suc, _+_, _-_, _^_, _≤_, _<_}
-use native.Mathlib.Omega.{arith}
 use native.Mathlib.Decide.{decLt}
+use native.Mathlib.Omega.{arith}
 use Rattle.lists.specs.Lists.{upFrom, keep}
 use Rattle.lists.proofs.Tests.{never, refuted, agree}
 use Rattle.lists.proofs.Laws.{up-next, up-in, up-append, map-same, keep-taken, keep-append, keep-none, keep-same}
 use Rattle.key.specs.Places.{spanKey}
-use Rattle.stretch.specs.Sets.{base, FitsIn, exponentIn, starts, between}
+use Rattle.stretch.specs.Promises.{Cut}
+use Rattle.stretch.specs.Sets.{base, exponentIn, starts, between}
 use Rattle.stretch.specs.Fewest.{maximalIn, keyFrom, fewest, stretch}
-use Rattle.stretch.specs.Runs.{Cut}
+use Rattle.stretch.proofs.Fitting.{FitsIn}
 use Rattle.stretch.proofs.Bases.{base-le, base-lt}
 use Rattle.stretch.proofs.Around.{exponent-fits, exponent-part, first, starts-is, between-is}
 use Rattle.stretch.proofs.Listed.{listed}

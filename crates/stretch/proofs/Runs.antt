@@ -5,14 +5,14 @@ use mathlib.Core.Logic.{_⊎_, inl, inr}
 use mathlib.Core.Bool.{Bool, true, false, cond}
 use mathlib.Core.List.{List, _∷_, _++_}
 use Prim.Native.Nat.{ℕ, zero, suc, _+_, _-_, _≤_, _<_}
-use native.Mathlib.Omega.{arith}
-use native.Mathlib.Nat.{eq-or-lt-of-le}
 use native.Mathlib.Decide.{ℕ-discrete}
+use native.Mathlib.Nat.{eq-or-lt-of-le}
+use native.Mathlib.Omega.{arith}
 use lib.Dec.{eqb}
 use borrow.Author.Tests.{eq-eqb, ne-eqb}
 use Rattle.key.specs.Blocks.{Among}
+use Rattle.stretch.specs.Promises.{joined, runs, stretches, Cut, NextRun, Runs, last, next}
 use Rattle.stretch.specs.Fewest.{fewest, stretch}
-use Rattle.stretch.specs.Runs.{joined, runs, stretches, Cut, NextRun, Runs, last, next}
 use Rattle.stretch.proofs.Parts.{fewest-append, fewest-empty, not-start, part-stretch, cut-out, cut-behind, run-part}
 
 -- ---- run by run

@@ -4,11 +4,11 @@ use mathlib.Core.Path.{_≡_, sym, ap, _∙_}
 use mathlib.Core.Bool.{Bool, true, false}
 use mathlib.Core.List.{List, [], _∷_}
 use Prim.Native.Nat.{ℕ, suc, _+_, _-_, _^_, _≤_, _<_}
-use native.Mathlib.Omega.{arith}
 use native.Mathlib.Decide.{decLt}
+use native.Mathlib.Omega.{arith}
 use Rattle.lists.proofs.Tests.{refuted}
-use Rattle.key.specs.Places.{spanKey}
 use Rattle.key.specs.Blocks.{Names}
+use Rattle.key.specs.Places.{spanKey}
 use Rattle.key.proofs.Laws.{pow-least, span-named}
 use Rattle.stretch.specs.Sets.{base, exponentIn, starts, between}
 use Rattle.stretch.specs.Fewest.{keyFrom, stretch}

@@ -14,11 +14,11 @@ use Rattle.lists.proofs.Laws.{greatest-le, greatest-holds, greatest-over}
 use Rattle.answers.specs.Cells.{put, Listed}
 use Rattle.answers.proofs.Listing.{listed-none, listed-one, listed-more}
 use Rattle.key.specs.declared.Spot.{Spot}
+use Rattle.key.specs.Blocks.{Names}
 use Rattle.key.specs.Along.{Stands}
 use Rattle.key.specs.Places.{spanKey}
-use Rattle.key.specs.Blocks.{Names}
 use Rattle.key.proofs.Laws.{four, log-of, span-key}
-use Rattle.stretch.specs.Sets.{base, exponentIn, between}
+use Rattle.stretch.specs.Sets.{base, exponentIn, between, fitsIn}
 use Rattle.stretch.specs.Fewest.{stretch}
 use Rattle.stretch.specs.Walk.{largest}
 use Rattle.stretch.proofs.Bases.{base-own}

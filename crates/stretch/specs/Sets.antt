@@ -1,11 +1,9 @@
 -- Sets of places, and the largest block around a place that lies in one. A set is a test; a block of exponent i is 4 ^ i places from a multiple of 4 ^ i on.
 -- Assumes nothing.
-use mathlib.Core.Path.{_≡_}
 use mathlib.Core.Bool.{Bool, true, _&&_}
-use Prim.Native.Nat.{ℕ, zero, suc, _*_, _/_, _^_, _≤_, _<_}
+use Prim.Native.Nat.{ℕ, zero, suc, _*_, _/_, _^_}
 use lib.Dec.{leb, ltb, eqb}
 use Rattle.lists.specs.Lists.{greatest}
-use Rattle.key.specs.Blocks.{Among}
 
 -- q, down to a multiple of 4 ^ i: where its block of exponent i starts
 unfoldable pub base : ℕ → ℕ → ℕ
@@ -20,10 +18,6 @@ full P a (suc n) = P a && full P (suc a) n
 unfoldable pub fitsIn : (ℕ → Bool) → ℕ → ℕ → Bool
 fitsIn P i q = full P (base i q) (4 ^ i)
 
--- in plain words
-pub record FitsIn (P : ℕ → Bool) (i q : ℕ) : Type 0 where
-  pub all : (x : ℕ) → Among (base i q) (4 ^ i) x → P x ≡ true
-
 -- the exponent, at most m, of the largest block around q that lies in the set
 unfoldable pub exponentIn : ℕ → (ℕ → Bool) → ℕ → ℕ
 exponentIn m P q = greatest (λ i. fitsIn P i q) m
@@ -35,10 +29,3 @@ starts m P q = P q && eqb (base (exponentIn m P q) q) q
 -- the places from a up to b
 unfoldable pub between : ℕ → ℕ → ℕ → Bool
 between a b q = leb a q && ltb q b
-
--- in plain words: the block of exponent i that starts at s lies in the set, and no larger block that lies in the set contains it
-pub record MaximalIn (m : ℕ) (P : ℕ → Bool) (i s : ℕ) : Type 0 where
-  pub small : i ≤ m
-  pub aligned : base i s ≡ s
-  pub inside : (q : ℕ) → Among s (4 ^ i) q → P q ≡ true
-  pub largest : (j : ℕ) → i < j → j ≤ m → ((q : ℕ) → Among (base j s) (4 ^ j) q → P q ≡ true) → ⊥

@@ -7,8 +7,8 @@ use native.Mathlib.Numerals.{add-one}
 use native.Mathlib.Omega.{arith}
 use lib.ListN.{length, take, drop, set, length-set, drop-of-length-le}
 use lib.Seq.{set-split, append-snoc, drop-at, length-take-le}
-use Rattle.answers.proofs.Laws.{overwrite-part}
 use Rattle.answers.specs.After.{after}
+use Rattle.answers.proofs.Laws.{overwrite-part}
 use Rattle.text.specs.Text.{digitsOf, putOf}
 use Rattle.text.proofs.Laws.{digits-small, digits-large, width-small, width-large, width-some, put-all}
 

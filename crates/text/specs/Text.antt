@@ -1,8 +1,8 @@
 -- Text, as bytes of ASCII: a number in decimal digits, a line of numbers, and a text that is put into a lent slice.
 -- Assumes nothing.
-use Prim.Native.Nat.{ℕ, zero, suc, _+_, _/_, _%_}
 use mathlib.Core.Bool.{cond}
 use mathlib.Core.List.{List, [], _∷_, _++_}
+use Prim.Native.Nat.{ℕ, zero, suc, _+_, _/_, _%_}
 use lib.Dec.{ltb, leb}
 use lib.ListN.{length}
 use Rattle.answers.specs.Cells.{overwrite}

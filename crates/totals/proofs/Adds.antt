@@ -11,12 +11,11 @@ use Rattle.window.specs.declared.Window.{Window}
 use Rattle.map.specs.Sound.{Follow}
 use Rattle.border.specs.declared.Walk.{Walk}
 use Rattle.border.specs.declared.Found.the-variants as found
-use Rattle.border.specs.Openings.{Opening, made}
-use Rattle.border.specs.Promises.{allHands}
-use Rattle.used.specs.Used.{Usable}
+use Rattle.border.specs.Openings.{Opening, made, allHands}
 use Rattle.border.specs.Found.{walkMakes, walk, spot, Finds}
 use Rattle.border.proofs.Laws.{hands-none, hands-one, hands-append, records-once}
 use Rattle.border.proofs.Finding.{Finding, finding-next, finding-last, finds-opens, finds-exponent}
+use Rattle.used.specs.Used.{Usable}
 use Rattle.totals.specs.Totals.{totals}
 use Rattle.totals.specs.Gather.{gathered, Hands, Gathering}
 use Rattle.totals.proofs.Totals.{gathered-append, openings-gathered}

@@ -6,8 +6,8 @@ use mathlib.Core.Logic.{_↔_}
 use mathlib.Core.Bool.{Bool, true, false, cond, _&&_}
 use mathlib.Core.List.{List, List·Memᴰ}
 use Prim.Native.Nat.{ℕ, zero, suc, _+_, _*_, _^_, _≤_, _<_}
-use native.Mathlib.Nat.{mul-le-mul}
 use native.Mathlib.Decide.{decLe, decLt}
+use native.Mathlib.Nat.{mul-le-mul}
 use native.Mathlib.Omega.{arith}
 use lib.Dec.{eqb}
 use lib.ListN.{length, getD}
@@ -22,14 +22,17 @@ use Rattle.key.proofs.Laws.{pow-least, pow-most, size-le}
 use Rattle.window.specs.declared.Window.{Window}
 use Rattle.window.specs.Window.{In, Inside}
 use Rattle.window.specs.Blocks
-use Rattle.window.specs.Blocks.{floor, Same, Fits, pixels}
+use Rattle.window.specs.Blocks.{floor, pixels}
+use Rattle.window.specs.Promises.{Same}
 use Rattle.window.specs.Keys.{keyOf}
+use Rattle.window.proofs.Fitting.{Fits}
 use Rattle.window.proofs.Laws.{floor-le, floor-lt, floor-eq, same-div, fits-same, fits-down, exponent-fits, corner→same, pixel-in, key-named, rows-count, side-square, in-pixels}
 use Rattle.map.specs.declared.Run.{Run}
 use Rattle.map.specs.Spans.{formExponent}
 use Rattle.map.specs.Sound.{Spaced}
-use Rattle.map.specs.Records.{Holder, pixelRecord, pixelExponent}
+use Rattle.map.specs.Records.{pixelRecord, pixelExponent}
 use Rattle.map.specs.Runs.{runOf}
+use Rattle.map.proofs.Tiles.{Holder}
 use Rattle.map.proofs.Laws.{tiles, record-at, record-of, exponent-record, tile-record, record-tile, reach-within, reach-beyond, exponent-is}
 use Rattle.border.specs.Openings.{met}
 use Rattle.border.specs.Step.{Corner}

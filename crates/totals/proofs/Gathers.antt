@@ -6,11 +6,11 @@ use Prim.Native.Nat.{ℕ, _+_, _-_, _*_, _≤_, _<_}
 use native.Mathlib.Omega.{arith}
 use lib.ListN.{getD, set, replicate}
 use Rattle.lists.specs.Lists.{upFrom}
+use Rattle.lists.proofs.Laws.{upto-whole, upto-next, upto-last}
 use Rattle.window.specs.declared.Window.{Window}
 use Rattle.window.specs.Window.{Inside}
 use Rattle.window.proofs.Laws.{pixels-most}
 use Rattle.totals.specs.Gather.{area, added, gathered, Gathering}
-use Rattle.lists.proofs.Laws.{upto-whole, upto-next, upto-last}
 use Rattle.totals.proofs.Totals.{gathered-next, added-most}
 
 -- the records from `first` up to n have been added

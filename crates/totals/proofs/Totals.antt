@@ -10,22 +10,22 @@ use lib.Dec.{eqb}
 use lib.ListN.{length, getD, replicate, length-map, length-set, length-replicate, getD-replicate}
 use lib.Seq.{getD-set-same, getD-set-other, ext-getD}
 use borrow.Author.Tests.{eqb-true, eqb-false, eq-eqb}
-use Rattle.lists.specs.Lists.{upFrom, sum, any, keep, Ordered, howMany}
+use Rattle.lists.specs.Promises.{sum}
+use Rattle.lists.specs.Lists.{upFrom, any, keep, Ordered, howMany}
 use Rattle.lists.proofs.Tests.{agree}
 use Rattle.lists.proofs.Laws.{ordered-part, up-in, up-length, up-distinct, table-entry, keep-empty, keep-taken, keep-passed, keep-true, in-keep, ordered-keep, any-has, has-any, many-same, many-all, many-most, sum-none, sum-next, each-once}
-use Rattle.window.proofs.Laws.{pixels-length, in-pixels}
-use Rattle.window.specs.declared.Window.{Window}
 use Rattle.key.specs.Picture.{Px}
+use Rattle.window.specs.declared.Window.{Window}
 use Rattle.window.specs.Window.{In, Inside}
-use Rattle.map.specs.Sound.{Follow}
-use Rattle.map.proofs.Laws.{spaced}
-use Rattle.map.specs.Records.{pixelRecord}
-use Rattle.border.specs.Openings.{openings}
-use Rattle.border.specs.Promises.{allHands}
-use Rattle.border.proofs.Laws.{in-hands, hands-whole, records-once}
-use Rattle.map.specs.Classes.{classed, hasClass}
-use Rattle.totals.specs.Totals.{total, totals}
 use Rattle.window.specs.Blocks.{pixels}
+use Rattle.window.proofs.Laws.{pixels-length, in-pixels}
+use Rattle.map.specs.Sound.{Follow}
+use Rattle.map.specs.Records.{pixelRecord}
+use Rattle.map.specs.Classes.{classed, hasClass}
+use Rattle.map.proofs.Laws.{spaced}
+use Rattle.border.specs.Openings.{openings, allHands}
+use Rattle.border.proofs.Laws.{in-hands, hands-whole, records-once}
+use Rattle.totals.specs.Totals.{total, totals}
 use Rattle.totals.specs.Gather.{area, added, gathered}
 
 module _ (m : ℕ) (keys classes : List ℕ) (W : Window) where

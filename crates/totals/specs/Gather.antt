@@ -7,15 +7,16 @@ use Prim.Native.Nat.{ℕ, min, max, _+_, _-_, _*_, _^_, _≤_}
 use lib.Dec.{eqb}
 use lib.ListN.{getD, set, replicate}
 use Rattle.lists.specs.Lists.{upFrom, Ordered, howMany}
-use Rattle.window.specs.declared.Window.{Window}
 use Rattle.key.specs.Picture.{Px}
+use Rattle.window.specs.declared.Window.{Window}
 use Rattle.window.specs.Blocks.{floor, exponent, pixels}
 use Rattle.window.specs.Keys.{keyOf}
 use Rattle.map.specs.Sound.{Follow}
 use Rattle.map.specs.Records.{pixelRecord}
 use Rattle.map.specs.Runs.{run, runOf}
-use Rattle.used.specs.Used.{Usable}
+use Rattle.border.specs.Openings.{hands}
 use Rattle.border.specs.Step.{Corner}
+use Rattle.used.specs.Used.{Usable}
 
 -- how many pixels of the window are in record n
 unfoldable pub area : ℕ → List ℕ → Window → ℕ → ℕ

@@ -3,9 +3,9 @@
 use mathlib.Core.List.{List, map}
 use Prim.Native.Nat.{ℕ}
 use Rattle.lists.specs.Lists.{upFrom, howMany}
-use Rattle.map.specs.Classes.{hasClass}
 use Rattle.window.specs.declared.Window.{Window}
 use Rattle.window.specs.Blocks.{pixels}
+use Rattle.map.specs.Classes.{hasClass}
 
 -- how many pixels of the window have it
 unfoldable pub total : ℕ → List ℕ → List ℕ → Window → ℕ → ℕ

@@ -10,12 +10,13 @@ use native.Mathlib.Omega.{arith}
 use lib.Bits.{bitXor, xor-shr, xor-self, xor-lt, xor-add-and, and-le-l, and-le-r}
 use lib.Count.{leadingZeros}
 use lib.Pow.{pow-pos, pow-add}
+use Rattle.key.specs.Picture.{Px}
 use Rattle.key.proofs.Laws.{log-of}
 use Rattle.window.specs.declared.Window.{Window}
-use Rattle.key.specs.Picture.{Px}
 use Rattle.window.specs.Window.{In}
-use Rattle.window.specs.Blocks.{floor, Fits, exponent}
+use Rattle.window.specs.Blocks.{floor, exponent}
 use Rattle.window.specs.Walk.{Between, Reach}
+use Rattle.window.proofs.Fitting.{Fits}
 use Rattle.window.proofs.Dyadic.{floor-le, floor-lt, floor-eq, floor-div}
 use Rattle.window.proofs.Blocks.{exponent-le, exponent-fits, exponent-max}
 

@@ -4,9 +4,9 @@
 -- Assumes nothing.
 use mathlib.Core.Path.{_≡_, sym, ap, _∙_}
 use Prim.Native.Nat.{ℕ, zero, suc, _+_, _-_, _*_, _^_, _≤_, _<_}
-use native.Mathlib.Omega.{arith}
-use native.Mathlib.Nat.{pow-succ'}
 use native.Mathlib.Decide.{decLe}
+use native.Mathlib.Nat.{pow-succ'}
+use native.Mathlib.Omega.{arith}
 use lib.Pow.{pow-pos}
 use Rattle.window.specs.Blocks.{floor}
 use Rattle.window.proofs.Dyadic.{floor-eq, floor-add, aligned-down, nested}

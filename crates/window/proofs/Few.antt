@@ -5,19 +5,20 @@ use mathlib.Core.Path.{_≡_, sym, ap, _∙_}
 use mathlib.Core.Logic.{_⊎_, inl, inr}
 use mathlib.Core.List.{List·Memᴰ}
 use Prim.Native.Nat.{ℕ, suc, _+_, _-_, _*_, _/_, _%_, _^_, _≤_, _<_}
-use native.Mathlib.Omega.{arith}
-use native.Mathlib.Nat.{eq-or-lt-of-le, suc-mul, mul-le-mul, mul-mul-mul-comm, le-div-iff-mul-le, div-mul-le-self, lt-div-mul-add, div-le-of-le-mul}
 use native.Mathlib.Decide.{decLe}
+use native.Mathlib.Nat.{eq-or-lt-of-le, suc-mul, mul-le-mul, mul-mul-mul-comm, le-div-iff-mul-le, div-mul-le-self, lt-div-mul-add, div-le-of-le-mul}
+use native.Mathlib.Omega.{arith}
 use lib.Arith.{digits-lt, digits-div, digits-mod}
-use lib.Pow.{pow-pos}
 use lib.ListN.{length}
+use lib.Pow.{pow-pos}
 use Rattle.lists.specs.Lists.{upFrom}
 use Rattle.lists.proofs.Laws.{ordered-imp, pigeon, up-in, up-length}
+use Rattle.key.specs.Picture.{Px}
 use Rattle.key.proofs.Laws.{pow-least}
 use Rattle.window.specs.declared.Window.{Window}
-use Rattle.key.specs.Picture.{Px}
 use Rattle.window.specs.Window.{Inside}
-use Rattle.window.specs.Blocks.{floor, Fits, exponent, maximal}
+use Rattle.window.specs.Blocks.{floor, exponent, maximal}
+use Rattle.window.proofs.Fitting.{Fits}
 use Rattle.window.proofs.Dyadic.{side-square}
 use Rattle.window.proofs.Blocks.{exponent-le, exponent-fits, exponent-max}
 use Rattle.window.proofs.Listed.{before-irrefl, listed→, listed-ordered}

@@ -5,12 +5,13 @@ use mathlib.Core.Logic.{_↔_}
 use Prim.Native.Nat.{ℕ, _+_, _-_, _≤_, _<_}
 use native.Mathlib.Decide.{decLt}
 use native.Mathlib.Omega.{arith}
+use Rattle.key.specs.Picture.{Px}
 use Rattle.key.proofs.Laws.{alignment-most}
 use Rattle.window.specs.declared.Window.{Window}
-use Rattle.key.specs.Picture.{Px}
 use Rattle.window.specs.Window.{In, window}
-use Rattle.window.specs.Blocks.{floor, Fits, Maximal, exponent}
-use Rattle.window.specs.Promises.{BlockAt, Largest}
+use Rattle.window.specs.Blocks.{floor, exponent}
+use Rattle.window.specs.Promises.{Maximal, BlockAt, Largest}
+use Rattle.window.proofs.Fitting.{Fits}
 use Rattle.window.proofs.Dyadic.{floor-le, same-refl, fits-all, fits-by}
 use Rattle.window.proofs.Blocks.{exponent-le, exponent-fits, exponent-max}
 use Rattle.window.proofs.Corners.{alignment-floor}

@@ -6,10 +6,11 @@ use mathlib.Core.List.{List·Memᴰ}
 use Prim.Native.Nat.{ℕ, _<_}
 use native.Mathlib.Decide.{decLt}
 use native.Mathlib.Omega.{arith}
-use Rattle.window.specs.declared.Window.{Window}
 use Rattle.key.specs.Picture.{Px}
+use Rattle.window.specs.declared.Window.{Window}
 use Rattle.window.specs.Window.{In}
-use Rattle.window.specs.Blocks.{floor, Maximal, exponent, corner, maximal}
+use Rattle.window.specs.Blocks.{floor, exponent, corner, maximal}
+use Rattle.window.specs.Promises.{Maximal}
 use Rattle.window.proofs.Dyadic.{same-refl, fits-all, fits-by}
 use Rattle.window.proofs.Blocks.{exponent-le, exponent-fits, exponent-max}
 use Rattle.window.proofs.Listed.{listed→, →listed}

@@ -2,9 +2,9 @@
 -- Assumes nothing.
 use mathlib.Core.List.{List, map}
 use Prim.Native.Nat.{ℕ}
+use Rattle.key.specs.Picture.{Px}
 use Rattle.key.specs.Key.{blockKey}
 use Rattle.window.specs.declared.Window.{Window}
-use Rattle.key.specs.Picture.{Px}
 use Rattle.window.specs.Blocks.{exponent, maximal}
 
 -- the key of a pixel's maximal block

@@ -15,15 +15,15 @@ use Rattle.window.specs.Window.{window, beyond, outside, windowRefusals}
 use Rattle.window.specs.Blocks.{floor, lies, fits, exponent, corner, across, rows, isCorner, maximal}
 use Rattle.window.specs.Keys.{keyOf, keysOf}
 use Rattle.map.specs.Spans as spans
+use Rattle.map.specs.Spans.{within}
 use Rattle.map.specs.Check.{late, refusalsFrom, mapRefusals}
 use Rattle.map.specs.Records.{recordOf, exponentOf}
 use Rattle.map.specs.Runs.{runOf}
+use Rattle.map.specs.Classes.{hasClass}
 use Rattle.border.specs.Openings.{isHanded, opening, openFrom, openings, handedCount, cellsOf}
-use Rattle.map.specs.Spans.{within}
 use Rattle.used.specs.Used.{useRefusals, borderRefusals}
 use Rattle.numbers.specs.Numbers.{bytes, number, bytesOf, numbers}
 use Rattle.house.specs.File.{header, fileOf, layoutRefusals, fileM, fileQ, readRefusals, fileKeys, fileClasses}
-use Rattle.map.specs.Classes.{hasClass}
 use Rattle.totals.specs.Totals.{total, totals}
 use Rattle.text.specs.Text.{digits, digitsOf, spaced, lineOf}
 use Rattle.window_program.specs.Text.{windowOf, openingLines, classLine, classLines, foundLines, foundBy, resultOf, answerOf, leftText, mapText, startRefusals, startText, announcedOf, wholeOf, fileIn}

@@ -9,23 +9,23 @@ use lib.Seq.{take-all}
 use Rattle.answers.specs.declared.Verdict.{Verdict}
 use Rattle.answers.specs.declared.Verdict.the-variants.{Passed, Refused}
 use Rattle.answers.specs.Refusals.{verdict}
-use Rattle.answers.proofs.Laws.{on-passed, on-refused, refused-not-passed}
 use Rattle.answers.specs.After.{after}
+use Rattle.answers.proofs.Laws.{on-passed, on-refused, refused-not-passed}
 use Rattle.window.specs.declared.Window.{Window}
 use Rattle.border.specs.Openings.{openings, handedCount, cellsOf}
+use Rattle.used.specs.Used.{useRefusals}
+use Rattle.used.proofs.Laws.{used-roomy}
 use Rattle.open.specs.declared.Opened.{Opened}
 use Rattle.open.specs.declared.Opened.the-variants as opened
-use Rattle.used.specs.Used.{useRefusals}
 use Rattle.open.specs.Open.{openOf}
 use Rattle.open.specs.Promises.{Answered}
 use Rattle.open.proofs.Laws.{openings-fit, answered}
-use Rattle.used.proofs.Laws.{used-roomy}
 use Rattle.totals.specs.Totals.{totals}
+use Rattle.totals.proofs.Laws.{totals-length}
 use Rattle.report.specs.declared.Reported.{Reported}
 use Rattle.report.specs.declared.Reported.the-variants as reported
 use Rattle.report.specs.Report.{reportOf}
 use Rattle.report.proofs.Laws.{Counted, uncounted, counted}
-use Rattle.totals.proofs.Laws.{totals-length}
 use Rattle.text.proofs.Laws.{line-most}
 use Rattle.window_program.specs.Text.{refusalLine, foundLines, foundBy, resultOf, answerOf}
 use Rattle.window_program.proofs.Lines.{openings-most, classes-most}

@@ -11,8 +11,8 @@ use borrow.Author.Tests.{lt-ltb, le-ltb}
 use borrow.Rule.Slice.PartMut.{midOf, putMid, same-len-mid, mid-len, take-put}
 use Rattle.answers.specs.declared.Verdict.the-variants.{Passed, Refused}
 use Rattle.answers.specs.Refusals.{verdict}
-use Rattle.answers.proofs.Laws.{answer-append, answer-part, refusal-held, on-refused}
 use Rattle.answers.specs.After.{After, after}
+use Rattle.answers.proofs.Laws.{answer-append, answer-part, refusal-held, on-refused}
 use Rattle.map.specs.Check.{mapRefusals}
 use Rattle.map.specs.Sound.{SoundMap}
 use Rattle.numbers.specs.Numbers.{number}

@@ -10,9 +10,9 @@ use Rattle.io.specs.Counts.{Counts}
 use Rattle.answers.specs.declared.Verdict.the-variants.{Passed}
 use Rattle.answers.specs.Refusals.{Refusal, refusal, answer, verdict}
 use Rattle.answers.specs.After.{after}
-use Rattle.window.specs.Blocks.{pixels}
 use Rattle.window.specs.declared.Window.{Window}
 use Rattle.window.specs.Window.{window}
+use Rattle.window.specs.Blocks.{pixels}
 use Rattle.map.specs.Check.{mapRefusals}
 use Rattle.border.specs.Openings.{openings, handedCount, cellsOf}
 use Rattle.used.specs.Used.{useRefusals}

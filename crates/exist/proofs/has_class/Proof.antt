@@ -6,8 +6,8 @@ use native.Mathlib.Omega.{arith}
 use borrow.Author.Needs.{needs}
 use borrow.Author.Tests.{eq-eqb, ne-eqb}
 use Rattle.lists.specs.Lists.{any}
-use Rattle.map.specs.Classes.{classed}
 use Rattle.lists.proofs.Laws.{upto-whole}
+use Rattle.map.specs.Classes.{classed}
 use Rattle.exist.proofs.Seeking.{Looking, looking-first, looking-found, looking-next, looking-last}
 use Rattle.exist.proofs.has_class.Statement.{statement}
 use Rattle.exist.proofs.has_class.Tie as tie

@@ -6,9 +6,9 @@ use lib.ListN.{length}
 use borrow.Author.Needs.{needs}
 use Rattle.window.proofs.Laws.{inside-12}
 use Rattle.border.specs.declared.Found.the-variants.{Opening, End}
-use Rattle.used.specs.Used.{Usable, spent}
 use Rattle.border.specs.Found.{walkMakes, spot, Finds}
 use Rattle.border.proofs.Finding.{fresh-same, fresh-usable, fresh-spent, finding-first, finding-usable, finding-spent, finding-next, finding-last, finds-opens, finds-less}
+use Rattle.used.specs.Used.{Usable, spent}
 use Rattle.exist.proofs.Seeking.{Seeking, seeking-first, seeking-next, seeking-found, seeking-last}
 use Rattle.exist.proofs.Tables.{existing-yes, existing-no}
 use Rattle.exist.proofs.seek.Statement.{statement}

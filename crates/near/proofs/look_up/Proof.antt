@@ -8,10 +8,10 @@ use lib.ListN.{getD}
 use borrow.Author.Needs.{needs}
 use Rattle.key.proofs.Laws.{block-lies, pow-most}
 use Rattle.map.specs.declared.Run.{Run}
-use Rattle.near.specs.Near.{near, Known}
 use Rattle.map.specs.Runs.{runOf, Splits}
 use Rattle.map.proofs.Laws.{keys-rise, Alone, reach-least, reach-beyond}
 use Rattle.map.proofs.Loops.{between-first, found-inside}
+use Rattle.near.specs.Near.{near, Known}
 use Rattle.near.proofs.Known.{known-record}
 use Rattle.near.proofs.look_up.Statement.{statement}
 use Rattle.near.proofs.look_up.Tie as tie

@@ -7,9 +7,9 @@ use borrow.Author.Needs.{needs}
 use Rattle.answers.specs.declared.Verdict.the-variants.{Passed}
 use Rattle.answers.specs.Refusals.{verdict}
 use Rattle.window.proofs.Laws.{inside-12, pixels-most}
+use Rattle.border.proofs.Finding.{filled-spent}
 use Rattle.used.specs.Used.{Usable, useRefusals}
 use Rattle.used.proofs.Laws.{use-known, use-same, use-whole}
-use Rattle.border.proofs.Finding.{filled-spent}
 use Rattle.totals.proofs.Laws.{totals-length}
 use Rattle.report.proofs.Tables.{report-refused, report-short, report-done}
 use Rattle.report.proofs.report.Statement.{statement}

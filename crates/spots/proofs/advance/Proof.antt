@@ -5,9 +5,9 @@ use Prim.Native.Nat.{_+_, _*_, _^_, _≤_}
 use native.Mathlib.Omega.{arith}
 use lib.ListN.{getD}
 use borrow.Author.Needs.{needs}
-use Rattle.key.specs.Alignment.{alignment}
-use Rattle.key.specs.Blocks.{Lies}
 use Rattle.key.specs.Key.{ones}
+use Rattle.key.specs.Alignment.{alignment}
+use Rattle.key.proofs.Standing.{Lies}
 use Rattle.key.proofs.Laws.{pow-most}
 use Rattle.key.proofs.Loops.{ones-pow, ones-entry, next-room, next-stands}
 use Rattle.spots.proofs.advance.Statement.{statement}

@@ -4,8 +4,8 @@ use mathlib.Core.Path.{refl, sym}
 use mathlib.Core.List.{List, [], _∷_, _++_}
 use Prim.Native.Nat.{ℕ, _+_, _≤_}
 use native.Mathlib.Omega.{arith}
-use borrow.Author.Needs.{needs}
 use lib.ListN.{length, set, length-set}
+use borrow.Author.Needs.{needs}
 use Rattle.answers.proofs.Filling.{back}
 use Rattle.text.specs.Text.{spaced, lineOf}
 use Rattle.text.proofs.Laws.{put-none, line-length}

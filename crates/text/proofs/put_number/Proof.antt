@@ -2,8 +2,8 @@
 -- Assumes nothing.
 use mathlib.Core.Path.{sym}
 use native.Mathlib.Omega.{arith}
-use borrow.Author.Needs.{needs}
 use lib.ListN.{length-take}
+use borrow.Author.Needs.{needs}
 use Rattle.text.proofs.Laws.{put-none}
 use Rattle.text.proofs.Steps.{put-front}
 use Rattle.text.proofs.put_number.Statement.{statement}

@@ -3,8 +3,8 @@
 use mathlib.Core.Path.{refl}
 use Prim.Native.Nat.{_+_, _-_, _≤_}
 use native.Mathlib.Omega.{arith}
-use borrow.Author.Needs.{needs}
 use lib.ListN.{length, drop, getD, length-set}
+use borrow.Author.Needs.{needs}
 use Rattle.text.specs.Text.{digitsOf, spaced}
 use Rattle.text.proofs.Laws.{spaced-none, spaced-next, span-next}
 use Rattle.text.proofs.Telling.{Telling, telling-first, telling-length, telling-room, telling-byte, telling-part, telling-last}

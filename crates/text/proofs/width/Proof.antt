@@ -3,8 +3,8 @@
 use mathlib.Core.Path.{_≡_}
 use Prim.Native.Nat.{_+_, _≤_}
 use native.Mathlib.Omega.{arith}
-use borrow.Author.Needs.{needs}
 use lib.ListN.{length}
+use borrow.Author.Needs.{needs}
 use Rattle.text.specs.Text.{digitsOf}
 use Rattle.text.proofs.Laws.{width-small, width-large}
 use Rattle.text.proofs.width.Statement.{statement}

@@ -1,8 +1,8 @@
 -- `window_program::answer_next` is safe: no more bytes are written than were put.
 -- Assumes nothing.
 use native.Mathlib.Omega.{arith}
-use borrow.Author.Needs.{needs}
 use lib.ListN.{length-take}
+use borrow.Author.Needs.{needs}
 use Rattle.text.proofs.Laws.{put-within}
 use Rattle.window_program.proofs.answer_next.Statement.{statement}
 use Rattle.window_program.proofs.answer_next.Tie as tie

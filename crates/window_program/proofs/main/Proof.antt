@@ -3,8 +3,8 @@
 use mathlib.Core.Path.{_≡_, _∙_}
 use Prim.Native.Nat.{ℕ, _≤_}
 use native.Mathlib.Omega.{arith}
-use borrow.Author.Needs.{needs}
 use lib.ListN.{length, length-take, length-replicate}
+use borrow.Author.Needs.{needs}
 use Rattle.text.proofs.Laws.{put-within}
 use Rattle.window_program.proofs.Steps.{begun-sound}
 use Rattle.window_program.proofs.main.Statement.{statement}

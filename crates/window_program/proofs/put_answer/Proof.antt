@@ -4,8 +4,8 @@ use mathlib.Core.Path.{refl, sym}
 use mathlib.Core.List.{List, [], _∷_, append-nil}
 use Prim.Native.Nat.{ℕ, _+_, _≤_}
 use native.Mathlib.Omega.{arith}
-use borrow.Author.Needs.{needs}
 use lib.ListN.{length-drop}
+use borrow.Author.Needs.{needs}
 use Rattle.answers.proofs.Filling.{back, lent-is}
 use Rattle.text.proofs.Laws.{put-most, line-most}
 use Rattle.text.proofs.Telling.{Telling, telling-begin, telling-length, telling-room, telling-part, telling-last}

@@ -2,8 +2,8 @@
 -- Assumes nothing.
 use Prim.Native.Nat.{_-_}
 use native.Mathlib.Omega.{arith}
-use borrow.Author.Needs.{needs}
 use lib.ListN.{length, drop, getD}
+use borrow.Author.Needs.{needs}
 use Rattle.text.proofs.Telling.{Telling, telling-first, telling-length, telling-room, telling-part, telling-last}
 use Rattle.window_program.specs.Text.{classLine, classLines}
 use Rattle.window_program.proofs.Lines.{class-next, class-last}

@@ -4,8 +4,8 @@ use mathlib.Core.Path.{refl, sym}
 use mathlib.Core.List.{List, [], _∷_, _++_, append-nil}
 use Prim.Native.Nat.{ℕ, _+_}
 use native.Mathlib.Omega.{arith}
-use borrow.Author.Needs.{needs}
 use lib.ListN.{length-append}
+use borrow.Author.Needs.{needs}
 use Rattle.answers.proofs.Filling.{back}
 use Rattle.text.specs.Text.{lineOf}
 use Rattle.text.proofs.Telling.{Telling, telling-begin, telling-length, telling-room, telling-lent, telling-part, telling-last}

@@ -1,8 +1,8 @@
 -- `window_program::put_map` meets its contract.
 -- Assumes nothing.
 use mathlib.Core.Path.{_≡_, sym, _∙_}
-use borrow.Author.Needs.{needs}
 use lib.ListN.{length}
+use borrow.Author.Needs.{needs}
 use Rattle.answers.specs.declared.Verdict.{Verdict}
 use Rattle.answers.specs.Refusals.{verdict}
 use Rattle.map.specs.Check.{mapRefusals}

@@ -4,8 +4,8 @@ use mathlib.Core.Path.{_≡_, ap, _∙_}
 use mathlib.Core.List.{List}
 use Prim.Native.Nat.{ℕ, _*_, _≤_}
 use native.Mathlib.Omega.{arith}
-use borrow.Author.Needs.{needs}
 use lib.ListN.{length, take, length-take, length-replicate}
+use borrow.Author.Needs.{needs}
 use Rattle.text.specs.Text.{putOf}
 use Rattle.window_program.proofs.Results.{found-most, open-never, open-fits, open-found}
 use Rattle.window_program.proofs.put_opened.Statement.{statement}

@@ -2,8 +2,8 @@
 -- Assumes nothing.
 use Prim.Native.Nat.{_+_, _-_, _≤_}
 use native.Mathlib.Omega.{arith}
-use borrow.Author.Needs.{needs}
 use lib.ListN.{length, take, drop}
+use borrow.Author.Needs.{needs}
 use Rattle.text.specs.Text.{lineOf}
 use Rattle.text.proofs.Telling.{Telling, telling-first, telling-length, telling-room, telling-part, telling-last}
 use Rattle.window_program.specs.Text.{openingLines}

@@ -4,8 +4,8 @@ use mathlib.Core.Path.{_≡_, ap, _∙_}
 use mathlib.Core.List.{List}
 use Prim.Native.Nat.{ℕ}
 use native.Mathlib.Omega.{arith}
-use borrow.Author.Needs.{needs}
 use lib.ListN.{length, replicate, length-replicate}
+use borrow.Author.Needs.{needs}
 use Rattle.answers.specs.After.{after}
 use Rattle.report.specs.Report.{reportOf}
 use Rattle.text.specs.Text.{putOf}

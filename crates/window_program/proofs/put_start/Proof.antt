@@ -4,8 +4,8 @@ use mathlib.Core.Path.{_≡_, ap, _∙_}
 use mathlib.Core.List.{List}
 use Prim.Native.Nat.{ℕ, _≤_}
 use native.Mathlib.Omega.{arith}
-use borrow.Author.Needs.{needs}
 use lib.ListN.{length, length-take}
+use borrow.Author.Needs.{needs}
 use Rattle.answers.specs.After.{after}
 use Rattle.house.specs.File.{readOf}
 use Rattle.text.specs.Text.{putOf}

@@ -2,8 +2,8 @@
 -- Assumes nothing.
 use mathlib.Core.Path.{refl, sym}
 use native.Mathlib.Omega.{arith}
-use borrow.Author.Needs.{needs}
 use lib.Seq.{length-take-le}
+use borrow.Author.Needs.{needs}
 use Rattle.window_program.proofs.Steps.{announced-room, whole-cut, whole-all}
 use Rattle.window_program.proofs.whole.Statement.{statement}
 use Rattle.window_program.proofs.whole.Tie as tie
