@@ -1,8 +1,7 @@
 // The digits of keys: reading one, and how far a block reaches around another. As in the crate `key`, m is at most 12.
 use key::Form;
 ghost use mathlib.Core.Path.{_≡_};
-ghost use Prim.Native.Nat.{_+_, _^_, _<_, _≤_};
-ghost use lib.ListN.{getD};
+ghost use Prim.Native.Nat.{_≤_};
 ghost use Rattle.key.specs.Spread.{spreads};
 ghost use Rattle.key.specs.Form.{formOf};
 ghost use Rattle.key.specs.Blocks.{BelowBlock, Reaches};

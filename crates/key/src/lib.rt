@@ -1,7 +1,7 @@
 // Locational keys, apart from maps: what they are and their laws; E by a table, a pixel's key, a block's key, the alignment of a number.
 // The crates above refuse m over 12 before they call, so functions here ask m ≤ 12, and all keys fit u32.
 ghost use mathlib.Core.Path.{_≡_};
-ghost use Prim.Native.Nat.{_+_, _^_, _<_, _≤_};
+ghost use Prim.Native.Nat.{_^_, _<_, _≤_};
 ghost use lib.ListN.{getD};
 ghost use Rattle.key.specs.Spread.{E, spreads};
 ghost use Rattle.key.specs.Picture.{Pixel};

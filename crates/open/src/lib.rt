@@ -2,7 +2,6 @@
 use answers::Verdict;
 use window::Window;
 ghost use mathlib.Core.Path.{_≡_};
-ghost use Prim.Native.Nat.{_-_, _≤_};
 ghost use lib.ListN.{length};
 ghost use Rattle.answers.specs.Refusals.{verdict};
 ghost use Rattle.answers.specs.After.{after};

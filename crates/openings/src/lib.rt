@@ -6,7 +6,6 @@ use border::Walk;
 use window::Next;
 use window::Window;
 ghost use mathlib.Core.Path.{_≡_};
-ghost use Prim.Native.Nat.{_≤_};
 ghost use lib.ListN.{length};
 ghost use Rattle.key.specs.Spread.{spreads};
 ghost use Rattle.border.specs.Cells.{entered};

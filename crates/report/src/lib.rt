@@ -2,8 +2,8 @@
 use answers::Verdict;
 use window::Window;
 ghost use mathlib.Core.Path.{_≡_};
-ghost use Prim.Native.Nat.{_+_, _≤_, _<_};
-ghost use lib.ListN.{length, replicate};
+ghost use Prim.Native.Nat.{_≤_};
+ghost use lib.ListN.{length};
 ghost use Rattle.answers.specs.Cells.{overwrite};
 ghost use Rattle.answers.specs.After.{after};
 ghost use Rattle.totals.specs.Totals.{totals};

@@ -1,10 +1,7 @@
 // Which records of a map overlap a block: by a search by halves in the list of keys.
 use map::Run;
 ghost use mathlib.Core.Path.{_≡_};
-ghost use mathlib.Core.Logic.{_↔_};
-ghost use mathlib.Core.Bool.{true};
-ghost use mathlib.Core.List.{[]};
-ghost use Prim.Native.Nat.{_+_, _^_, _≤_, _<_};
+ghost use Prim.Native.Nat.{_+_, _^_, _≤_};
 ghost use lib.ListN.{length};
 ghost use Rattle.key.specs.Spread.{spreads};
 ghost use Rattle.map.specs.Sound.{Spaced};

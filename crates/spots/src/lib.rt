@@ -3,7 +3,6 @@ use key::Fit;
 use key::Spot;
 ghost use mathlib.Core.Path.{_≡_};
 ghost use Prim.Native.Nat.{_+_, _^_, _<_, _≤_};
-ghost use lib.ListN.{getD};
 ghost use Rattle.key.specs.Key.{ones};
 ghost use Rattle.key.specs.Blocks.{Names};
 ghost use Rattle.key.specs.Along.{onesTable, TellsOnes, pixelAt, Stands, ToldFit, Begins};

@@ -216,7 +216,7 @@ fn put_start(file: &[u8], keys: &mut [u32], classes: &mut [u8], out: &mut [u8]) 
     requires { ⌜ (length (now keys) ≡ 1000) × (length (now classes) ≡ 1000) ⌝ }
     ensures { λ r. ⌜ Started (now (file .entry)) r (now (keys .exit)) (now (classes .exit)) (now (out .entry)) (now (out .exit)) ⌝ }
 {
-    let reading = house::read(file, keys, classes);
+    let reading = house_read::read(file, keys, classes);
     match reading {
         Reading::Refused { number, place } => Begun {
             m: 0,
