@@ -2,7 +2,8 @@
 """Writes docs/STATEMENT.md: all definitions that the contracts of the C calls rest on, and no other.
 
 docs/statement.py            writes the page
-docs/statement.py --check    writes nothing; where the page is not current, shows how it differs and ends with 1
+docs/statement.py --check    writes nothing; ends with 1 where the page is not current, and shows how it differs, and
+                             where specs/ has a definition that no contract rests on
 docs/statement.py --inner    lists the definitions that contracts inside the library rest on, but none of a C call
 docs/statement.py --uncited  lists the definitions that no contract rests on
 
@@ -19,6 +20,7 @@ ROOT = pathlib.Path(__file__).resolve().parent.parent
 TABLE = 'docs/statement.txt'
 PAGE = 'docs/STATEMENT.md'
 LIBRARY = 'lutniorad'  # the crate with the C calls
+PROMISES = 'Promises'  # the module of a crate with the words in which its promises are said
 DIFF_SHOWN = 40  # lines
 
 # Of antt and of contracts, what needs no `use` line: signs that name nothing, and names.
@@ -668,13 +670,27 @@ def uncited(project):
     return [item for item in project.definitions() if item not in cited]
 
 
+def strays(project):
+    """The definitions that stand among what contracts cite, and are cited by none. The words of promises stand apart."""
+    return [item for item in uncited(project) if not item.file.path.endswith('/%s.antt' % PROMISES)]
+
+
 def inner(project):
     cited = closure(project.functions)
     promised = closure(project.calls())
     return [item for item in project.definitions() if item in cited and item not in promised]
 
 
-def check(text):
+def check_strays(project):
+    """Is all that stands in specs/ cited by a contract, but for words of promises?"""
+    found = strays(project)
+    show(found)
+    if found:
+        print('no contract rests on these: they belong into proofs/ or into specs/%s.antt' % PROMISES)
+    return 1 if found else 0
+
+
+def check_page(text):
     """Is the page current? Where it is not, shows the first differences."""
     path = ROOT / PAGE
     standing = path.read_text(encoding='utf-8') if path.exists() else ''
@@ -695,7 +711,7 @@ def main(arguments):
     elif arguments == ['--inner']:
         show(inner(project))
     elif arguments == ['--check']:
-        return check(page(project))
+        return check_strays(project) or check_page(page(project))
     elif not arguments:
         (ROOT / PAGE).write_text(page(project), encoding='utf-8')
     else:

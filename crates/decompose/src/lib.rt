@@ -11,6 +11,7 @@ ghost use Rattle.window.specs.Blocks.{exponent};
 ghost use Rattle.window.specs.Keys.{keysOf};
 ghost use Rattle.decompose.specs.Decompose.{decomposeOf};
 
+// What decomposing answers: how many keys there are, or a refusal.
 pub enum Decomposed {
     Done { count: u32 },
     Refused { number: u32, place: u32 },

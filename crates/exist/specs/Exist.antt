@@ -18,10 +18,11 @@ use Rattle.exist.specs.declared.Existence.the-variants as existence
 unfoldable pub exists : ℕ → List ℕ → List ℕ → Window → ℕ → Bool
 exists m keys classes W class = any (hasClass m keys classes class) (pixels W)
 
--- an accepted call
+-- an accepted call: yes or no, and the border is spent
 unfoldable pub existing : ℕ → List ℕ → List ℕ → Window → ℕ → List ℕ → After Existence (List ℕ)
 existing m keys classes W class border = after (cond (exists m keys classes W class) existence.Yes existence.No) (spent W border)
 
+-- exist: refusals 1 to 7 leave the border as it was
 unfoldable pub existOf : ℕ → List ℕ → List ℕ → Window → ℕ → List ℕ → After Existence (List ℕ)
 existOf m keys classes W class border =
     answer (λ number place. after (existence.Refused number place) border) (useRefusals m keys (length classes) W (length border))

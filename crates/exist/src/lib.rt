@@ -13,7 +13,7 @@ ghost use Rattle.map.specs.Classes.{classed};
 ghost use Rattle.used.specs.Used.{Usable};
 ghost use Rattle.exist.specs.Exist.{existing, existOf};
 
-// What exist answers.
+// What exist answers: whether some pixel has the class, or a refusal.
 pub enum Existence {
     Yes,
     No,

@@ -12,6 +12,7 @@ use Rattle.map.specs.declared.Run.{Run}
 use Rattle.map.specs.Spans.{formExponent, start, overlap}
 use Rattle.map.specs.Records.{exponentOf}
 
+-- the run of three numbers
 abbrev pub run : ℕ → ℕ → ℕ → Run
 run first count reach = record { first = first; count = count; reach = reach }
 

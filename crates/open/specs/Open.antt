@@ -10,6 +10,6 @@ use Rattle.used.specs.Used.{usedFor}
 use Rattle.open.specs.declared.Opened.{Opened}
 use Rattle.open.specs.declared.Opened.the-variants.{Done, Refused}
 
--- opening: the numbers of openings and records, and the openings in their cells
+-- opening: the numbers of openings and of records, and the openings in their cells
 unfoldable pub openOf : ℕ → List ℕ → ℕ → Window → List ℕ → List ℕ → After Opened (List ℕ × List ℕ)
 openOf m keys classes W = let os = openings m m keys W in usedFor Refused (Done (length os) (handedCount os)) (cellsOf os) m keys classes W

@@ -7,6 +7,7 @@ ghost use Rattle.answers.specs.Refusals.{verdict};
 ghost use Rattle.answers.specs.After.{after};
 ghost use Rattle.open.specs.Open.{openOf};
 
+// What opening answers: how many openings there are and how many records they hand out, or a refusal.
 pub enum Opened {
     Done { openings: u32, records: u32 },
     Refused { number: u32, place: u32 },

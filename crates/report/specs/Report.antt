@@ -10,5 +10,6 @@ use Rattle.totals.specs.Totals.{totals}
 use Rattle.report.specs.declared.Reported.{Reported}
 use Rattle.report.specs.declared.Reported.the-variants.{Done, Refused}
 
+-- report: the number of the window's pixels, and the totals of all 256 classes in their cells
 unfoldable pub reportOf : ℕ → List ℕ → List ℕ → Window → List ℕ → List ℕ → After Reported (List ℕ × List ℕ)
 reportOf m keys classes W = usedFor Refused (Done (W .h * W .w)) (totals m keys classes W) m keys (length classes) W

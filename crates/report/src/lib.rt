@@ -9,6 +9,7 @@ ghost use Rattle.answers.specs.After.{after};
 ghost use Rattle.totals.specs.Totals.{totals};
 ghost use Rattle.report.specs.Report.{reportOf};
 
+// What report answers: how many pixels the window has, or a refusal.
 pub enum Reported {
     Done { pixels: u32 },
     Refused { number: u32, place: u32 },

@@ -32,12 +32,12 @@ module _ (m : ℕ) (keys classes : List ℕ) (class : ℕ) where
       let records = upFrom 0 (length keys) in
       cond (any (around key) records) (key ∷ []) (map (λ n. getD keys n 0) (keep (inside key) records))
 
-  -- of blocks, one after another
+  -- the same of blocks, one after another
   unfoldable pub allSelected : List ℕ → List ℕ
   allSelected [] = []
   allSelected (k ∷ ks) = selected k ++ allSelected ks
 
--- of the window's maximal blocks, in their order
+-- the keys to select: those of the window's maximal blocks, in their order
 unfoldable pub selection : ℕ → ℕ → List ℕ → List ℕ → Window → ℕ → List ℕ
 selection m top keys classes W class = allSelected m keys classes class (keysOf m top W)
 
@@ -67,5 +67,6 @@ pub record Overlapped (keys : List ℕ) (i : ℕ) (run : Run) : Type 0 where
 abbrev pub keysInto : List ℕ → List ℕ → After Selected (List ℕ)
 keysInto ks = roomFor Refused (Done (length ks)) ks
 
+-- select: how many keys there are, and the keys in their cells
 unfoldable pub selectOf : ℕ → List ℕ → List ℕ → Window → ℕ → List ℕ → List ℕ → After Selected (List ℕ × List ℕ)
 selectOf m keys classes W class = let ks = selection m m keys classes W class in usedFor Refused (Done (length ks)) ks m keys (length classes) W

@@ -7,7 +7,7 @@ use Rattle.window.specs.declared.Window.{Window}
 use Rattle.window.specs.Blocks.{pixels}
 use Rattle.map.specs.Classes.{hasClass}
 
--- how many pixels of the window have it
+-- how many pixels of the window have the class
 unfoldable pub total : ℕ → List ℕ → List ℕ → Window → ℕ → ℕ
 total m keys classes W class = howMany (hasClass m keys classes class) (pixels W)
 

@@ -1,4 +1,4 @@
--- The words in which the promises about the largest block at a pixel are said.
+-- The words in which the promises about maximal blocks and about the largest block at a pixel are said.
 -- Assumes nothing.
 use mathlib.Core.Path.{_≡_}
 use mathlib.Core.List.{[]}
@@ -8,19 +8,6 @@ use Rattle.key.specs.Alignment.{alignment}
 use Rattle.window.specs.declared.Window.{Window}
 use Rattle.window.specs.Window.{In}
 use Rattle.window.specs.Blocks.{floor}
-
--- the block of side 2 ^ i may start at p: i is at most the smaller alignment of its row and column, and it ends where the window does, or before. Alignments are cut at `top`, which
--- is m where blocks may be as large as the picture
-pub record BlockAt (W : Window) (top i : ℕ) (p : Px) : Type 0 where
-  pub row : i ≤ alignment top (p .0)
-  pub col : i ≤ alignment top (p .1)
-  pub bottom : p .0 + 2 ^ i ≤ W .r0 + W .h
-  pub right : p .1 + 2 ^ i ≤ W .c0 + W .w
-
--- and no larger one may
-pub record Largest (W : Window) (top i : ℕ) (p : Px) : Type 0 where
-  pub at : BlockAt W top i p
-  pub most : (j : ℕ) → BlockAt W top j p → j ≤ i
 
 -- p and q lie in one block of side 2 ^ i
 pub record Same (i : ℕ) (p q : Px) : Type 0 where
@@ -39,3 +26,16 @@ pub record Maximal (W : Window) (top i : ℕ) (p : Px) : Type 0 where
 pub data Before (p q : Px) : Type 0 where
   above : p .0 < q .0 → Before p q
   beside : p .0 ≡ q .0 → p .1 < q .1 → Before p q
+
+-- the block of side 2 ^ i may start at p: i is at most the smaller alignment of its row and column, and it ends where the window does, or before. Alignments are cut at `top`, which
+-- is m where blocks may be as large as the picture
+pub record BlockAt (W : Window) (top i : ℕ) (p : Px) : Type 0 where
+  pub row : i ≤ alignment top (p .0)
+  pub col : i ≤ alignment top (p .1)
+  pub bottom : p .0 + 2 ^ i ≤ W .r0 + W .h
+  pub right : p .1 + 2 ^ i ≤ W .c0 + W .w
+
+-- and no larger one may
+pub record Largest (W : Window) (top i : ℕ) (p : Px) : Type 0 where
+  pub at : BlockAt W top i p
+  pub most : (j : ℕ) → BlockAt W top j p → j ≤ i
