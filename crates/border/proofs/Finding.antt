@@ -6,7 +6,6 @@ use Prim.Native.Nat.{ℕ, _+_, _≤_, _<_}
 use native.Mathlib.Omega.{arith}
 use lib.ListN.{length, replicate, length-replicate, take-append-drop}
 use Rattle.answers.proofs.Laws.{overwrite-part}
-use Rattle.key.specs.Picture.{Px}
 use Rattle.window.specs.declared.Window.{Window}
 use Rattle.window.specs.Blocks.{exponent, maximal}
 use Rattle.window.specs.Walk.{Walked}
@@ -16,6 +15,7 @@ use Rattle.map.specs.Runs.{runOf}
 use Rattle.map.specs.Runs as runs
 use Rattle.used.specs.Used.{Usable, spent}
 use Rattle.border.specs.declared.Walk.{Walk}
+use Rattle.border.specs.declared.Found.{Found}
 use Rattle.border.specs.declared.Found.the-variants as found
 use Rattle.border.specs.Openings.{Opening, made, opening, openings}
 use Rattle.border.specs.Border.{Stated, Covered}
@@ -80,54 +80,58 @@ module _ {m top : ℕ} {keys : List ℕ} {W : Window} (cells : List ℕ) {border
       A = ahead-is [] (maximal W top) border fresh-usable refl stated
 
 -- then from one opening to the next, and to the last
-module _ {m top : ℕ} {keys : List ℕ} {W : Window} {border₀ border : List ℕ} where
-  module _ {at : Walk} {done : List Opening} (F : Finding m top keys W border₀ border at done) where
-    pub finding-usable : Usable m top keys W (length border₀) → Usable m top keys W (length border)
-    finding-usable U = rw (F .kept .same) U
+module _ {m top : ℕ} {keys : List ℕ} {W : Window} {border₀ border : List ℕ} {at : Walk} {done : List Opening} (F : Finding m top keys W border₀ border at done) where
+  pub finding-usable : Usable m top keys W (length border₀) → Usable m top keys W (length border)
+  finding-usable U = rw (F .kept .same) U
 
-    -- cells that are filled to the end are spent, however far the walk is
-    pub finding-spent : {after : List ℕ} → Usable m top keys W (length border₀) → after ≡ filled 0 (W .w) (W .r0 + W .h) border
-        → (after ≡ spent W border₀) × (length after ≡ length border₀)
-    finding-spent U e =
-        let l = finding-usable U .wide in
-        (e ∙ filled-spent W border l ∙ spent-kept (F .kept), rw e (filled-length 0 (W .w) (W .r0 + W .h) border (omega arith) l) ∙ F .kept .same)
+  -- cells that are filled to the end are spent, however far the walk is
+  pub finding-spent : {after : List ℕ} → Usable m top keys W (length border₀) → after ≡ filled 0 (W .w) (W .r0 + W .h) border
+      → (after ≡ spent W border₀) × (length after ≡ length border₀)
+  finding-spent U e =
+      let l = finding-usable U .wide in
+      (e ∙ filled-spent W border l ∙ spent-kept (F .kept), rw e (filled-length 0 (W .w) (W .r0 + W .h) border (omega arith) l) ∙ F .kept .same)
 
-    pub finding-next : {row col i key first count far : ℕ} {on : Walk} {border′ : List ℕ} → Finds m top keys W at border (found.Opening row col i key first count far on) border′
-        → Finding m top keys W border₀ border′ on (done ++ (made key first count ∷ []))
-    finding-next (finds.opening K d n f R k e l) = record {
-      reached = R;
-      kept = kept-more (F .kept) k;
-      all = F .all ∙ rw e (sym (append-assoc done _ _));
-      left = sym l ∙ F .left;
-    }
+  ended : {border′ : List ℕ} → Finds m top keys W at border found.End border′ → (openings m top keys W ≡ done) × (border′ ≡ spent W border₀) × Kept W border₀ border′
+  ended (finds.end k e l) = (F .all ∙ rw (e, append-nil), sym l ∙ F .left, kept-more (F .kept) k)
 
-    pub finding-last : {border′ : List ℕ} → Finds m top keys W at border found.End border′
-        → (openings m top keys W ≡ done) × (border′ ≡ spent W border₀) × Kept W border₀ border′
-    finding-last (finds.end k e l) = (F .all ∙ rw (e, append-nil), sym l ∙ F .left, kept-more (F .kept) k)
+  pub finding-last : {answer : Found} {border′ : List ℕ} → Finds m top keys W at border answer border′ → answer ≡ found.End
+      → (openings m top keys W ≡ done) × (border′ ≡ spent W border₀) × Kept W border₀ border′
+  finding-last f e = ended (rw e at f)
 
--- the block with corner b is opened with the `count` records from `first` on, which reach so far
-pub record Opens (m top : ℕ) (keys : List ℕ) (W : Window) (b : Px) (first count far : ℕ) : Type 0 where
-  pub corner : Corner W top b
-  pub run : runOf m keys (keyOf m top W b) ≡ runs.run first count far
+-- What is found is an opening: of a block's corner, its exponent and key, the `count` records from `first` on, how far they reach, and from where the walk goes on. The block is opened
+-- with these records, and with the opening behind it the walk stands there, with fewer ahead.
+pub record Opens {m top : ℕ} {keys : List ℕ} {W : Window} {border₀ border : List ℕ} {at : Walk} {done : List Opening} (F : Finding m top keys W border₀ border at done)
+    {answer : Found} {row col i key first count far : ℕ} {on : Walk} (is : answer ≡ found.Opening row col i key first count far on) (border′ : List ℕ) : Type 0 where
+  pub corner : Corner W top (row, col)
+  pub size : i ≡ exponent W top (row, col)
+  pub named : key ≡ keyOf m top W (row, col)
+  pub run : runOf m keys key ≡ runs.run first count far
   pub room : first + count ≤ length keys
+  pub next : Finding m top keys W border₀ border′ on (done ++ (made key first count ∷ []))
+  pub fewer : length (walkMakes m top keys W border′ (spot on)) < length (walkMakes m top keys W border (spot at))
 
-module _ {m top : ℕ} {keys : List ℕ} {W : Window} {at : Walk} {cells border : List ℕ} {row col i key first count far : ℕ} {on : Walk} where
-  -- what is found is an opening of the block with that corner
-  pub finds-opens : {n : ℕ} {border₀ : List ℕ} {done : List Opening} → Usable m top keys W n → Finding m top keys W border₀ cells at done
-      → Finds m top keys W at cells (found.Opening row col i key first count far on) border → Opens m top keys W (row, col) first count far
+module _ {m top n : ℕ} {keys : List ℕ} {W : Window} (U : Usable m top keys W n)
+    {border₀ border : List ℕ} {at : Walk} {done : List Opening} (F : Finding m top keys W border₀ border at done)
+    {answer : Found} {row col i key first count far : ℕ} {on : Walk} (is : answer ≡ found.Opening row col i key first count far on) {border′ : List ℕ} where
+  tell : Finds m top keys W at border (found.Opening row col i key first count far on) border′ → Opens F is border′
   unfolding opening
-  finds-opens {done = done} U F (finds.opening K x n f R k e l) =
-      let listed : List·Memᴰ (made key first count) (openings m top keys W) = rw (F .all, e) (Memᴰ·append-right done (List·Memᴰ·head {xs = walkMakes m top keys W border (spot on)} refl)) in
+  tell (finds.opening K x n f R k e l) =
+      let rest = walkMakes m top keys W border′ (spot on) in
+      let listed : List·Memᴰ (made key first count) (openings m top keys W) = rw (F .all, e) (Memᴰ·append-right done (List·Memᴰ·head {xs = rest} refl)) in
       let t = opening-block m top keys W listed in
       let d : keyOf m top W (t .0) ≡ keyOf m top W (row, col) = sym (ap (λ (o : Opening). o .key) (t .2)) ∙ n in
       let far-own = far-is (U .spaced) (U .inside) (U .cap) K in
       let r : runOf m keys (keyOf m top W (row, col)) ≡ runs.run first count far =
       rw (f ∙ sym far-own, ← d) (ap (λ (o : Opening). runs.run (o .first) (o .count) (runOf m keys (keyOf m top W (t .0)) .reach)) (sym (t .2))) in
-      record { corner = K; run = r; room = rw r at (met-room (U .spaced) (U .inside) (U .cap) K) }
+      record {
+        corner = K;
+        size = x;
+        named = n;
+        run = rw n r;
+        room = rw r at (met-room (U .spaced) (U .inside) (U .cap) K);
+        next = record { reached = R; kept = kept-more (F .kept) k; all = F .all ∙ rw e (sym (append-assoc done _ _)); left = sym l ∙ F .left };
+        fewer = rw e (omega arith);
+      }
 
-  pub finds-exponent : Finds m top keys W at cells (found.Opening row col i key first count far on) border → (i ≡ exponent W top (row, col)) × (key ≡ keyOf m top W (row, col))
-  finds-exponent (finds.opening K x n f R k e l) = (x, n)
-
-  pub finds-less : Finds m top keys W at cells (found.Opening row col i key first count far on) border
-      → length (walkMakes m top keys W border (spot on)) < length (walkMakes m top keys W cells (spot at))
-  finds-less (finds.opening K x n f R k e l) = rw e (omega arith)
+  pub finds-opens : Finds m top keys W at border answer border′ → Opens F is border′
+  finds-opens f = tell (rw is at f)

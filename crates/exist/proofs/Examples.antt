@@ -47,7 +47,9 @@ pub record Examples : Type 0 where
   pub elsewhere : existOf 1 pixels (7 ∷ 0 ∷ 0 ∷ 0 ∷ []) (window 1 0 1 2) 7 (old 2) ≡ after existence.No (2 ∷ 2 ∷ [])
 
 pub examples : Examples
-unfolding pictureRefusals countRefusals borderRefusals answer wrongCount sizeRefusals overwrite upFrom spreadTo spread place from formOf beyond outside windowRefusals across rows spans.malformed spans.formExponent spans.start spans.end spans.holds late refusalsFrom mapRefusals before howMany recordOf any useRefusals spent hasClass exists existing existOf
+unfolding pictureRefusals countRefusals borderRefusals answer wrongCount sizeRefusals overwrite upFrom spreadTo spread place from formOf beyond
+    outside windowRefusals across rows spans.malformed spans.formExponent spans.start spans.end spans.holds late refusalsFrom mapRefusals before
+    howMany recordOf any useRefusals spent hasClass exists existing existOf
 examples = record {
   yes = refl;
   no = refl;

@@ -11,10 +11,11 @@ use Rattle.window.specs.declared.Window.{Window}
 use Rattle.map.specs.Sound.{Follow}
 use Rattle.map.specs.Classes.{classed}
 use Rattle.border.specs.declared.Walk.{Walk}
+use Rattle.border.specs.declared.Found.{Found}
 use Rattle.border.specs.declared.Found.the-variants as found
 use Rattle.border.specs.Openings.{Opening, made, openings, allHands}
-use Rattle.border.specs.Found.{walkMakes, walk, spot, Finds}
-use Rattle.border.proofs.Finding.{Finding, finding-next, finding-last}
+use Rattle.border.specs.Found.{walkMakes, spot, Finds}
+use Rattle.border.proofs.Finding.{Finding, Opens, finding-last}
 use Rattle.used.specs.Used.{Usable}
 use Rattle.exist.specs.Exist.{exists}
 use Rattle.exist.proofs.Found.{exists-hands, any-no-opening, any-opening, opening-any}
@@ -48,25 +49,27 @@ pub record Seeking (m : ℕ) (keys classes : List ℕ) (W : Window) (class : ℕ
   pub none : any (classed classes class) (allHands done) ≡ false
 
 module _ {m : ℕ} {keys : List ℕ} (classes : List ℕ) {W : Window} (class : ℕ) where
-  pub seeking-first : {border : List ℕ} → Finding m m keys W border border (walk (W .r0) (W .c0) (W .w)) [] → Seeking m keys classes W class border border (walk (W .r0) (W .c0) (W .w))
+  pub seeking-first : {border : List ℕ} {at : Walk} → Finding m m keys W border border at [] → Seeking m keys classes W class border border at
   seeking-first F = record { done = []; finding = F; none = any-no-opening (classed classes class) }
 
   module _ {n : ℕ} (U : Usable m m keys W n) (F : Follow m 0 keys) {border₀ border : List ℕ} {at : Walk} (S : Seeking m keys classes W class border₀ border at) where
     whole : exists m keys classes W class ≡ any (classed classes class) (allHands (openings m m keys W))
     whole = exists-hands F (U .inside) (U .cap) classes class
 
-    module _ {row col i key first count far : ℕ} {on : Walk} {border′ : List ℕ} (f : Finds m m keys W at border (found.Opening row col i key first count far on) border′) where
+    module _ {answer : Found} {row col i key first count far : ℕ} {on : Walk} {is : answer ≡ found.Opening row col i key first count far on}
+        {border′ : List ℕ} (O : Opens (S .finding) is border′) where
       pub seeking-next : any (classed classes class) (upFrom first count) ≡ false → Seeking m keys classes W class border₀ border′ on
       seeking-next e = record {
         done = S .done ++ (made key first count ∷ []);
-        finding = finding-next (S .finding) f;
+        finding = O .next;
         none = any-opening (classed classes class) (S .done) (made key first count) (S .none) e;
       }
 
       pub seeking-found : any (classed classes class) (upFrom first count) ≡ true → exists m keys classes W class ≡ true
       seeking-found e =
           let rest = walkMakes m m keys W border′ (spot on) in
-          whole ∙ rw (finding-next (S .finding) f .all, append-assoc (S .done) (made key first count ∷ []) rest) (opening-any (classed classes class) (S .done) (made key first count) rest e)
+          let new = made key first count in
+          whole ∙ rw (O .next .all, append-assoc (S .done) (new ∷ []) rest) (opening-any (classed classes class) (S .done) new rest e)
 
-    pub seeking-last : {border′ : List ℕ} → Finds m m keys W at border found.End border′ → exists m keys classes W class ≡ false
-    seeking-last f = whole ∙ rw (finding-last (S .finding) f .0) (S .none)
+    pub seeking-last : {answer : Found} {border′ : List ℕ} → Finds m m keys W at border answer border′ → answer ≡ found.End → exists m keys classes W class ≡ false
+    seeking-last f d = whole ∙ rw (finding-last (S .finding) f d .0) (S .none)

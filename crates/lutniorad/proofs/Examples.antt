@@ -42,10 +42,11 @@ record Called : Type 0 where
   p2 : Decompose 2 W (old 6) (values 6 0) blocks
 
 called : Called
-unfolding pictureRefusals countRefusals roomRefusals borderRefusals roomFor answer wrongCount sizeRefusals overwrite upFrom spreadTo spread place pixelKey blockKey from formOf beyond outside windowRefusals keep floor lies
-    fits greatest exponent corner across rows isCorner maximal keyOf keysOf decomposeRefusals decomposeOf spans.malformed spans.formExponent spans.start
-    spans.end spans.holds spans.overlap late refusalsFrom mapRefusals before howMany recordOf exponentOf runOf any within isHanded opening openFrom
-    openings handedCount cellsOf useRefusals spent usedFor openOf
+unfolding pictureRefusals countRefusals roomRefusals borderRefusals roomFor answer wrongCount sizeRefusals overwrite upFrom spreadTo spread place
+    pixelKey blockKey from formOf beyond outside windowRefusals keep floor lies fits greatest exponent corner across rows isCorner maximal keyOf
+    keysOf decomposeRefusals decomposeOf spans.malformed spans.formExponent spans.start spans.end spans.holds spans.overlap late refusalsFrom
+    mapRefusals before howMany recordOf exponentOf runOf any within isHanded opening openFrom openings handedCount cellsOf useRefusals spent usedFor
+    openOf
 called = record { p1 = record { answer = refl; cells = refl }; p2 = record { answer = refl; cells = refl } }
 
 p1-promise : OpenPromise 2 keys W (old 3) (old 12) (made 7 0 1 ∷ made 10 1 4 ∷ made 17 5 1 ∷ made 21 6 1 ∷ []) (values 4 7) (3 ∷ 3 ∷ 3 ∷ []) cells

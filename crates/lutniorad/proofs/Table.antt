@@ -70,10 +70,11 @@ pub record Table : Type 0 where
   pub p12-accepted : verdict (useRefusals 2 keys 7 (window 2 0 2 1) 1) ≡ verdict-of.Passed
 
 pub table : Table
-unfolding pictureRefusals countRefusals borderRefusals roomRefusals roomFor answer wrongCount sizeRefusals overwrite upFrom spreadTo spread place pixelKey blockKey from formOf beyond outside windowRefusals keep floor lies
-    fits greatest exponent corner across rows isCorner maximal keyOf keysOf spans.malformed spans.formExponent spans.start spans.end spans.holds spans.overlap
-    late refusalsFrom mapRefusals checkOf before howMany recordOf exponentOf runOf any within isHanded opening openFrom openings handedCount useRefusals spent
-    hasClass total totals around inside selected allSelected selection usedFor reportOf selectOf bytes bytesOf header fileOf
+unfolding pictureRefusals countRefusals borderRefusals roomRefusals roomFor answer wrongCount sizeRefusals overwrite upFrom spreadTo spread place
+    pixelKey blockKey from formOf beyond outside windowRefusals keep floor lies fits greatest exponent corner across rows isCorner maximal keyOf
+    keysOf spans.malformed spans.formExponent spans.start spans.end spans.holds spans.overlap late refusalsFrom mapRefusals checkOf before howMany
+    recordOf exponentOf runOf any within isHanded opening openFrom openings handedCount useRefusals spent hasClass total totals around inside selected
+    allSelected selection usedFor reportOf selectOf bytes bytesOf header fileOf
 table = record {
   p1-length = refl;
   p1-header = refl;

@@ -29,7 +29,7 @@ pub used-crossed : {A : Type 0} (say : A → Answer) (refuse : ℕ → ℕ → A
     {o : After A (List ℕ × List ℕ)} {r : Answer} {border′ out′ : List ℕ} → o ≡ usedFor refuse done cells m keys classes W border out → Call say o r (border′, out′)
     → after r (border′, out′) ≡ usedFor (λ n p. say (refuse n p)) (say done) cells m keys classes W border out
 used-crossed {A} say refuse done cells m keys classes W border out is call =
-    crossed say call ∙ ap (λ (x : After A (List ℕ × List ℕ)). after (say (x .answer)) (x .lent)) is ∙ used-said refuse done cells m keys classes W border out say
+    crossed call ∙ ap (λ (x : After A (List ℕ × List ℕ)). after (say (x .answer)) (x .lent)) is ∙ used-said refuse done cells m keys classes W border out say
 
 -- a call that answers two values and writes cells
 module _ (first second : ℕ) (cells : List ℕ) (m : ℕ) (keys : List ℕ) (classes : ℕ) (W : Window) (border out : List ℕ) {r : Answer} {border′ out′ : List ℕ}

@@ -55,7 +55,8 @@ pub record Examples : Type 0 where
   pub tile : tileOf 2 gapped 1 ≡ 3
 
 pub examples : Examples
-unfolding pictureRefusals countRefusals answer wrongCount sizeRefusals spreadTo spread place from formOf malformed formExponent start end holds overlap late refusalsFrom mapRefusals checkOf before howMany recordOf exponentOf tileOf runOf
+unfolding pictureRefusals countRefusals answer wrongCount sizeRefusals spreadTo spread place from formOf malformed formExponent start end holds
+    overlap late refusalsFrom mapRefusals checkOf before howMany recordOf exponentOf tileOf runOf
 examples = record {
   sound = refl;
   pixel = refl;

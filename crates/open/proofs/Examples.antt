@@ -53,10 +53,10 @@ pub record Examples : Type 0 where
   pub large : openOf 13 [] 7 (window 0 0 0 0) [] [] ≡ after (Refused 1 0) ([], [])
 
 pub examples : Examples
-unfolding pictureRefusals countRefusals borderRefusals roomRefusals roomFor answer wrongCount sizeRefusals overwrite upFrom spreadTo spread place pixelKey blockKey from formOf beyond outside windowRefusals keep floor lies
-    fits greatest exponent corner across rows isCorner maximal keyOf keysOf spans.malformed spans.formExponent spans.start spans.end spans.holds
-    spans.overlap late refusalsFrom mapRefusals before howMany recordOf exponentOf runOf any within isHanded opening openFrom openings
-    handedCount cellsOf useRefusals spent usedFor openOf
+unfolding pictureRefusals countRefusals borderRefusals roomRefusals roomFor answer wrongCount sizeRefusals overwrite upFrom spreadTo spread place
+    pixelKey blockKey from formOf beyond outside windowRefusals keep floor lies fits greatest exponent corner across rows isCorner maximal keyOf
+    keysOf spans.malformed spans.formExponent spans.start spans.end spans.holds spans.overlap late refusalsFrom mapRefusals before howMany recordOf
+    exponentOf runOf any within isHanded opening openFrom openings handedCount cellsOf useRefusals spent usedFor openOf
 examples = record {
   narrow = refl;
   short = refl;

@@ -1,7 +1,7 @@
 -- Opening as a use of a map and a window, and passes over the maximal blocks with and without room.
 -- Assumes nothing.
 use mathlib.Core.Path.{_≡_, refl, sym, ap, _∙_}
-use mathlib.Core.List.{List, []}
+use mathlib.Core.List.{List, [], _++_}
 use Prim.Native.Nat.{ℕ, _+_, _*_, _/_, _≤_, _<_}
 use native.Mathlib.Omega.{arith}
 use lib.ListN.{length, take, replicate, length-take, length-replicate}
@@ -54,10 +54,11 @@ accepted-again m keys W border out =
     ap (λ (t : List ℕ). after (Done (length (openings m m keys W)) (handedCount (openings m m keys W))) (t, overwrite (cellsOf (openings m m keys W)) out))
     (overwrite-again (replicate (W .w) (W .r0 + W .h)) border)
 
--- a pass over a slice with no room
-pub passed-none : {m top : ℕ} {keys : List ℕ} {W : Window} {border₀ border out : List ℕ} {totals : Totals} → Passed m top keys W border₀ [] totals border out → out ≡ []
+-- a pass over a slice with no room writes nothing
+pub passed-nothing : {m top : ℕ} {keys : List ℕ} {W : Window} {border₀ border part : List ℕ} {totals : Totals} (out : List ℕ)
+    → Passed m top keys W border₀ [] totals border part → part ++ out ≡ out
 unfolding fitting
-passed-none p = p .written ∙ sym (overwrite-part [] [])
+passed-nothing out p = ap (λ (xs : List ℕ). xs ++ out) (p .written ∙ sym (overwrite-part [] []))
 
 -- a pass keeps the lengths of both slices
 pub passed-same : {m top : ℕ} {keys : List ℕ} {W : Window} {border₀ out₀ border out : List ℕ} {totals : Totals}
@@ -79,3 +80,40 @@ passed-all {m} {keys} {W} {out₀ = out₀} p l =
     let os = openings m m keys W in
     let all = take-all (3 * (length out₀ / 3)) (cellsOf os) (omega (arith, cells-length os)) in
     rw (p .many, p .records, p .ends, p .written, all)
+
+-- ---- the pass that writes
+
+-- The slices with which it starts, where border₀ and out₀ are lent: out₀ is as it was and has room for all openings, and the border is as it was or spent already, which makes no
+-- difference.
+pub record Writable (m : ℕ) (keys : List ℕ) (W : Window) (border₀ out₀ border out : List ℕ) : Type 0 where
+  pub same : out ≡ out₀
+  pub room : 3 * length (openings m m keys W) ≤ length out₀
+  pub long : length border ≡ length border₀
+  pub either : accepted m keys W border out₀ ≡ accepted m keys W border₀ out₀
+
+module _ {m : ℕ} {keys : List ℕ} {W : Window} {border₀ out₀ border out : List ℕ} where
+  -- where no pass has gone before
+  pub writable-first : border ≡ border₀ → out ≡ out₀ → 3 * length (openings m m keys W) ≤ length out₀ → Writable m keys W border₀ out₀ border out
+  writable-first e d l = record { same = d; room = l; long = ap length e; either = ap (λ (b : List ℕ). accepted m keys W b out₀) e }
+
+  -- where a pass has counted them, in the first none of the cells
+  pub writable-counted : {left part : List ℕ} {totals : Totals} → Passed m m keys W border₀ [] totals left part → W .w ≤ length border₀ → border ≡ left → out ≡ part ++ out₀
+      → 3 * totals .openings ≤ length (part ++ out₀) → Writable m keys W border₀ out₀ border out
+  writable-counted p wide e d l = record {
+    same = d ∙ passed-nothing out₀ p;
+    room = omega (arith, p .many, ap length (passed-nothing out₀ p));
+    long = ap length e ∙ passed-same p wide .0;
+    either = ap (λ (b : List ℕ). accepted m keys W b out₀) (e ∙ p .ends) ∙ accepted-again m keys W border₀ out₀;
+  }
+
+  module _ (R : Writable m keys W border₀ out₀ border out) {border′ out′ : List ℕ} {totals : Totals} (p : Passed m m keys W border out totals border′ out′) where
+    pub written-same : W .w ≤ length border₀ → (length border′ ≡ length border₀) × (length out′ ≡ length out₀)
+    written-same wide = let s = passed-same p (rw (R .long) wide) in (s .0 ∙ R .long, s .1 ∙ ap length (R .same))
+
+    pub written-all : (classes : ℕ) → verdict (useRefusals m keys classes W (length border₀)) ≡ verdict-of.Passed
+        → after (Done (totals .openings) (totals .records)) (border′, out′) ≡ openOf m keys classes W border₀ out₀
+    written-all classes e =
+        passed-all p (omega (arith, R .room, ap length (R .same)))
+        ∙ ap (accepted m keys W border) (R .same)
+        ∙ R .either
+        ∙ sym (open-done m keys classes W border₀ out₀ e (R .room))

@@ -46,7 +46,9 @@ pub record Examples : Type 0 where
   pub narrow : reportOf 2 keys classes W (old 2) [] ≡ after (Refused 7 3) (old 2, [])
 
 pub examples : Examples
-unfolding pictureRefusals countRefusals borderRefusals roomRefusals roomFor answer wrongCount sizeRefusals overwrite upFrom spreadTo spread place from formOf beyond outside windowRefusals across rows spans.malformed spans.formExponent spans.start spans.end spans.holds late refusalsFrom mapRefusals before howMany recordOf useRefusals spent hasClass total totals usedFor reportOf
+unfolding pictureRefusals countRefusals borderRefusals roomRefusals roomFor answer wrongCount sizeRefusals overwrite upFrom spreadTo spread place from
+    formOf beyond outside windowRefusals across rows spans.malformed spans.formExponent spans.start spans.end spans.holds late refusalsFrom
+    mapRefusals before howMany recordOf useRefusals spent hasClass total totals usedFor reportOf
 examples = record {
   part = refl;
   report-short = refl;

@@ -16,8 +16,9 @@ use Rattle.key.proofs.Standing.{Covers, Stand, within as lies-in, around as sta
 use Rattle.key.proofs.Laws.{blocks-stand}
 use Rattle.map.specs.Spans.{holds}
 use Rattle.map.specs.Sound.{Spaced}
+use Rattle.map.specs.Records.{recordOf}
 use Rattle.map.proofs.Tiles.{Record, Holder}
-use Rattle.map.proofs.Laws.{record-at, one-holder, keys-rise, holds-is}
+use Rattle.map.proofs.Laws.{record-at, record-of, one-holder, keys-rise, holds-is}
 use Rattle.select.specs.Select.{inside, selected}
 use Rattle.select.proofs.Choices.{around-is, inside-is, Choice, whole, parts, choice}
 
@@ -34,6 +35,11 @@ pub record SelectedPart (m : ℕ) (keys classes : List ℕ) (class key i s x : �
   pub in-record : Covers record-start (4 ^ record-exponent) start (4 ^ exponent)
   pub in-block : Covers s (4 ^ i) start (4 ^ exponent)
   pub own : (x ≡ key) ⊎ (x ≡ getD keys index 0)
+
+-- a place of its block is in the record
+pub part-record : {m : ℕ} {keys classes : List ℕ} {class key i s x q : ℕ} → Spaced m 0 keys → (P : SelectedPart m keys classes class key i s x)
+    → Among (P .start) (4 ^ P .exponent) q → recordOf m keys q ≡ P .index
+part-record F P h = record-of F (record { index = P .index; exponent = P .record-exponent; start = P .record-start; is = P .is; has = omega (arith, P .in-record) })
 
 module _ {m : ℕ} {keys : List ℕ} (F : Spaced m 0 keys) (classes : List ℕ) (class : ℕ) {key i s : ℕ} (B : Names m key i s) where
   pub selected-part : {x : ℕ} → List·Memᴰ x (selected m keys classes class key) → SelectedPart m keys classes class key i s x

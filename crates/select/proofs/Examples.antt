@@ -45,7 +45,10 @@ pub record Examples : Type 0 where
   pub other : selected 2 keys classes 1 13 ≡ []
 
 pub examples : Examples
-unfolding pictureRefusals countRefusals borderRefusals roomRefusals roomFor answer wrongCount sizeRefusals overwrite upFrom spreadTo spread pixelKey blockKey from formOf beyond outside windowRefusals keep floor lies fits greatest exponent corner across rows isCorner maximal keyOf keysOf spans.malformed spans.formExponent spans.start spans.end late refusalsFrom mapRefusals any within useRefusals spent around inside selected allSelected selection usedFor selectOf
+unfolding pictureRefusals countRefusals borderRefusals roomRefusals roomFor answer wrongCount sizeRefusals overwrite upFrom spreadTo spread pixelKey
+    blockKey from formOf beyond outside windowRefusals keep floor lies fits greatest exponent corner across rows isCorner maximal keyOf keysOf
+    spans.malformed spans.formExponent spans.start spans.end late refusalsFrom mapRefusals any within useRefusals spent around inside selected
+    allSelected selection usedFor selectOf
 examples = record {
   select-short = refl;
   select-none = refl;

@@ -30,7 +30,7 @@ use Rattle.border.specs.Step.{Corner}
 use Rattle.border.proofs.Laws.{spans, listed-corner}
 use Rattle.select.specs.Select.{selected, selection}
 use Rattle.select.proofs.Blockwise.{all-none, all-cons, all-in, in-all, selectedBy, selection-is}
-use Rattle.select.proofs.Chosen.{SelectedPart, selected-part, selected-place, selected-one, selected-once}
+use Rattle.select.proofs.Chosen.{SelectedPart, part-record, selected-part, selected-place, selected-one, selected-once}
 
 module _ {m top : ℕ} {keys : List ℕ} (F : Spaced m 0 keys) {W : Window} (I : Inside m W) (small : top ≤ m) where
   named : {b : Px} → Corner W top b → Names m (keyOf m top W b) (exponent W top b) (place (b .0) (b .1))
@@ -49,17 +49,21 @@ module _ {m top : ℕ} {keys : List ℕ} (F : Spaced m 0 keys) {W : Window} (I :
           block-one W top (→listed W top (C .inside) (C .own)) (→listed W top (C′ .inside) (C′ .own)) of of′
 
   module _ (classes : List ℕ) (class : ℕ) where
-    -- each key comes from a maximal block
+    -- each key comes from a maximal block, and is part of it
     record From (x : ℕ) (bs : List Px) : Type 0 where
       corner : Px
       listed : List·Memᴰ corner bs
+      own : Corner W top corner
       gives : List·Memᴰ x (selected m keys classes class (keyOf m top W corner))
+      part : SelectedPart m keys classes class (keyOf m top W corner) (exponent W top corner) (place (corner .0) (corner .1)) x
 
-    from : (bs : List Px) {x : ℕ} → List·Memᴰ x (selectedBy m keys classes class top W bs) → From x bs
-    from bs {x} l =
+    from : (bs : List Px) → ((b : Px) → List·Memᴰ b bs → Corner W top b) → {x : ℕ} → List·Memᴰ x (selectedBy m keys classes class top W bs) → From x bs
+    from bs C {x} l =
         let t = all-in m keys classes class (map (keyOf m top W) bs) l in
         let u = Memᴰ·of-map (keyOf m top W) bs (t .1) in
-        record { corner = u .0; listed = u .1; gives = subst (λ (k : ℕ). List·Memᴰ x (selected m keys classes class k)) (sym (u .2)) (t .2) }
+        let own = C (u .0) (u .1) in
+        let gives = subst (λ (k : ℕ). List·Memᴰ x (selected m keys classes class k)) (sym (u .2)) (t .2) in
+        record { corner = u .0; listed = u .1; own = own; gives = gives; part = selected-part F classes class (named own) gives }
 
     -- of blocks in their order no key comes twice
     once : {bs : List Px} → Ordered Before bs → ((b : Px) → List·Memᴰ b bs → Corner W top b) → Ordered _≢_ (selectedBy m keys classes class top W bs)
@@ -73,29 +77,27 @@ module _ {m top : ℕ} {keys : List ℕ} (F : Spaced m 0 keys) {W : Window} (I :
 
         apart : (x y : ℕ) → List·Memᴰ x (selected m keys classes class (keyOf m top W b)) → List·Memᴰ y (selectedBy m keys classes class top W bs) → x ≢ y
         apart x y l n e =
-            let f = from bs n in
-            let other = C (f .corner) (List·Memᴰ·tail (f .listed)) in
+            let f = from bs (λ z k. C z (List·Memᴰ·tail k)) n in
             let P = selected-part F classes class (named own) l in
-            let Q = selected-part F classes class (named other) (f .gives) in
+            let Q = f .part in
             let d = one-block (subst (λ (k : ℕ). Names m k (P .exponent) (P .start)) e (P .names)) (Q .names) in
             before-irrefl (h (f .corner) (f .listed))
-            (one-corner {q = P .start} own other (omega (arith, P .in-block, pow-least 3 (P .exponent))) (omega (arith, Q .in-block, d .1, pow-least 3 (Q .exponent))))
+            (one-corner {q = P .start} own (f .own) (omega (arith, P .in-block, pow-least 3 (P .exponent))) (omega (arith, Q .in-block, d .1, pow-least 3 (Q .exponent))))
 
     -- no key is selected twice
     pub selection-once : Ordered _≢_ (selection m top keys classes W class)
     selection-once = rw (selection-is m keys classes class top W) (once (listed-ordered W top) (λ b l. listed-corner l))
 
+    chosen : {x : ℕ} → List·Memᴰ x (selection m top keys classes W class) → From x (maximal W top)
+    chosen l = from (maximal W top) (λ b h. listed-corner h) (rw (selection-is m keys classes class top W) at l)
+
     -- each is that of a maximal block or of a record
     pub selection-from : {x : ℕ} → List·Memᴰ x (selection m top keys classes W class) → List·Memᴰ x (map (keyOf m top W) (maximal W top) ++ keys)
-    selection-from {x} l =
-        let f = from (maximal W top) (rw (selection-is m keys classes class top W) at l) in
-        let P = selected-part F classes class (named (listed-corner (f .listed))) (f .gives) in
-        go f P (P .own)
+    selection-from {x} l = go (chosen l) (chosen l .part .own)
       where
-        go : (f : From x (maximal W top)) (P : SelectedPart m keys classes class (keyOf m top W (f .corner)) (exponent W top (f .corner)) (place (f .corner .0) (f .corner .1)) x)
-            → (x ≡ keyOf m top W (f .corner)) ⊎ (x ≡ getD keys (P .index) 0) → List·Memᴰ x (map (keyOf m top W) (maximal W top) ++ keys)
-        go f P (inl e) = Memᴰ·append-left keys (Memᴰ·cast e (Memᴰ·map (keyOf m top W) (f .listed)))
-        go f P (inr e) = Memᴰ·append-right (map (keyOf m top W) (maximal W top)) (Memᴰ·cast e (getD-in keys (P .index) (P .is .within)))
+        go : (f : From x (maximal W top)) → (x ≡ keyOf m top W (f .corner)) ⊎ (x ≡ getD keys (f .part .index) 0) → List·Memᴰ x (map (keyOf m top W) (maximal W top) ++ keys)
+        go f (inl e) = Memᴰ·append-left keys (Memᴰ·cast e (Memᴰ·map (keyOf m top W) (f .listed)))
+        go f (inr e) = Memᴰ·append-right (map (keyOf m top W) (maximal W top)) (Memᴰ·cast e (getD-in keys (f .part .index) (f .part .is .within)))
 
     -- so there are no more than blocks and records
     pub selection-most : length (selection m top keys classes W class) ≤ length (maximal W top) + length keys
@@ -113,11 +115,8 @@ module _ {m top : ℕ} {keys : List ℕ} (F : Spaced m 0 keys) {W : Window} (I :
     pub selection-has : (p : Px) {x : ℕ} → List·Memᴰ x (selection m top keys classes W class) → holds (place (p .0) (p .1)) (formOf m x) ≡ true
         → getD classes (pixelRecord m keys (p .0) (p .1)) 0 ≡ class
     selection-has p l e =
-        let f = from (maximal W top) (rw (selection-is m keys classes class top W) at l) in
-        let P = selected-part F classes class (named (listed-corner (f .listed))) (f .gives) in
-        let h = holds-is (place (p .0) (p .1)) (P .names) .0 e in
-        let K : Holder m keys (place (p .0) (p .1)) = record { index = P .index; exponent = P .record-exponent; start = P .record-start; is = P .is; has = omega (arith, P .in-record) } in
-        rw (record-of F K) (P .has)
+        let P = chosen l .part in
+        rw (part-record F P (holds-is (place (p .0) (p .1)) (P .names) .0 e)) (P .has)
 
     -- and where a record has the class, some selected key's block holds each of its pixels in the window
     pub selection-holds : {p : Px} → In W p → (H : Holder m keys (place (p .0) (p .1))) → getD classes (H .index) 0 ≡ class
@@ -129,17 +128,15 @@ module _ {m top : ℕ} {keys : List ℕ} (F : Spaced m 0 keys) {W : Window} (I :
         (t .0, rw (selection-is m keys classes class top W) (in-all m keys classes class (Memᴰ·map (keyOf m top W) (b .1)) (t .1)), t .2)
 
     -- and no two of these blocks share a place
-    pub selection-one : (q : ℕ) {x y : ℕ} → List·Memᴰ x (selection m top keys classes W class) → List·Memᴰ y (selection m top keys classes W class) → holds q (formOf m x) ≡ true
-        → holds q (formOf m y) ≡ true → x ≡ y
+    pub selection-one : (q : ℕ) {x y : ℕ} → List·Memᴰ x (selection m top keys classes W class) → List·Memᴰ y (selection m top keys classes W class)
+        → holds q (formOf m x) ≡ true → holds q (formOf m y) ≡ true → x ≡ y
     selection-one q l n h k =
-        let f = from (maximal W top) (rw (selection-is m keys classes class top W) at l) in
-        let g = from (maximal W top) (rw (selection-is m keys classes class top W) at n) in
-        let C = listed-corner (f .listed) in
-        let D = listed-corner (g .listed) in
-        let P = selected-part F classes class (named C) (f .gives) in
-        let Q = selected-part F classes class (named D) (g .gives) in
-        let c = one-corner {q = q} C D (omega (arith, holds-is q (P .names) .0 h, P .in-block)) (omega (arith, holds-is q (Q .names) .0 k, Q .in-block)) in
-        selected-one F classes class (named C) q (f .gives) (rw c (g .gives)) h k
+        let f = chosen l in
+        let g = chosen n in
+        let a = holds-is q (f .part .names) .0 h in
+        let b = holds-is q (g .part .names) .0 k in
+        let c = one-corner {q = q} (f .own) (g .own) (omega (arith, f .part .in-block)) (omega (arith, g .part .in-block)) in
+        selected-one F classes class (named (f .own)) q (f .gives) (rw c (g .gives)) h k
 
 -- there are fewer keys than 4 (w + h), as many as there is room for tiles, and the records together
 pub selection-capped : {m top : ℕ} {keys : List ℕ} → Spaced m 0 keys → {W : Window} → Inside m W → top ≤ m → (classes : List ℕ) (class : ℕ)

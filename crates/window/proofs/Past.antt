@@ -14,7 +14,7 @@ use Rattle.window.specs.Window.{In, Inside}
 use Rattle.window.specs.Blocks.{exponent, corner, isCorner, maximal}
 use Rattle.window.specs.Walk.{Cursor, pixelsFrom, blocksFrom, Walked, Goes, block, end}
 use Rattle.window.proofs.Listed.{corner-is}
-use Rattle.window.proofs.Walk.{from-all}
+use Rattle.window.proofs.Onward.{from-all}
 
 module _ {W : Window} {top : ℕ} where
   pub walked-first : {m : ℕ} → Inside m W → Walked W top [] (W .r0, W .c0)

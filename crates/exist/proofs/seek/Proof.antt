@@ -1,13 +1,14 @@
 -- `exist::seek` meets its contract. The invariant is `Seeking`, the measure the number of openings left.
 -- Assumes nothing.
 use mathlib.Core.Path.{_≡_, sym, _∙_}
+use mathlib.Core.List.{List}
+use Prim.Native.Nat.{ℕ}
 use native.Mathlib.Omega.{arith}
 use lib.ListN.{length}
 use borrow.Author.Needs.{needs}
 use Rattle.window.proofs.Laws.{inside-12}
-use Rattle.border.specs.declared.Found.the-variants.{Opening, End}
-use Rattle.border.specs.Found.{walkMakes, spot, Finds}
-use Rattle.border.proofs.Finding.{fresh-same, fresh-usable, fresh-spent, finding-first, finding-usable, finding-spent, finding-next, finding-last, finds-opens, finds-less}
+use Rattle.border.specs.Found.{walkMakes, spot}
+use Rattle.border.proofs.Finding.{fresh-same, fresh-usable, fresh-spent, finding-first, finding-usable, finding-spent, finding-last, Opens, finds-opens}
 use Rattle.used.specs.Used.{Usable, spent}
 use Rattle.exist.proofs.Seeking.{Seeking, seeking-first, seeking-next, seeking-found, seeking-last}
 use Rattle.exist.proofs.Tables.{existing-yes, existing-no}
@@ -56,45 +57,47 @@ enum-told c = search needs
 
 -- where nothing is left to be found
 module _ (c : tie.After-enum-told Inv-loop μ-loop) where
-  abbrev last : tie.At-loop Inv-loop μ-loop
-  last = c .before .before .before .before .before .before
+  abbrev asked : tie.After-next-opening Inv-loop μ-loop
+  asked = c .before .before .before .before
 
-  none : Finds (first last .args .m) (first last .args .m) (first last .args .keys .now) (first last .args .window)
-      (last .loop .at) (last .loop .border) End (c .before .before .before .before .next-opening .last .1 .1 .1 .1 .1 .1 .0)
-  none = rw (c .enum-told .given .1) at (c .before .before .before .before .next-opening .ensures)
+  abbrev last : tie.At-loop Inv-loop μ-loop
+  last = asked .before .before
 
 same-length : tie.Need-same-length Inv-loop μ-loop
-same-length c = let at = last c in finding-last (at .loop .inv .finding) (none c) .2 .same ∙ fresh-same _ (first at .pre .1) (fresh at .fill .ensures)
+same-length c =
+    let at = last c in
+    let end = finding-last (at .loop .inv .finding) (asked c .next-opening .ensures) (c .enum-told .given .1) in
+    end .2 .same ∙ fresh-same _ (first at .pre .1) (fresh at .fill .ensures)
 
 returns : tie.Need-returns Inv-loop μ-loop
 returns c =
     let at = last c in
-    existing-no _ _ _ _ _ _ (seeking-last _ _ (first at .pre .1) (first at .pre .3) (at .loop .inv) (none c))
-    (finding-last (at .loop .inv .finding) (none c) .1 ∙ fresh-spent _ (first at .pre .1) (fresh at .fill .ensures))
+    let end = finding-last (at .loop .inv .finding) (asked c .next-opening .ensures) (c .enum-told .given .1) in
+    existing-no _ _ _ _ _ _
+    (seeking-last _ _ (first at .pre .1) (first at .pre .3) (at .loop .inv) (asked c .next-opening .ensures) (c .enum-told .given .1))
+    (end .1 ∙ fresh-spent _ (first at .pre .1) (fresh at .fill .ensures))
 
 -- the arm of an opening
 module _ (c : tie.After-known-told Inv-loop μ-loop) where
-  abbrev turn : tie.At-loop Inv-loop μ-loop
-  turn = c .before .before .before .before .before .before .before
+  abbrev answered : tie.After-next-opening Inv-loop μ-loop
+  answered = c .before .before .before .before .before
 
-  found : Finds (first turn .args .m) (first turn .args .m) (first turn .args .keys .now) (first turn .args .window) (turn .loop .at) (turn .loop .border)
-      (Opening (c .before .found .given .0 .0) (c .before .found .given .0 .1 .0) (c .before .found .given .0 .1 .1 .0) (c .before .found .given .0 .1 .1 .1 .0)
-      (c .before .found .given .0 .1 .1 .1 .1 .0) (c .before .found .given .0 .1 .1 .1 .1 .1 .0) (c .before .found .given .0 .1 .1 .1 .1 .1 .1 .0)
-      (c .before .found .given .0 .1 .1 .1 .1 .1 .1 .1 .0))
-      (c .before .before .before .before .before .next-opening .last .1 .1 .1 .1 .1 .1 .0)
-  found = rw (c .before .found .given .1) at (c .before .before .before .before .before .next-opening .ensures)
+  abbrev turn : tie.At-loop Inv-loop μ-loop
+  turn = answered .before .before
+
+  opens : Opens (turn .loop .inv .finding) (c .before .found .given .1) (answered .next-opening .last .1 .1 .1 .1 .1 .1 .0)
+  opens = finds-opens (first turn .pre .1) (turn .loop .inv .finding) (c .before .found .given .1) (answered .next-opening .ensures)
 
 has-class-requires : tie.Need-has-class-requires Inv-loop μ-loop
 has-class-requires c κs =
-    let at = first (turn c) in
-    let o = finds-opens (at .pre .1) (turn c .loop .inv .finding) (found c) in
-    (omega (arith, o .room, at .pre .2), omega (arith, at .pre .1 .few, at .pre .2))
+    let p = first (turn c) .pre in
+    (omega (arith, opens c .room, p .2), omega (arith, p .1 .few, p .2))
 
 add-fill : tie.Need-add-fill Inv-loop μ-loop
 add-fill c = let u = first (turn (c .before .before .before .before)) .pre .1 in let i = inside-12 (u .small) (u .inside) in omega (arith, i)
 
 fill-requires-2 : tie.Need-fill-requires-2 Inv-loop μ-loop
-fill-requires-2 c κs = let of = c .before .before .before .before in (omega arith, finding-usable (finding-next (turn of .loop .inv .finding) (found of)) (usable (turn of)) .wide)
+fill-requires-2 c κs = let of = c .before .before .before .before in (omega arith, finding-usable (opens of .next) (usable (turn of)) .wide)
 
 -- the border, where a record has the class
 module _ (c : tie.After-slice-known4 Inv-loop μ-loop) where
@@ -104,8 +107,11 @@ module _ (c : tie.After-slice-known4 Inv-loop μ-loop) where
   abbrev at : tie.At-loop Inv-loop μ-loop
   at = turn of
 
-  spent-now : (c .before .before .fill2 .last .0 ≡ spent (first at .args .window) (fresh at .fill .last .0)) × (length (c .before .before .fill2 .last .0) ≡ length (fresh at .fill .last .0))
-  spent-now = finding-spent (finding-next (at .loop .inv .finding) (found of)) (usable at) (c .before .before .fill2 .ensures)
+  abbrev left : List ℕ
+  left = c .before .before .fill2 .last .0
+
+  spent-now : (left ≡ spent (first at .args .window) (fresh at .fill .last .0)) × (length left ≡ length (fresh at .fill .last .0))
+  spent-now = finding-spent (opens of .next) (usable at) (c .before .before .fill2 .ensures)
 
 same-length-2 : tie.Need-same-length-2 Inv-loop μ-loop
 same-length-2 c = spent-now c .1 ∙ fresh-same _ (first (at c) .pre .1) (fresh (at c) .fill .ensures)
@@ -113,17 +119,17 @@ same-length-2 c = spent-now c .1 ∙ fresh-same _ (first (at c) .pre .1) (fresh 
 returns-2 : tie.Need-returns-2 Inv-loop μ-loop
 returns-2 c =
     existing-yes _ _ _ _ _ _
-    (seeking-found _ _ (first (at c) .pre .1) (first (at c) .pre .3) (at c .loop .inv) (found (of c))
+    (seeking-found _ _ (first (at c) .pre .1) (first (at c) .pre .3) (at c .loop .inv) (opens (of c))
     (sym (c .before .before .before .before .before .before .has-class .ensures) ∙ c .before .before .before .before .before .if1 .taken))
     (spent-now c .0 ∙ fresh-spent _ (first (at c) .pre .1) (fresh (at c) .fill .ensures))
 
 loop-less : tie.Need-loop-less Inv-loop μ-loop
-loop-less c = finds-less (found (c .before .before))
+loop-less c = opens (c .before .before) .fewer
 
 loop-again : tie.Need-loop-again Inv-loop μ-loop
 loop-again c =
     let of = c .before .before in
-    seeking-next _ _ (first (turn of) .pre .1) (first (turn of) .pre .3) (turn of .loop .inv) (found of) (sym (c .before .has-class .ensures) ∙ c .if1 .left)
+    seeking-next _ _ (first (turn of) .pre .1) (first (turn of) .pre .3) (turn of .loop .inv) (opens of) (sym (c .before .has-class .ensures) ∙ c .if1 .left)
 
 pub seek-spec : {M : Type 1} → statement M
 seek-spec =

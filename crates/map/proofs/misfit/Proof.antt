@@ -1,4 +1,4 @@
--- `map::misfit` meets its contract: the key's form says which of the record's rows holds.
+-- `map::misfit` meets its contract: the key's form says which of the record's refusals holds.
 -- Assumes nothing.
 use mathlib.Core.Path.{_≡_, sym, _∙_}
 use Prim.Native.Nat.{ℕ, _<_}

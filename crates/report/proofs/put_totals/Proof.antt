@@ -1,8 +1,8 @@
 -- `report::put_totals` meets its contract. The invariant says how many totals have been written, the measure how many are left.
 -- Assumes nothing.
-use Prim.Native.Nat.{_-_, _≤_}
+use Prim.Native.Nat.{_-_, _≤_, _<_}
 use native.Mathlib.Omega.{arith}
-use lib.ListN.{take}
+use lib.ListN.{length, take}
 use borrow.Author.Needs.{needs}
 use Rattle.answers.proofs.Filling.{Filling, filling-first, list-last, copy-next}
 use Rattle.report.proofs.put_totals.Statement.{statement}
@@ -36,7 +36,10 @@ loop-less : tie.Need-loop-less Inv-loop μ-loop
 loop-less c = omega (arith, c .before .loop-test)
 
 loop-again : tie.Need-loop-again Inv-loop μ-loop
-loop-again c = (omega (arith, c .before .loop-test), copy-next _ _ (c .before .before .loop .inv .1) (omega (arith, c .before .loop-test, c .before .before .before .pre)) (omega (arith, c .before .loop-test, c .before .before .before .pre)))
+loop-again c =
+    let more : c .before .before .loop .k < length (c .before .before .before .args .totals .now) = omega (arith, c .before .loop-test, c .before .before .before .pre) in
+    let room : c .before .before .loop .k < length (c .before .before .before .args .out .now) = omega (arith, c .before .loop-test, c .before .before .before .pre) in
+    (omega (arith, c .before .loop-test), copy-next _ _ (c .before .before .loop .inv .1) more room)
 
 same-length : tie.Need-same-length Inv-loop μ-loop
 same-length c = c .before .loop .inv .1 .same

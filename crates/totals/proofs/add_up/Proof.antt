@@ -4,9 +4,8 @@ use mathlib.Core.Path.{_∙_}
 use native.Mathlib.Omega.{arith}
 use lib.ListN.{length}
 use borrow.Author.Needs.{needs}
-use Rattle.border.specs.declared.Found.the-variants.{Opening, End}
-use Rattle.border.specs.Found.{walkMakes, spot, Finds}
-use Rattle.border.proofs.Finding.{fresh-same, fresh-usable, fresh-spent, finding-first, finding-usable, finding-last, finds-less}
+use Rattle.border.specs.Found.{walkMakes, spot}
+use Rattle.border.proofs.Finding.{fresh-same, fresh-usable, fresh-spent, finding-first, finding-usable, finding-last, Opens, finds-opens}
 use Rattle.totals.proofs.Adds.{Totalling, totalling-first, totalling-hands, totalling-once, totalling-next, totalling-last}
 use Rattle.totals.proofs.add_up.Statement.{statement}
 use Rattle.totals.proofs.add_up.Tie as tie
@@ -52,46 +51,51 @@ enum-told c = search needs
 
 -- where nothing is left to be found
 module _ (c : tie.After-enum-told Inv-loop μ-loop) where
-  abbrev last : tie.At-loop Inv-loop μ-loop
-  last = c .before .before .before .before .before .before
+  abbrev asked : tie.After-next-opening Inv-loop μ-loop
+  asked = c .before .before .before .before
 
-  none : Finds (first last .args .m) (first last .args .m) (first last .args .keys .now) (first last .args .window)
-      (last .loop .at) (last .loop .border) End (c .before .before .before .before .next-opening .last .1 .1 .1 .1 .1 .1 .0)
-  none = rw (c .enum-told .given .1) at (c .before .before .before .before .next-opening .ensures)
+  abbrev last : tie.At-loop Inv-loop μ-loop
+  last = asked .before .before
 
 same-length : tie.Need-same-length Inv-loop μ-loop
-same-length c = let at = last c in finding-last (at .loop .inv .finding) (none c) .2 .same ∙ fresh-same _ (first at .pre .3) (fresh at .fill .ensures)
+same-length c =
+    let at = last c in
+    let end = finding-last (at .loop .inv .finding) (asked c .next-opening .ensures) (c .enum-told .given .1) in
+    end .2 .same ∙ fresh-same _ (first at .pre .3) (fresh at .fill .ensures)
 
 returns : tie.Need-returns Inv-loop μ-loop
 returns c =
     let at = last c in
-    (totalling-last _ (first at .pre .3) (first at .pre .6) (at .loop .inv) (none c), finding-last (at .loop .inv .finding) (none c) .1 ∙ fresh-spent _ (first at .pre .3) (fresh at .fill .ensures))
+    let end = finding-last (at .loop .inv .finding) (asked c .next-opening .ensures) (c .enum-told .given .1) in (
+      totalling-last _ (first at .pre .3) (first at .pre .6) (at .loop .inv) (asked c .next-opening .ensures) (c .enum-told .given .1),
+      end .1 ∙ fresh-spent _ (first at .pre .3) (fresh at .fill .ensures),
+    )
 
 -- the arm of an opening
 module _ (c : tie.After-known-told Inv-loop μ-loop) where
-  abbrev turn : tie.At-loop Inv-loop μ-loop
-  turn = c .before .before .before .before .before .before .before
+  abbrev answered : tie.After-next-opening Inv-loop μ-loop
+  answered = c .before .before .before .before .before
 
-  found : Finds (first turn .args .m) (first turn .args .m) (first turn .args .keys .now) (first turn .args .window) (turn .loop .at) (turn .loop .border)
-      (Opening (c .before .found .given .0 .0) (c .before .found .given .0 .1 .0) (c .before .found .given .0 .1 .1 .0) (c .before .found .given .0 .1 .1 .1 .0)
-      (c .before .found .given .0 .1 .1 .1 .1 .0) (c .before .found .given .0 .1 .1 .1 .1 .1 .0) (c .before .found .given .0 .1 .1 .1 .1 .1 .1 .0)
-      (c .before .found .given .0 .1 .1 .1 .1 .1 .1 .1 .0))
-      (c .before .before .before .before .before .next-opening .last .1 .1 .1 .1 .1 .1 .0)
-  found = rw (c .before .found .given .1) at (c .before .before .before .before .before .next-opening .ensures)
+  abbrev turn : tie.At-loop Inv-loop μ-loop
+  turn = answered .before .before
+
+  opens : Opens (turn .loop .inv .finding) (c .before .found .given .1) (answered .next-opening .last .1 .1 .1 .1 .1 .1 .0)
+  opens = finds-opens (first turn .pre .3) (turn .loop .inv .finding) (c .before .found .given .1) (answered .next-opening .ensures)
 
 gather-requires : tie.Need-gather-requires Inv-loop μ-loop
 gather-requires c κs =
     let of = c .before in
-    let at = first (turn of) in
-    (at .pre .1, at .pre .2, totalling-hands _ (at .pre .3) (at .pre .6) (turn of .loop .inv) (found of) (at .pre .4), totalling-once _ (at .pre .3) (at .pre .6) (turn of .loop .inv) (found of))
+    let p = first (turn of) .pre in
+    let T = turn of .loop .inv in
+    (p .1, p .2, totalling-hands _ (p .3) (p .6) T (opens of) (p .4), totalling-once _ (p .3) (p .6) T (opens of))
 
 loop-less : tie.Need-loop-less Inv-loop μ-loop
-loop-less c = finds-less (found (c .before .before))
+loop-less c = opens (c .before .before) .fewer
 
 loop-again : tie.Need-loop-again Inv-loop μ-loop
 loop-again c =
     let at = turn (c .before .before) in
-    totalling-next _ (first at .pre .3) (first at .pre .6) (at .loop .inv) (found (c .before .before)) (c .gather .ensures)
+    totalling-next _ (first at .pre .3) (first at .pre .6) (at .loop .inv) (opens (c .before .before)) (c .gather .ensures)
 
 pub add-up-spec : {M : Type 1} → statement M
 add-up-spec =
