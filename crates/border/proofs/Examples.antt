@@ -9,14 +9,13 @@ use Rattle.key.specs.Spread.{spreadTo, spread}
 use Rattle.key.specs.Picture.{place}
 use Rattle.key.specs.Key.{pixelKey, blockKey}
 use Rattle.key.specs.Form.{from, formOf}
-use Rattle.window.specs.declared.Window.{Window}
-use Rattle.window.specs.Window.{window}
 use Rattle.window.specs.Blocks.{floor, lies, fits, exponent, corner, across, rows, isCorner, maximal}
 use Rattle.window.specs.Keys.{keyOf, keysOf}
 use Rattle.map.specs.Spans as spans
 use Rattle.map.specs.Spans.{within}
 use Rattle.map.specs.Records.{recordOf, exponentOf}
 use Rattle.map.specs.Runs.{runOf}
+use Rattle.used.proofs.P1.{keys, W}
 use Rattle.border.specs.declared.Stepped.the-variants as stepped
 use Rattle.border.specs.Openings.{isHanded, made, opening, openFrom, openings, handedCount, cellsOf}
 use Rattle.border.specs.Promises.{openingsIn, bringing}
@@ -24,18 +23,8 @@ use Rattle.border.specs.Cells.{filled, pushed, closed}
 use Rattle.border.specs.Step.{stepOf}
 use Rattle.border.proofs.Gone.{handedAfter}
 
-abbrev keys : List ℕ
-keys = 5 ∷ 11 ∷ 12 ∷ 13 ∷ 14 ∷ 15 ∷ 20 ∷ []
-
 abbrev gapped : List ℕ
 gapped = 11 ∷ 20 ∷ []
-
-abbrev W : Window
-W = window 0 1 3 3
-
--- old contents of a border and of an answer slice
-abbrev old : List ℕ
-old = 90 ∷ 91 ∷ 92 ∷ 93 ∷ 94 ∷ 95 ∷ 96 ∷ 97 ∷ 98 ∷ 99 ∷ 100 ∷ 101 ∷ 102 ∷ []
 
 pub record Examples : Type 0 where
   -- one record over all: the first block opens it, and all others are skipped

@@ -3,7 +3,6 @@
 use mathlib.Core.Path.{_≡_, refl}
 use mathlib.Core.List.{List, [], _∷_}
 use Prim.Native.Nat.{ℕ}
-use lib.ListN.{replicate}
 use Rattle.lists.specs.Lists.{upFrom, any, before, howMany}
 use Rattle.answers.specs.Refusals.{answer}
 use Rattle.answers.specs.Sizes.{wrongCount, sizeRefusals, pictureRefusals, countRefusals}
@@ -12,7 +11,6 @@ use Rattle.answers.specs.After.{after}
 use Rattle.key.specs.Spread.{spreadTo, spread}
 use Rattle.key.specs.Picture.{place}
 use Rattle.key.specs.Form.{from, formOf}
-use Rattle.window.specs.declared.Window.{Window}
 use Rattle.window.specs.Window.{window, beyond, outside, windowRefusals}
 use Rattle.window.specs.Blocks.{across, rows}
 use Rattle.map.specs.Spans as spans
@@ -20,21 +18,9 @@ use Rattle.map.specs.Check.{late, refusalsFrom, mapRefusals}
 use Rattle.map.specs.Records.{recordOf}
 use Rattle.map.specs.Classes.{hasClass}
 use Rattle.used.specs.Used.{useRefusals, spent, borderRefusals}
+use Rattle.used.proofs.P1.{keys, classes, W, old}
 use Rattle.exist.specs.declared.Existence.the-variants as existence
 use Rattle.exist.specs.Exist.{exists, existing, existOf}
-
-abbrev keys : List ℕ
-keys = 5 ∷ 11 ∷ 12 ∷ 13 ∷ 14 ∷ 15 ∷ 20 ∷ []
-
-abbrev classes : List ℕ
-classes = 1 ∷ 2 ∷ 2 ∷ 3 ∷ 1 ∷ 1 ∷ 2 ∷ []
-
-abbrev W : Window
-W = window 0 1 3 3
-
--- old contents of a border and of an answer slice
-abbrev old : ℕ → List ℕ
-old n = replicate n 99
 
 -- the four pixels of a picture
 abbrev pixels : List ℕ

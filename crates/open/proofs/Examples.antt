@@ -14,7 +14,6 @@ use Rattle.key.specs.Spread.{spreadTo, spread}
 use Rattle.key.specs.Picture.{place}
 use Rattle.key.specs.Key.{pixelKey, blockKey}
 use Rattle.key.specs.Form.{from, formOf}
-use Rattle.window.specs.declared.Window.{Window}
 use Rattle.window.specs.Window.{window, beyond, outside, windowRefusals}
 use Rattle.window.specs.Blocks.{floor, lies, fits, exponent, corner, across, rows, isCorner, maximal}
 use Rattle.window.specs.Keys.{keyOf, keysOf}
@@ -27,14 +26,9 @@ use Rattle.border.specs.Openings.{isHanded, opening, openFrom, openings, handed
 use Rattle.used.specs.Used.{useRefusals, spent, usedFor, borderRefusals}
 use Rattle.used.specs.Promises.{Answerable}
 use Rattle.used.proofs.Laws.{use-answerable}
+use Rattle.used.proofs.P1.{keys, W}
 use Rattle.open.specs.declared.Opened.the-variants.{Done, Refused}
 use Rattle.open.specs.Open.{openOf}
-
-abbrev keys : List ℕ
-keys = 5 ∷ 11 ∷ 12 ∷ 13 ∷ 14 ∷ 15 ∷ 20 ∷ []
-
-abbrev W : Window
-W = window 0 1 3 3
 
 -- old contents of a border and of an answer slice
 abbrev old : List ℕ

@@ -1,9 +1,9 @@
 -- Report, in examples. P1's map has m = 2 and the keys 5, 11, 12, 13, 14, 15, 20; its window is 0 1 3 3.
 -- Assumes nothing.
 use mathlib.Core.Path.{_≡_, refl}
-use mathlib.Core.List.{List, [], _∷_}
+use mathlib.Core.List.{[], _∷_}
 use Prim.Native.Nat.{ℕ}
-use lib.ListN.{take, replicate}
+use lib.ListN.{take}
 use Rattle.lists.specs.Lists.{upFrom, before, howMany}
 use Rattle.answers.specs.Refusals.{answer}
 use Rattle.answers.specs.Sizes.{wrongCount, sizeRefusals, pictureRefusals, countRefusals}
@@ -12,7 +12,6 @@ use Rattle.answers.specs.After.{after, roomRefusals, roomFor}
 use Rattle.key.specs.Spread.{spreadTo, spread}
 use Rattle.key.specs.Picture.{place}
 use Rattle.key.specs.Form.{from, formOf}
-use Rattle.window.specs.declared.Window.{Window}
 use Rattle.window.specs.Window.{window, beyond, outside, windowRefusals}
 use Rattle.window.specs.Blocks.{across, rows}
 use Rattle.map.specs.Spans as spans
@@ -20,22 +19,10 @@ use Rattle.map.specs.Check.{late, refusalsFrom, mapRefusals}
 use Rattle.map.specs.Records.{recordOf}
 use Rattle.map.specs.Classes.{hasClass}
 use Rattle.used.specs.Used.{useRefusals, spent, usedFor, borderRefusals}
+use Rattle.used.proofs.P1.{keys, classes, W, old}
 use Rattle.totals.specs.Totals.{total, totals}
 use Rattle.report.specs.declared.Reported.the-variants.{Refused}
 use Rattle.report.specs.Report.{reportOf}
-
-abbrev keys : List ℕ
-keys = 5 ∷ 11 ∷ 12 ∷ 13 ∷ 14 ∷ 15 ∷ 20 ∷ []
-
-abbrev classes : List ℕ
-classes = 1 ∷ 2 ∷ 2 ∷ 3 ∷ 1 ∷ 1 ∷ 2 ∷ []
-
-abbrev W : Window
-W = window 0 1 3 3
-
--- old contents of a border and of an answer slice
-abbrev old : ℕ → List ℕ
-old n = replicate n 99
 
 pub record Examples : Type 0 where
   -- a record that sticks out of the window counts with its part inside: one pixel of four

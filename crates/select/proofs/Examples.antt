@@ -1,9 +1,8 @@
 -- Select, in examples. P1's map has m = 2 and the keys 5, 11, 12, 13, 14, 15, 20; its window is 0 1 3 3.
 -- Assumes nothing.
 use mathlib.Core.Path.{_≡_, refl}
-use mathlib.Core.List.{List, [], _∷_}
+use mathlib.Core.List.{[], _∷_}
 use Prim.Native.Nat.{ℕ}
-use lib.ListN.{replicate}
 use Rattle.lists.specs.Lists.{upFrom, any, keep, greatest}
 use Rattle.answers.specs.Refusals.{answer}
 use Rattle.answers.specs.Sizes.{wrongCount, sizeRefusals, pictureRefusals, countRefusals}
@@ -12,7 +11,6 @@ use Rattle.answers.specs.After.{after, roomRefusals, roomFor}
 use Rattle.key.specs.Spread.{spreadTo, spread}
 use Rattle.key.specs.Key.{pixelKey, blockKey}
 use Rattle.key.specs.Form.{from, formOf}
-use Rattle.window.specs.declared.Window.{Window}
 use Rattle.window.specs.Window.{window, beyond, outside, windowRefusals}
 use Rattle.window.specs.Blocks.{floor, lies, fits, exponent, corner, across, rows, isCorner, maximal}
 use Rattle.window.specs.Keys.{keyOf, keysOf}
@@ -20,21 +18,9 @@ use Rattle.map.specs.Spans as spans
 use Rattle.map.specs.Spans.{within}
 use Rattle.map.specs.Check.{late, refusalsFrom, mapRefusals}
 use Rattle.used.specs.Used.{useRefusals, spent, usedFor, borderRefusals}
+use Rattle.used.proofs.P1.{keys, classes, W, old}
 use Rattle.select.specs.declared.Selected.the-variants.{Done, Refused}
 use Rattle.select.specs.Select.{around, inside, selected, allSelected, selection, selectOf}
-
-abbrev keys : List ℕ
-keys = 5 ∷ 11 ∷ 12 ∷ 13 ∷ 14 ∷ 15 ∷ 20 ∷ []
-
-abbrev classes : List ℕ
-classes = 1 ∷ 2 ∷ 2 ∷ 3 ∷ 1 ∷ 1 ∷ 2 ∷ []
-
-abbrev W : Window
-W = window 0 1 3 3
-
--- old contents of a border and of an answer slice
-abbrev old : ℕ → List ℕ
-old n = replicate n 99
 
 pub record Examples : Type 0 where
   pub select-short : selectOf 2 keys classes W 1 (old 3) (old 3) ≡ after (Refused 8 4) (3 ∷ 3 ∷ 3 ∷ [], old 3)

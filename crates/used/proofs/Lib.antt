@@ -1,3 +1,4 @@
 mod Use
 mod Used
 pub mod Laws
+pub mod P1

@@ -26,7 +26,8 @@ use Rattle.numbers.specs.Numbers.{bytes, number, bytesOf, numbers}
 use Rattle.house.specs.File.{header, fileOf, layoutRefusals, fileM, fileQ, readRefusals, fileKeys, fileClasses}
 use Rattle.totals.specs.Totals.{total, totals}
 use Rattle.text.specs.Text.{digits, digitsOf, spaced, lineOf}
-use Rattle.window_program.specs.Text.{windowOf, openingLines, classLine, classLines, foundLines, foundBy, resultOf, answerOf, leftText, mapText, startRefusals, startText, announcedOf, wholeOf, fileIn}
+use Rattle.window_program.specs.Text.{windowOf, openingLines, classLine, classLines, foundLines, foundBy, resultOf, answerOf}
+use Rattle.window_program.specs.Text.{leftText, mapText, startRefusals, startText, announcedOf, wholeOf, fileIn}
 
 abbrev keys : List ℕ
 keys = 5 ∷ 11 ∷ 12 ∷ 13 ∷ 14 ∷ 15 ∷ 20 ∷ []

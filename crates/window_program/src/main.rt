@@ -14,7 +14,8 @@ ghost use Rattle.io.specs.Counts.{Counts};
 ghost use Rattle.answers.specs.After.{after};
 ghost use Rattle.map.specs.Sound.{SoundMap};
 ghost use Rattle.text.specs.Text.{putOf};
-ghost use Rattle.window_program.specs.Text.{windowOf, windowLine, refusalLine, openingLines, classLine, classLines, foundLines, foundBy, resultOf, answerOf, Openable, leftText, nextText, mapText, Started, announcedOf, Received, wholeOf, fileIn};
+ghost use Rattle.window_program.specs.Text.{windowOf, windowLine, refusalLine, openingLines, classLine, classLines, foundLines, foundBy, resultOf, answerOf};
+ghost use Rattle.window_program.specs.Text.{Openable, leftText, nextText, mapText, Started, announcedOf, Received, wholeOf, fileIn};
 
 // How the program begins: m and the number of records of the file's map, and how many bytes were put. Where any were, they say a refusal, and there is no map.
 pub struct Begun {

@@ -7,8 +7,8 @@ use Rattle.answers.proofs.Listing.{listed-same}
 use Rattle.window.specs.Walk.{blocksFrom}
 use Rattle.window.proofs.Laws.{inside-12, goes-less}
 use Rattle.near.specs.Near.{LiesIn}
-use Rattle.select.proofs.Selects.{Selecting, selecting-first, selecting-last, selecting-pixel, Comes, comes, selecting-most, selecting-block, selecting-run, selecting-next}
-use Rattle.select.proofs.Selects.{selecting-around, selecting-near, exchanged-known, exchanged-in}
+use Rattle.select.proofs.Selects.{Selecting, selecting-first, selecting-last, selecting-pixel, Comes, comes, selecting-most}
+use Rattle.select.proofs.Selects.{selecting-block, selecting-run, selecting-next, selecting-around, selecting-near, exchanged-known, exchanged-in}
 use Rattle.select.proofs.pick_all.Statement.{statement}
 use Rattle.select.proofs.pick_all.Tie as tie
 
