@@ -5,7 +5,7 @@ use mathlib.Core.Bool.{Bool, true, false}
 use mathlib.Core.List.{List, [], _∷_, _++_, append-assoc, map, List·Memᴰ, List·Memᴰ·head, List·Memᴰ·tail, List·Memᴰ·not-nil}
 use Prim.Native.Nat.{ℕ, _≤_}
 use Rattle.lists.specs.Lists.{Ordered, none, more}
-use Rattle.lists.proofs.Tests.{never}
+use Rattle.lists.proofs.Laws.{never}
 use Rattle.key.specs.Picture.{Px}
 use Rattle.window.specs.declared.Window.{Window}
 use Rattle.window.specs.Window.{Inside}

@@ -9,7 +9,7 @@ use native.Mathlib.Decide.{decLt}
 use native.Mathlib.Omega.{arith}
 use lib.ListN.{getD}
 use borrow.Author.Tests.{lt-ltb, le-ltb}
-use Rattle.lists.proofs.Tests.{refuted}
+use Rattle.lists.proofs.Laws.{refuted}
 use Rattle.answers.specs.After.{After, after}
 use Rattle.key.specs.Picture.{Px}
 use Rattle.window.specs.declared.Window.{Window}

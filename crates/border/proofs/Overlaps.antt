@@ -11,8 +11,7 @@ use lib.ListN.{length, getD}
 use Rattle.key.specs.Picture.{Pixel, place, Px}
 use Rattle.key.specs.Form.{formOf}
 use Rattle.key.specs.Blocks.{Names, Among}
-use Rattle.key.proofs.Standing.{PixelAt, Covers, Stand, within as lies-in, around, after, before}
-use Rattle.key.proofs.Laws.{block-lies, blocks-stand, holds-same, place-onto, pow-least, size-le}
+use Rattle.key.proofs.Laws.{PixelAt, Covers, Stand, within as lies-in, around, after, before, block-lies, blocks-stand, holds-same, place-onto, pow-least, size-le}
 use Rattle.window.specs.declared.Window.{Window}
 use Rattle.window.specs.Window.{In, Inside}
 use Rattle.window.specs.Blocks.{exponent, corner}

@@ -8,8 +8,7 @@ use Prim.Native.Nat.{ℕ, _≤_}
 use lib.ListN.{getD}
 use borrow.Author.Tests.{eqb-true, eq-eqb}
 use Rattle.lists.specs.Lists.{any}
-use Rattle.lists.proofs.Tests.{agree}
-use Rattle.lists.proofs.Laws.{any-none, any-has, has-any, any-append}
+use Rattle.lists.proofs.Laws.{agree, any-none, any-has, has-any, any-append}
 use Rattle.key.specs.Picture.{Px}
 use Rattle.window.specs.declared.Window.{Window}
 use Rattle.window.specs.Window.{In, Inside}

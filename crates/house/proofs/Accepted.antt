@@ -9,15 +9,14 @@ use native.Mathlib.Omega.{arith}
 use lib.Dec.{ltb}
 use lib.ListN.{length}
 use borrow.Author.Tests.{le-ltb, ltb-false}
-use Rattle.lists.proofs.Tests.{neither}
+use Rattle.lists.proofs.Laws.{neither}
 use Rattle.answers.specs.declared.Verdict.the-variants as verdict-of
 use Rattle.answers.specs.Refusals.{Refusal, refusal, answer, verdict}
 use Rattle.answers.specs.Sizes.{sizeRefusals, Sized}
 use Rattle.answers.specs.Cells.{overwrite}
 use Rattle.answers.specs.After.{After, after}
-use Rattle.answers.proofs.Room.{room-passed}
-use Rattle.answers.proofs.Laws.{answer-none, answer-part, answer-kept, on-passed, accepted, passed-next, passed-append, sized}
-use Rattle.answers.proofs.Numbered.{Numbered, none, numbered-next, numbered-append, numbered-sizes, numbered-room}
+use Rattle.answers.proofs.Laws.{room-passed, answer-none, answer-part, answer-kept, on-passed, accepted, passed-next, passed-append}
+use Rattle.answers.proofs.Laws.{sized, Numbered, none, numbered-next, numbered-append, numbered-sizes, numbered-room}
 use Rattle.numbers.specs.Numbers.{numbers}
 use Rattle.house.specs.declared.Reading.{Reading}
 use Rattle.house.specs.declared.Reading.the-variants as reading

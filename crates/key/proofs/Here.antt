@@ -8,7 +8,7 @@ use lib.ListN.{getD}
 use Rattle.key.specs.declared.Spot.{Spot}
 use Rattle.key.specs.Key.{ones}
 use Rattle.key.specs.Along.{TellsOnes, pixelAt, Stands, Begins}
-use Rattle.key.proofs.Laws.{block-lies}
+use Rattle.key.proofs.Named.{block-lies}
 use Rattle.key.proofs.Powers.{pow-least}
 use Rattle.key.proofs.Along.{fits-key}
 

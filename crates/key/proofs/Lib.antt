@@ -1,4 +1,5 @@
-pub mod Standing
+mod Named
+mod Standing
 mod Bits
 mod Powers
 mod Digits

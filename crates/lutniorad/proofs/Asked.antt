@@ -9,7 +9,7 @@ use native.Mathlib.Omega.{arith}
 use lib.ListN.{length, getD, take}
 use lib.Seq.{getD-take}
 use Rattle.lists.specs.Promises.{sum}
-use Rattle.lists.proofs.Tests.{never}
+use Rattle.lists.proofs.Laws.{never}
 use Rattle.answers.specs.Refusals.{refusal, answer}
 use Rattle.answers.specs.Cells.{overwrite}
 use Rattle.answers.specs.After.{after, roomRefusals}

@@ -6,7 +6,7 @@ use mathlib.Core.List.{List}
 use Prim.Native.Nat.{ℕ, _≤_}
 use Rattle.answers.specs.declared.Verdict.the-variants.{Passed}
 use Rattle.answers.specs.Refusals.{Refusal, answer, verdict}
-use Rattle.answers.proofs.Numbered.{Numbered, number-zero, number-most}
+use Rattle.answers.proofs.Laws.{Numbered, number-zero, number-most}
 use Rattle.lutniorad.specs.declared.Answer.{Answer}
 use Rattle.lutniorad.specs.Numbers.{refused}
 

@@ -15,8 +15,7 @@ use Rattle.lists.specs.Lists.{before, howMany}
 use Rattle.lists.proofs.Laws.{Stretch, stretch-of, stretch-begins, stretch-counts}
 use Rattle.key.specs.Form.{formOf}
 use Rattle.key.specs.Blocks.{Names, Among}
-use Rattle.key.proofs.Standing.{Covers}
-use Rattle.key.proofs.Laws.{one-block, nested, pow-least, size-le}
+use Rattle.key.proofs.Laws.{Covers, one-block, nested, pow-least, size-le}
 use Rattle.map.specs.Spans.{overlap}
 use Rattle.map.specs.Sound.{Spaced}
 use Rattle.map.specs.Records.{exponentOf}

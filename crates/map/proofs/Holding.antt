@@ -10,8 +10,7 @@ use native.Mathlib.Nat.{div-one}
 use native.Mathlib.Omega.{arith}
 use lib.ListN.{length, getD}
 use borrow.Author.Tests.{lt-ltb, le-ltb}
-use Rattle.lists.proofs.Tests.{refuted}
-use Rattle.lists.proofs.Laws.{stretch-of, stretch-begins, before-none}
+use Rattle.lists.proofs.Laws.{refuted, stretch-of, stretch-begins, before-none}
 use Rattle.key.specs.Picture.{Pixel, place}
 use Rattle.key.specs.Form.{formOf}
 use Rattle.key.specs.Blocks.{Names, Among}

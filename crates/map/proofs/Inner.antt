@@ -9,8 +9,7 @@ use native.Mathlib.Omega.{arith}
 use lib.ListN.{getD}
 use Rattle.key.specs.Form.{formOf}
 use Rattle.key.specs.Blocks.{Names, Among}
-use Rattle.key.proofs.Standing.{Covers}
-use Rattle.key.proofs.Laws.{one-block, block-lies, nested, sub-key, pow-least}
+use Rattle.key.proofs.Laws.{Covers, one-block, block-lies, nested, sub-key, pow-least}
 use Rattle.map.specs.Spans.{formExponent, start}
 use Rattle.map.specs.Sound.{Follow}
 use Rattle.map.specs.Runs.{runOf}

@@ -7,8 +7,7 @@ use native.Mathlib.Decide.{decLt}
 use native.Mathlib.Omega.{arith}
 use lib.ListN.{getD}
 use Rattle.key.specs.Blocks.{Names, Among}
-use Rattle.key.proofs.Standing.{Covers, Stand, around, after, before, within}
-use Rattle.key.proofs.Laws.{one-block, blocks-stand, nested, pow-least}
+use Rattle.key.proofs.Laws.{Covers, Stand, around, after, before, within, one-block, blocks-stand, nested, pow-least}
 use Rattle.map.specs.Sound.{Spaced}
 use Rattle.map.specs.Runs.{Splits}
 use Rattle.map.proofs.Tiles.{Record, SomeRecord, Overlap, contained, filled, Meets}

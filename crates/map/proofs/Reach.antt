@@ -6,8 +6,7 @@ use Prim.Native.Nat.{ℕ, max, _^_, _≤_, _<_}
 use native.Mathlib.Omega.{arith}
 use lib.ListN.{getD}
 use Rattle.key.specs.Blocks.{Names, Among}
-use Rattle.key.proofs.Standing.{Covers, around}
-use Rattle.key.proofs.Laws.{one-block, block-lies, pow-least}
+use Rattle.key.proofs.Laws.{Covers, around, one-block, block-lies, pow-least}
 use Rattle.map.specs.Sound.{Follow, Spaced}
 use Rattle.map.specs.Records.{exponentOf}
 use Rattle.map.specs.Runs.{runOf}

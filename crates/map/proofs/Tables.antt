@@ -12,8 +12,7 @@ use Rattle.answers.specs.declared.Verdict.the-variants.{Passed}
 use Rattle.answers.specs.declared.Verdict.the-variants as refusal
 use Rattle.answers.specs.Refusals.{answer, verdict}
 use Rattle.answers.specs.Sizes.{sizeRefusals}
-use Rattle.answers.proofs.Laws.{on-passed, on-refused, append-refused, append-passed, refused-not-passed, passed-append, sized}
-use Rattle.answers.proofs.Numbered.{Numbered, none, numbered-next, numbered-append, numbered-sizes}
+use Rattle.answers.proofs.Laws.{on-passed, on-refused, append-refused, append-passed, refused-not-passed, passed-append, sized, Numbered, none, numbered-next, numbered-append, numbered-sizes}
 use Rattle.key.specs.declared.Form.{Form}
 use Rattle.key.specs.declared.Form.the-variants.{Block, Malformed}
 use Rattle.key.specs.Form.{formOf}

@@ -9,7 +9,7 @@ use lib.Dec.{ltb}
 use lib.ListN.{length, getD}
 use Rattle.key.specs.Picture.{Pixel, place}
 use Rattle.key.specs.Blocks.{Names, Among}
-use Rattle.key.proofs.Standing.{Covers}
+use Rattle.key.proofs.Laws.{Covers}
 use Rattle.map.specs.Spans.{start}
 use Rattle.map.specs.Records.{recordOf}
 

@@ -7,8 +7,7 @@ use Prim.Native.Nat.{ℕ, _+_, _^_, _≤_, _<_}
 use native.Mathlib.Nat.{eq-or-lt-of-le}
 use native.Mathlib.Omega.{arith}
 use lib.ListN.{length, getD}
-use Rattle.key.proofs.Standing.{Covers, Stand, around, after, before, within}
-use Rattle.key.proofs.Laws.{one-block, blocks-stand, whole-named, pow-least, size-le}
+use Rattle.key.proofs.Laws.{Covers, Stand, around, after, before, within, one-block, blocks-stand, whole-named, pow-least, size-le}
 use Rattle.map.specs.declared.Run.{Run}
 use Rattle.map.specs.Sound.{Spaced}
 use Rattle.map.specs.Runs.{run, runOf, BlockOf}

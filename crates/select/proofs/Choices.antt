@@ -9,11 +9,10 @@ use native.Mathlib.Omega.{arith}
 use lib.ListN.{length, getD}
 use borrow.Author.Tests.{eqb-true, eq-eqb}
 use Rattle.lists.specs.Lists.{upFrom, any, keep}
-use Rattle.lists.proofs.Tests.{never, refuted, both}
-use Rattle.lists.proofs.Laws.{up-in, any-has, has-any}
+use Rattle.lists.proofs.Laws.{never, refuted, both, up-in, any-has, has-any}
 use Rattle.key.specs.Form.{formOf}
 use Rattle.key.specs.Blocks.{Names}
-use Rattle.key.proofs.Standing.{Covers}
+use Rattle.key.proofs.Laws.{Covers}
 use Rattle.map.specs.Spans.{within}
 use Rattle.map.specs.Classes.{classed}
 use Rattle.map.proofs.Tiles.{Record}

@@ -12,8 +12,7 @@ use Rattle.lists.specs.Lists.{upFrom, keep, Ordered, none, more}
 use Rattle.lists.proofs.Laws.{distinct-map, up-in, up-distinct, keep-in, keep-true, in-keep, ordered-keep}
 use Rattle.key.specs.Form.{formOf}
 use Rattle.key.specs.Blocks.{Names, Among}
-use Rattle.key.proofs.Standing.{Covers, Stand, within as lies-in, around as stands-around, after, before, within}
-use Rattle.key.proofs.Laws.{blocks-stand}
+use Rattle.key.proofs.Laws.{Covers, Stand, within as lies-in, around as stands-around, after, before, within, blocks-stand}
 use Rattle.map.specs.Spans.{holds}
 use Rattle.map.specs.Sound.{Spaced}
 use Rattle.map.specs.Records.{recordOf}

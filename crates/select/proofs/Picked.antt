@@ -10,12 +10,10 @@ use native.Mathlib.Omega.{arith}
 use lib.ListN.{length, getD}
 use borrow.Author.Tests.{eqb-true, eq-eqb, lt-ltb, le-ltb}
 use Rattle.lists.specs.Lists.{upFrom, keep}
-use Rattle.lists.proofs.Tests.{refuted, agree}
-use Rattle.lists.proofs.Laws.{up-in, keep-none, keep-same, keep-run}
+use Rattle.lists.proofs.Laws.{refuted, agree, up-in, keep-none, keep-same, keep-run}
 use Rattle.key.specs.Picture.{Px}
 use Rattle.key.specs.Blocks.{Names, Among}
-use Rattle.key.proofs.Standing.{Covers}
-use Rattle.key.proofs.Laws.{one-key, nested, pow-least}
+use Rattle.key.proofs.Laws.{Covers, one-key, nested, pow-least}
 use Rattle.window.specs.declared.Window.{Window}
 use Rattle.window.specs.Window.{Inside}
 use Rattle.window.specs.Blocks.{exponent}

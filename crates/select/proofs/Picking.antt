@@ -10,7 +10,7 @@ use borrow.Author.Tests.{eq-eqb, ne-eqb}
 use Rattle.lists.specs.Lists.{upFrom, keep}
 use Rattle.lists.proofs.Laws.{up-none, up-one, up-length, up-append, keep-empty, keep-taken, keep-passed, keep-most, keep-append}
 use Rattle.answers.specs.Cells.{Listed}
-use Rattle.answers.proofs.Listing.{listed-none, listed-more}
+use Rattle.answers.proofs.Laws.{listed-none, listed-more}
 use Rattle.map.specs.Classes.{classed}
 use Rattle.select.specs.Select.{pickedRun, pickedAround}
 

@@ -13,8 +13,7 @@ use Rattle.lists.proofs.Laws.{ordered-append, pigeon, getD-in}
 use Rattle.key.specs.Picture.{place, Px}
 use Rattle.key.specs.Form.{formOf}
 use Rattle.key.specs.Blocks.{Names, Among}
-use Rattle.key.proofs.Standing.{PixelAt}
-use Rattle.key.proofs.Laws.{one-block, block-lies, place-onto, pow-least}
+use Rattle.key.proofs.Laws.{PixelAt, one-block, block-lies, place-onto, pow-least}
 use Rattle.window.specs.declared.Window.{Window}
 use Rattle.window.specs.Window.{In, Inside}
 use Rattle.window.specs.Blocks.{exponent, maximal}

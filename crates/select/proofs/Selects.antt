@@ -6,7 +6,7 @@ use Prim.Native.Nat.{ℕ, _≤_, _<_}
 use native.Mathlib.Omega.{arith}
 use lib.ListN.{length}
 use Rattle.answers.specs.Cells.{Listed}
-use Rattle.answers.proofs.Listing.{listed-none, listed-more}
+use Rattle.answers.proofs.Laws.{listed-none, listed-more}
 use Rattle.key.specs.Picture.{Pixel, Px}
 use Rattle.key.specs.Key.{blockKey}
 use Rattle.window.specs.declared.Window.{Window}

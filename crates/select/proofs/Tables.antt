@@ -9,8 +9,7 @@ use Rattle.answers.specs.declared.Verdict.the-variants as verdict-of
 use Rattle.answers.specs.Refusals.{verdict}
 use Rattle.answers.specs.Cells.{Listed}
 use Rattle.answers.specs.After.{after}
-use Rattle.answers.proofs.Room.{room-short, room-done}
-use Rattle.answers.proofs.Listing.{listed-count, listed-all}
+use Rattle.answers.proofs.Laws.{room-short, room-done, listed-count, listed-all}
 use Rattle.window.specs.declared.Window.{Window}
 use Rattle.used.specs.Used.{useRefusals, spent, usedFor}
 use Rattle.used.proofs.Laws.{used-refused, used-passed}

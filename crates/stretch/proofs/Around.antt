@@ -9,8 +9,7 @@ use native.Mathlib.Omega.{arith}
 use lib.Dec.{leb, ltb, eqb}
 use borrow.Author.Tests.{eqb-true, eq-eqb, leb-true, le-leb, ltb-true, lt-ltb}
 use Rattle.lists.specs.Lists.{greatest}
-use Rattle.lists.proofs.Tests.{both}
-use Rattle.lists.proofs.Laws.{greatest-le, greatest-holds, greatest-over}
+use Rattle.lists.proofs.Laws.{both, greatest-le, greatest-holds, greatest-over}
 use Rattle.key.specs.Blocks.{Among}
 use Rattle.key.proofs.Laws.{pow-least}
 use Rattle.stretch.specs.Sets.{base, full, fitsIn, exponentIn, starts, between}

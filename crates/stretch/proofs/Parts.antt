@@ -7,8 +7,7 @@ use Prim.Native.Nat.{ℕ, suc, _+_, _-_, _^_, _≤_, _<_}
 use native.Mathlib.Decide.{decLt}
 use native.Mathlib.Omega.{arith}
 use Rattle.lists.specs.Lists.{upFrom, keep}
-use Rattle.lists.proofs.Tests.{never, refuted, agree}
-use Rattle.lists.proofs.Laws.{up-next, up-in, up-append, map-same, keep-taken, keep-append, keep-none, keep-same}
+use Rattle.lists.proofs.Laws.{never, refuted, agree, up-next, up-in, up-append, map-same, keep-taken, keep-append, keep-none, keep-same}
 use Rattle.key.specs.Places.{spanKey}
 use Rattle.stretch.specs.Promises.{Cut}
 use Rattle.stretch.specs.Sets.{base, exponentIn, starts, between}

@@ -6,7 +6,7 @@ use mathlib.Core.List.{List, [], _∷_}
 use Prim.Native.Nat.{ℕ, suc, _+_, _-_, _^_, _≤_, _<_}
 use native.Mathlib.Decide.{decLt}
 use native.Mathlib.Omega.{arith}
-use Rattle.lists.proofs.Tests.{refuted}
+use Rattle.lists.proofs.Laws.{refuted}
 use Rattle.key.specs.Blocks.{Names}
 use Rattle.key.specs.Places.{spanKey}
 use Rattle.key.proofs.Laws.{pow-least, span-named}

@@ -12,7 +12,7 @@ use borrow.Author.Tests.{leb-true, le-leb}
 use Rattle.lists.specs.Lists.{greatest}
 use Rattle.lists.proofs.Laws.{greatest-le, greatest-holds, greatest-over}
 use Rattle.answers.specs.Cells.{put, Listed}
-use Rattle.answers.proofs.Listing.{listed-none, listed-one, listed-more}
+use Rattle.answers.proofs.Laws.{listed-none, listed-one, listed-more}
 use Rattle.key.specs.declared.Spot.{Spot}
 use Rattle.key.specs.Blocks.{Names}
 use Rattle.key.specs.Along.{Stands}

@@ -7,7 +7,7 @@ use native.Mathlib.Omega.{arith}
 use lib.ListN.{length, set, length-append, length-drop}
 use lib.Seq.{append-snoc}
 use Rattle.answers.specs.After.{after}
-use Rattle.answers.proofs.Filling.{lent, back, lent-is, Filling, filling, filling-first, filling-cell, filling-part}
+use Rattle.answers.proofs.Laws.{lent, back, lent-is, Filling, filling, filling-first, filling-cell, filling-part}
 use Rattle.text.specs.Text.{putOf}
 use Rattle.text.proofs.Laws.{put-all, put-there}
 

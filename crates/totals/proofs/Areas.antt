@@ -13,8 +13,7 @@ use lib.Dec.{eqb}
 use lib.ListN.{length, getD}
 use borrow.Author.Tests.{eqb-true, eq-eqb}
 use Rattle.lists.specs.Lists.{upFrom, howMany}
-use Rattle.lists.proofs.Tests.{never, both, agree}
-use Rattle.lists.proofs.Laws.{up-none, up-next, many-empty, many-next, many-same}
+use Rattle.lists.proofs.Laws.{never, both, agree, up-none, up-next, many-empty, many-next, many-same}
 use Rattle.key.specs.Picture.{place, Px}
 use Rattle.key.specs.Form.{formOf}
 use Rattle.key.specs.Blocks.{Names, Among}

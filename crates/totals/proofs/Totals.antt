@@ -12,8 +12,7 @@ use lib.Seq.{getD-set-same, getD-set-other, ext-getD}
 use borrow.Author.Tests.{eqb-true, eqb-false, eq-eqb}
 use Rattle.lists.specs.Promises.{sum}
 use Rattle.lists.specs.Lists.{upFrom, any, keep, Ordered, howMany}
-use Rattle.lists.proofs.Tests.{agree}
-use Rattle.lists.proofs.Laws.{ordered-part, up-in, up-length, up-distinct, table-entry, keep-empty, keep-taken, keep-passed, keep-true}
+use Rattle.lists.proofs.Laws.{agree, ordered-part, up-in, up-length, up-distinct, table-entry, keep-empty, keep-taken, keep-passed, keep-true}
 use Rattle.lists.proofs.Laws.{in-keep, ordered-keep, any-has, has-any, many-same, many-all, many-most, sum-none, sum-next, each-once}
 use Rattle.key.specs.Picture.{Px}
 use Rattle.window.specs.declared.Window.{Window}

@@ -11,8 +11,7 @@ use lib.ListN.{length}
 use borrow.Author.Tests.{lt-ltb, le-ltb, ltb-false}
 use Rattle.answers.specs.declared.Verdict.the-variants as verdict-of
 use Rattle.answers.specs.Refusals.{verdict}
-use Rattle.answers.proofs.Laws.{refusal-held, append-passed, append-refused, passed-one, passed-append}
-use Rattle.answers.proofs.Numbered.{Numbered, none, numbered-next, numbered-append}
+use Rattle.answers.proofs.Laws.{refusal-held, append-passed, append-refused, passed-one, passed-append, Numbered, none, numbered-next, numbered-append}
 use Rattle.window.specs.declared.Window.{Window}
 use Rattle.window.specs.Window.{outside, windowRefusals}
 use Rattle.window.proofs.Laws.{window-refused, window-passed, window-inside, numbered-window}

@@ -12,9 +12,8 @@ use Rattle.answers.specs.Refusals.{answer, verdict}
 use Rattle.answers.specs.Cells.{overwrite}
 use Rattle.answers.specs.After.{After, after, roomRefusals, roomFor}
 use Rattle.answers.proofs.Laws as Answers
-use Rattle.answers.proofs.Laws.{answer-part, answer-append, on-passed, on-refused, passed-append}
-use Rattle.answers.proofs.Room.{room-passed, room-short, room-done, room-by-lengths, room-said, room-told}
-use Rattle.answers.proofs.Numbered.{Numbered, numbered-append, numbered-room}
+use Rattle.answers.proofs.Laws.{answer-part, answer-append, on-passed, on-refused, passed-append, room-passed, room-short}
+use Rattle.answers.proofs.Laws.{room-done, room-by-lengths, room-said, room-told, Numbered, numbered-append, numbered-room}
 use Rattle.window.specs.declared.Window.{Window}
 use Rattle.used.specs.Used.{useRefusals, spent, usedFor}
 use Rattle.used.specs.Promises.{Answerable}

@@ -14,12 +14,12 @@ use Rattle.window.specs.Promises.{Maximal}
 use Rattle.window.proofs.Dyadic.{same-refl, fits-all, fits-by}
 use Rattle.window.proofs.Blocks.{exponent-le, exponent-fits, exponent-max}
 use Rattle.window.proofs.Listed.{listed→, →listed}
-pub use Rattle.window.proofs.Dyadic.{floor-le, floor-lt, floor-eq, floor-same, floor-between, side-square, same-refl}
-pub use Rattle.window.proofs.Dyadic.{same-sym, same-trans, same-up, same-div, fits-in, fits-all, fits-same, fits-down}
+pub use Rattle.window.proofs.Dyadic.{floor-le, floor-lt, floor-eq, floor-same, floor-between, side-square, same-refl, same-sym}
+pub use Rattle.window.proofs.Dyadic.{same-trans, same-up, same-div, fits-in, fits-all, fits-same, fits-down}
 pub use Rattle.window.proofs.Blocks.{exponent-le, exponent-fits, exponent-max, exponent-same, corner-same, corner-exponent}
 pub use Rattle.window.proofs.Blocks.{corner-in, corner-corner, same→corner, corner→same, corner-row, corner-col}
-pub use Rattle.window.proofs.Listed.{before-row, before-irrefl, before-trans, trichotomy, rows-in, in-rows, listed→, →listed}
-pub use Rattle.window.proofs.Listed.{listed-ordered, block-of, block-one, ordered-front, ordered-back, front-all}
+pub use Rattle.window.proofs.Listed.{before-row, before-irrefl, before-trans, trichotomy, rows-in, in-rows, listed→}
+pub use Rattle.window.proofs.Listed.{→listed, listed-ordered, block-of, block-one, ordered-front, ordered-back, front-all}
 pub use Rattle.window.proofs.Largest.{largest-one, largest-some, largest-is, largest-corner}
 pub use Rattle.window.proofs.Few.{blocks-few, blocks-capped}
 pub use Rattle.window.proofs.Tests.{inside, window-refused, window-passed, window-inside, numbered-window, inside-12}

@@ -6,8 +6,7 @@ use Prim.Native.Nat.{ℕ, zero, suc, _+_, _-_, _^_, _≤_, _<_}
 use native.Mathlib.Nat.{add-zero}
 use native.Mathlib.Omega.{arith}
 use lib.Pow.{pow-pos}
-use Rattle.lists.proofs.Tests.{refuted}
-use Rattle.lists.proofs.Laws.{keep-taken, keep-passed}
+use Rattle.lists.proofs.Laws.{refuted, keep-taken, keep-passed}
 use Rattle.key.specs.Picture.{Px}
 use Rattle.window.specs.declared.Window.{Window}
 use Rattle.window.specs.Window.{In}

@@ -3,7 +3,7 @@
 use native.Mathlib.Omega.{arith}
 use lib.ListN.{length}
 use borrow.Author.Needs.{needs}
-use Rattle.answers.proofs.Listing.{listed-same}
+use Rattle.answers.proofs.Laws.{listed-same}
 use Rattle.window.specs.declared.Next.the-variants.{Block}
 use Rattle.window.specs.Walk.{blocksFrom, Goes}
 use Rattle.window.proofs.Laws.{goes-in, goes-exponent, goes-less, exponent-le, inside-12, pixel-in}

@@ -3,7 +3,7 @@
 use mathlib.Core.Path.{sym}
 use native.Mathlib.Omega.{arith}
 use borrow.Author.Tests.{ltb-true, lt-ltb}
-use Rattle.lists.proofs.Tests.{never}
+use Rattle.lists.proofs.Laws.{never}
 use Rattle.near.proofs.lies_in.Statement.{statement}
 use Rattle.near.proofs.lies_in.Tie as tie
 

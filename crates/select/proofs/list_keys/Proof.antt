@@ -7,7 +7,7 @@ use Prim.Native.Nat.{ℕ, _≤_}
 use native.Mathlib.Omega.{arith}
 use lib.ListN.{length}
 use borrow.Author.Needs.{needs}
-use Rattle.answers.proofs.Listing.{listed-nothing, listed-same}
+use Rattle.answers.proofs.Laws.{listed-nothing, listed-same}
 use Rattle.select.specs.Select.{selection}
 use Rattle.select.proofs.Selection.{selection-few}
 use Rattle.select.proofs.Tables.{keys-short, keys-done}

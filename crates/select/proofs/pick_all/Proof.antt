@@ -3,7 +3,7 @@
 use native.Mathlib.Omega.{arith}
 use lib.ListN.{length}
 use borrow.Author.Needs.{needs}
-use Rattle.answers.proofs.Listing.{listed-same}
+use Rattle.answers.proofs.Laws.{listed-same}
 use Rattle.window.specs.Walk.{blocksFrom}
 use Rattle.window.proofs.Laws.{inside-12, goes-less}
 use Rattle.near.specs.Near.{LiesIn}

@@ -1,7 +1,7 @@
 -- `select::pick_around` meets its contract.
 -- Assumes nothing.
 use borrow.Author.Needs.{needs}
-use Rattle.answers.proofs.Listing.{listed-none, listed-one}
+use Rattle.answers.proofs.Laws.{listed-none, listed-one}
 use Rattle.select.proofs.Picking.{around-has, around-not}
 use Rattle.select.proofs.pick_around.Statement.{statement}
 use Rattle.select.proofs.pick_around.Tie as tie

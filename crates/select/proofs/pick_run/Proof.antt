@@ -3,7 +3,7 @@
 use Prim.Native.Nat.{_-_}
 use native.Mathlib.Omega.{arith}
 use borrow.Author.Needs.{needs}
-use Rattle.answers.proofs.Listing.{listed-same}
+use Rattle.answers.proofs.Laws.{listed-same}
 use Rattle.select.proofs.Picking.{Picking, picking-first, picking-most, picking-next, picking-last}
 use Rattle.select.proofs.pick_run.Statement.{statement}
 use Rattle.select.proofs.pick_run.Tie as tie

@@ -7,8 +7,7 @@ use lib.ListN.{getD}
 use borrow.Author.Needs.{needs}
 use Rattle.key.specs.Key.{ones}
 use Rattle.key.specs.Alignment.{alignment}
-use Rattle.key.proofs.Standing.{Lies}
-use Rattle.key.proofs.Laws.{pow-most}
+use Rattle.key.proofs.Laws.{Lies, pow-most}
 use Rattle.key.proofs.Loops.{ones-pow, ones-entry, next-room, next-stands}
 use Rattle.spots.proofs.advance.Statement.{statement}
 use Rattle.spots.proofs.advance.Tie as tie

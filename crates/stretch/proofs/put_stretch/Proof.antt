@@ -3,7 +3,7 @@
 use Prim.Native.Nat.{_-_, _<_}
 use native.Mathlib.Omega.{arith}
 use borrow.Author.Needs.{needs}
-use Rattle.answers.proofs.Listing.{listed-same}
+use Rattle.answers.proofs.Laws.{listed-same}
 use Rattle.key.proofs.Laws.{pow-least, pow-most}
 use Rattle.stretch.proofs.Walk.{Writing, writing-first, writing-top, writing-room, writing-next, writing-last}
 use Rattle.stretch.proofs.put_stretch.Statement.{statement}

@@ -6,7 +6,7 @@ use Prim.Native.Nat.{ℕ, _+_, _≤_}
 use native.Mathlib.Omega.{arith}
 use lib.ListN.{length, set, length-set}
 use borrow.Author.Needs.{needs}
-use Rattle.answers.proofs.Filling.{back}
+use Rattle.answers.proofs.Laws.{back}
 use Rattle.text.specs.Text.{spaced, lineOf}
 use Rattle.text.proofs.Laws.{put-none, line-length}
 use Rattle.text.proofs.Telling.{Telling, telling-first, telling-length, telling-room, telling-lent, telling-part, telling-byte, telling-last}

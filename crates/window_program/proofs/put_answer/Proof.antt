@@ -6,7 +6,7 @@ use Prim.Native.Nat.{ℕ, _+_, _≤_}
 use native.Mathlib.Omega.{arith}
 use lib.ListN.{length-drop}
 use borrow.Author.Needs.{needs}
-use Rattle.answers.proofs.Filling.{back, lent-is}
+use Rattle.answers.proofs.Laws.{back, lent-is}
 use Rattle.text.proofs.Laws.{put-most, line-most}
 use Rattle.text.proofs.Telling.{Telling, telling-begin, telling-length, telling-room, telling-part, telling-last}
 use Rattle.window_program.specs.Text.{windowLine, resultOf, answerOf}

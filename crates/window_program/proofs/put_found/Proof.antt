@@ -6,7 +6,7 @@ use Prim.Native.Nat.{ℕ, _+_}
 use native.Mathlib.Omega.{arith}
 use lib.ListN.{length-append}
 use borrow.Author.Needs.{needs}
-use Rattle.answers.proofs.Filling.{back}
+use Rattle.answers.proofs.Laws.{back}
 use Rattle.text.specs.Text.{lineOf}
 use Rattle.text.proofs.Telling.{Telling, telling-begin, telling-length, telling-room, telling-lent, telling-part, telling-last}
 use Rattle.window_program.specs.Text.{openingLines, classLines, foundLines}

@@ -1,0 +1,114 @@
+-- The laws of tables of refusals and of lent cells: all that the crates above know of them.
+-- Assumes nothing.
+use mathlib.Core.Path.{_≡_, refl, ap, _∙_}
+use mathlib.Core.Logic.{_↔_}
+use mathlib.Core.Bool.{Bool, true, false, not, _||_}
+use mathlib.Core.List.{List, [], _∷_, _++_, append-assoc, append-nil}
+use Prim.Native.Nat.{ℕ, _≤_, _<_}
+use native.Mathlib.Nat.{zero-add}
+use native.Mathlib.Numerals.{add-one}
+use native.Mathlib.Omega.{arith}
+use lib.Dec.{eqb, ltb}
+use lib.ListN.{length, take, drop, set, length-append, length-drop}
+use lib.Seq.{take-at, drop-at, set-at, drop-drop, drop-cons, drop-length, sets, sets-eq}
+use borrow.Author.Tests.{ltb-false, eqb-false, eqb-true, lt-ltb, le-ltb, eq-eqb, ne-eqb, not-false}
+use Rattle.lists.proofs.Laws.{neither}
+use Rattle.answers.specs.declared.Verdict.the-variants.{Passed, Refused}
+use Rattle.answers.specs.Refusals.{refusal, verdict}
+use Rattle.answers.specs.Sizes.{pictureRefusals, countRefusals, wrongCount, sizeRefusals, Sized}
+use Rattle.answers.specs.Cells.{overwrite}
+use Rattle.answers.proofs.Tables.{answer-none, refusal-held, refusal-clear, append-refused, passed-one, passed-next}
+
+-- ---- the sizes of a map
+
+module _ (m : ℕ) where
+  pub picture-passed : (verdict (pictureRefusals m) ≡ Passed) ↔ (m ≤ 12)
+  unfolding pictureRefusals
+  picture-passed = (λ e. ltb-false 12 m (passed-one (ltb 12 m) 1 0 .0 e), λ l. passed-one (ltb 12 m) 1 0 .1 (le-ltb 12 m l))
+
+  pub picture-refused : 12 < m → verdict (pictureRefusals m) ≡ Refused 1 0
+  unfolding pictureRefusals
+  picture-refused l = refusal-held Refused 1 0 [] Passed (lt-ltb 12 m l)
+
+module _ {m keys classes : ℕ} where
+  pub sized : (verdict (sizeRefusals m keys classes) ≡ Passed) ↔ Sized m keys classes
+  unfolding sizeRefusals pictureRefusals countRefusals wrongCount
+  sized = (to, from)
+    where
+      to : verdict (refusal (ltb 12 m) 1 0 ∷ refusal (wrongCount keys classes) 2 0 ∷ []) ≡ Passed → Sized m keys classes
+      to e =
+          let one = passed-next (ltb 12 m) 1 0 _ .0 e in
+          let two = passed-next (wrongCount keys classes) 2 0 [] .0 (one .1) in
+          let most = neither (not (eqb keys classes) || eqb keys 0) (ltb 65536 keys) (two .0) in
+          let some = neither (not (eqb keys classes)) (eqb keys 0) (most .0) in
+          let many = eqb-false keys 0 (some .1) in
+          record {
+            small = ltb-false 12 m (one .0);
+            same = eqb-true keys classes (not-false _ (some .0));
+            some = omega (arith, many);
+            most = ltb-false 65536 keys (most .1);
+          }
+
+      from : Sized m keys classes → verdict (refusal (ltb 12 m) 1 0 ∷ refusal (wrongCount keys classes) 2 0 ∷ []) ≡ Passed
+      from s =
+          let right : wrongCount keys classes ≡ false = rw (eq-eqb keys classes (s .same), ne-eqb keys 0 (λ e. omega (arith, s .some)), le-ltb 65536 keys (s .most)) in
+          passed-next (ltb 12 m) 1 0 _ .1 (le-ltb 12 m (s .small), passed-next (wrongCount keys classes) 2 0 [] .1 (right, answer-none Refused Passed))
+
+module _ (m keys classes : ℕ) where
+  pub over-12 : 12 < m → verdict (sizeRefusals m keys classes) ≡ Refused 1 0
+  unfolding sizeRefusals
+  over-12 l = append-refused Refused (pictureRefusals m) _ _ (picture-refused m l)
+
+  pub not-sized : m ≤ 12 → (Sized m keys classes → ⊥) → verdict (sizeRefusals m keys classes) ≡ Refused 2 0
+  unfolding sizeRefusals pictureRefusals countRefusals
+  not-sized l wrong = go (wrongCount keys classes) refl
+    where
+      go : (t : Bool) → wrongCount keys classes ≡ t → verdict (refusal (ltb 12 m) 1 0 ∷ refusal (wrongCount keys classes) 2 0 ∷ []) ≡ Refused 2 0
+      go true e = refusal-clear Refused 1 0 _ _ (le-ltb 12 m l) ∙ refusal-held Refused 2 0 [] _ e
+      go false e = absurd (wrong (sized .0 (refusal-clear Refused 1 0 _ _ (le-ltb 12 m l) ∙ refusal-clear Refused 2 0 [] _ e ∙ answer-none Refused Passed)))
+
+-- ---- lent cells
+
+module _ (xs zs : List ℕ) where
+  pub overwrite-length : length xs ≤ length zs → length (overwrite xs zs) ≡ length zs
+  unfolding overwrite
+  overwrite-length l = simp (length-append, length-drop) (omega arith)
+
+  pub take-overwrite : take (length xs) (overwrite xs zs) ≡ xs
+  unfolding overwrite
+  take-overwrite = take-at xs _ _ refl
+
+  pub drop-overwrite : drop (length xs) (overwrite xs zs) ≡ drop (length xs) zs
+  unfolding overwrite
+  drop-overwrite = drop-at xs _ _ refl
+
+  -- what is written behind an answer goes on with it
+  pub overwrite-append : (ys : List ℕ) → take (length xs) (overwrite xs zs) ++ overwrite ys (drop (length xs) (overwrite xs zs)) ≡ overwrite (xs ++ ys) zs
+  unfolding overwrite
+  overwrite-append ys = rw (take-overwrite, drop-overwrite, drop-drop, length-append, append-assoc)
+
+  pub overwrite-set : (y : ℕ) → length xs < length zs → set (overwrite xs zs) (length xs) y ≡ overwrite (xs ++ (y ∷ [])) zs
+  unfolding overwrite
+  overwrite-set y l = ap (λ (t : List ℕ). set (xs ++ t) (length xs) y) (drop-cons zs (length xs) 0 l) ∙ set-at xs _ _ y _ refl ∙ rw (length-append, append-assoc, add-one)
+
+  -- only the cells beyond the answer matter, so writing it once more changes nothing
+  pub overwrite-same : (ys : List ℕ) → drop (length xs) ys ≡ drop (length xs) zs → overwrite xs ys ≡ overwrite xs zs
+  unfolding overwrite
+  overwrite-same ys e = ap (λ (t : List ℕ). xs ++ t) e
+
+  pub overwrite-again : overwrite xs (overwrite xs zs) ≡ overwrite xs zs
+  overwrite-again = overwrite-same _ drop-overwrite
+
+  -- an answer in a part that is lent, and the cells beyond the part
+  pub overwrite-part : xs ++ drop (length xs) zs ≡ overwrite xs zs
+  unfolding overwrite
+  overwrite-part = refl
+
+  pub overwrite-all : length xs ≡ length zs → overwrite xs zs ≡ xs
+  unfolding overwrite
+  overwrite-all e = rw (e, drop-length, append-nil)
+
+  -- stores one after the other, from the first cell on
+  pub overwrite-sets : length xs ≤ length zs → sets zs 0 xs ≡ overwrite xs zs
+  unfolding overwrite
+  overwrite-sets l = sets-eq xs zs 0 (rw zero-add l) ∙ rw zero-add
