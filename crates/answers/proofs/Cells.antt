@@ -1,4 +1,4 @@
--- The laws of tables of refusals and of lent cells: all that the crates above know of them.
+-- The sizes of a map, and lent cells: an answer in them, and the cells beyond it.
 -- Assumes nothing.
 use mathlib.Core.Path.{_≡_, refl, ap, _∙_}
 use mathlib.Core.Logic.{_↔_}

@@ -14,7 +14,7 @@ use Rattle.window.specs.Promises.{Before}
 use Rattle.window.specs.Keys.{keyOf}
 use Rattle.window.proofs.Laws.{listed-ordered, ordered-back}
 use Rattle.map.specs.Sound.{Spaced}
-use Rattle.map.proofs.Tiles.{pixelTile}
+use Rattle.map.proofs.Laws.{pixelTile}
 use Rattle.border.specs.Openings.{met, isHanded, Opening, opening, openFrom, openings}
 use Rattle.border.specs.Promises.{openingAt}
 use Rattle.border.proofs.Gone.{handedBy}

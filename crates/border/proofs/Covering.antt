@@ -13,8 +13,7 @@ use Rattle.window.specs.Blocks.{corner, maximal}
 use Rattle.window.specs.Keys.{keyOf}
 use Rattle.map.specs.Sound.{Spaced}
 use Rattle.map.specs.Records.{pixelRecord}
-use Rattle.map.proofs.Tiles.{Holder, Free, pixelTile}
-use Rattle.map.proofs.Laws.{find, record-of, tile-of, tile-none, tile-record}
+use Rattle.map.proofs.Laws.{Holder, Free, pixelTile, find, record-of, tile-of, tile-none, tile-record}
 use Rattle.border.specs.Openings.{Opening, allHands}
 use Rattle.border.specs.Promises.{openingAt}
 use Rattle.border.specs.Border.{Handed, openedBy, InOpened, CoveredBy, Covered}

@@ -16,8 +16,7 @@ use Rattle.window.specs.Promises.{Before}
 use Rattle.window.specs.Keys.{keyOf}
 use Rattle.window.proofs.Laws.{before-irrefl, listed-ordered, ordered-front, front-all}
 use Rattle.map.specs.Sound.{Spaced}
-use Rattle.map.proofs.Tiles.{Holder, Free, pixelTile}
-use Rattle.map.proofs.Laws.{tiles, find, tile-of}
+use Rattle.map.proofs.Laws.{Holder, Free, pixelTile, tiles, find, tile-of}
 use Rattle.border.specs.Openings.{isHanded}
 use Rattle.border.specs.Border.{Stated, Covered}
 use Rattle.border.specs.Step.{Corner}

@@ -20,8 +20,7 @@ use Rattle.window.proofs.Laws.{same-up, corner-in, corner-corner, corner→same
 use Rattle.map.specs.Spans.{within}
 use Rattle.map.specs.Sound.{Spaced}
 use Rattle.map.specs.Records.{pixelExponent}
-use Rattle.map.proofs.Tiles.{Holder, Free, pixelTile}
-use Rattle.map.proofs.Laws.{tiles, find, tile-of, tile-none, record-tile}
+use Rattle.map.proofs.Laws.{Holder, Free, pixelTile, tiles, find, tile-of, tile-none, record-tile}
 use Rattle.border.specs.Openings.{met, isHanded, opening, openFrom, hands}
 use Rattle.border.specs.Promises.{Overlaps}
 use Rattle.border.specs.Step.{Corner}

@@ -19,8 +19,7 @@ use Rattle.window.specs.Keys.{keyOf}
 use Rattle.map.specs.Sound.{Spaced}
 use Rattle.map.specs.Records.{pixelExponent}
 use Rattle.map.specs.Runs.{runOf}
-use Rattle.map.proofs.Tiles.{pixelTile}
-use Rattle.map.proofs.Laws.{tiles}
+use Rattle.map.proofs.Laws.{pixelTile, tiles}
 use Rattle.border.specs.declared.Stepped.{Stepped}
 use Rattle.border.specs.declared.Stepped.the-variants as stepped
 use Rattle.border.specs.Openings.{isHanded, Opening, opening, openFrom, allHands}

@@ -13,8 +13,7 @@ use Rattle.window.specs.Blocks.{maximal}
 use Rattle.window.specs.Promises.{Before}
 use Rattle.window.specs.Keys.{keyOf}
 use Rattle.map.specs.Sound.{Spaced}
-use Rattle.map.proofs.Tiles.{pixelTile}
-use Rattle.map.proofs.Laws.{tiles}
+use Rattle.map.proofs.Laws.{pixelTile, tiles}
 use Rattle.border.specs.Openings.{met, Opening, openings, hands, allHands}
 use Rattle.border.specs.Promises.{Overlaps, openingAt, HandedOut, Apart}
 use Rattle.border.specs.Step.{Corner}

@@ -22,8 +22,7 @@ use Rattle.map.specs.Spans.{holds, within}
 use Rattle.map.specs.Sound.{Spaced}
 use Rattle.map.specs.Records.{pixelExponent}
 use Rattle.map.specs.Runs.{runOf, BlockOf}
-use Rattle.map.proofs.Tiles.{Record, SomeRecord, Holder, pixelTile, Overlap, Meets}
-use Rattle.map.proofs.Laws.{record-at, apart, block-records, reach-is, tile-of, tile-holder, exponent-of, holds-is, within-is}
+use Rattle.map.proofs.Laws.{Record, SomeRecord, Holder, pixelTile, Overlap, Meets, record-at, apart, block-records, reach-is, tile-of, tile-holder, exponent-of, holds-is, within-is}
 use Rattle.border.specs.Openings.{met}
 use Rattle.border.specs.Step.{Corner, reach}
 use Rattle.border.proofs.Fold.{met-in}

@@ -14,8 +14,7 @@ use Rattle.window.specs.declared.Window.{Window}
 use Rattle.window.specs.Blocks.{exponent, maximal}
 use Rattle.window.specs.Keys.{keyOf}
 use Rattle.map.specs.Records.{pixelExponent}
-use Rattle.map.proofs.Tiles.{pixelTile}
-use Rattle.map.proofs.Laws.{tiles}
+use Rattle.map.proofs.Laws.{pixelTile, tiles}
 use Rattle.used.specs.Used.{Usable, spent}
 use Rattle.border.specs.declared.Stepped.{Stepped}
 use Rattle.border.specs.declared.Stepped.the-variants as stepped

@@ -14,8 +14,7 @@ use Rattle.window.proofs.Laws.{exponent-le, pixel-in, key-at}
 use Rattle.map.specs.declared.Run.{Run}
 use Rattle.map.specs.Records.{pixelExponent}
 use Rattle.map.specs.Runs.{runOf, BlockOf}
-use Rattle.map.proofs.Tiles.{pixelTile}
-use Rattle.map.proofs.Laws.{tiles}
+use Rattle.map.proofs.Laws.{pixelTile, tiles}
 use Rattle.border.specs.declared.Stepped.the-variants.{Skipped, Opened}
 use Rattle.border.specs.Cells.{pushed, closed}
 use Rattle.border.specs.Step.{reach, stepOf, Ready, Step}

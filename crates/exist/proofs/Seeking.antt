@@ -15,7 +15,7 @@ use Rattle.border.specs.declared.Found.{Found}
 use Rattle.border.specs.declared.Found.the-variants as found
 use Rattle.border.specs.Openings.{Opening, made, openings, allHands}
 use Rattle.border.specs.Found.{walkMakes, spot, Finds}
-use Rattle.border.proofs.Finding.{Finding, Opens, finding-last}
+use Rattle.border.proofs.Laws.{Finding, Opens, finding-last}
 use Rattle.used.specs.Used.{Usable}
 use Rattle.exist.specs.Exist.{exists}
 use Rattle.exist.proofs.Found.{exists-hands, any-no-opening, any-opening, opening-any}

@@ -1,4 +1,4 @@
 -- What the functions of `runs` and `near` go by.
 -- Assumes nothing.
-pub use Rattle.map.proofs.Found.{found-none, end-here, end-own, end-later, in-order, counted, found-inside}
-pub use Rattle.map.proofs.Halves.{between-upper, between-lower, between-last, between-first}
+pub use Rattle.map.proofs.Halves.{between-first, between-upper, between-lower, between-last}
+pub use Rattle.map.proofs.Found.{end-here, end-own, end-later, found-none, in-order, counted, found-inside}

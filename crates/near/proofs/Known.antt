@@ -11,8 +11,7 @@ use Rattle.key.proofs.Laws.{Covers, Stand, around, after, before, within, one-b
 use Rattle.map.specs.declared.Run.{Run}
 use Rattle.map.specs.Sound.{Spaced}
 use Rattle.map.specs.Runs.{run, runOf, BlockOf}
-use Rattle.map.proofs.Tiles.{Record}
-use Rattle.map.proofs.Laws.{record-at, found-around}
+use Rattle.map.proofs.Laws.{Record, record-at, found-around}
 use Rattle.near.specs.Near.{near, LiesIn, Known}
 
 -- each block in a record is smaller, and overlaps it alone

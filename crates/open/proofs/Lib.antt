@@ -1,4 +1,4 @@
-pub mod Accepted
+mod Accepted
 mod Opening
 mod Answered
 mod Examples

@@ -15,8 +15,7 @@ use Rattle.key.specs.Blocks.{Names}
 use Rattle.key.proofs.Laws.{Covers}
 use Rattle.map.specs.Spans.{within}
 use Rattle.map.specs.Classes.{classed}
-use Rattle.map.proofs.Tiles.{Record}
-use Rattle.map.proofs.Laws.{within-is}
+use Rattle.map.proofs.Laws.{Record, within-is}
 use Rattle.select.specs.Select.{around, inside, selected}
 
 -- ---- the tests

@@ -16,8 +16,7 @@ use Rattle.key.proofs.Laws.{Covers, Stand, within as lies-in, around as stands-
 use Rattle.map.specs.Spans.{holds}
 use Rattle.map.specs.Sound.{Spaced}
 use Rattle.map.specs.Records.{recordOf}
-use Rattle.map.proofs.Tiles.{Record, Holder}
-use Rattle.map.proofs.Laws.{record-at, record-of, one-holder, keys-rise, holds-is}
+use Rattle.map.proofs.Laws.{Record, Holder, record-at, record-of, one-holder, keys-rise, holds-is}
 use Rattle.select.specs.Select.{inside, selected}
 use Rattle.select.proofs.Choices.{around-is, inside-is, Choice, whole, parts, choice}
 

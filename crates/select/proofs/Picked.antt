@@ -24,8 +24,7 @@ use Rattle.map.specs.Sound.{Spaced}
 use Rattle.map.specs.Runs as runs
 use Rattle.map.specs.Runs.{runOf}
 use Rattle.map.specs.Classes.{classed}
-use Rattle.map.proofs.Tiles.{Record, Meets}
-use Rattle.map.proofs.Laws.{record-at, block-records, found-around, Alone, reach-least, reach-within, reach-beyond}
+use Rattle.map.proofs.Laws.{Record, Meets, record-at, block-records, found-around, Alone, reach-least, reach-within, reach-beyond}
 use Rattle.border.specs.Step.{Corner}
 use Rattle.select.specs.Select.{inside, around, selected, pickedRun, pickedAround, picked}
 use Rattle.select.proofs.Picking.{around-has, around-not, picks-one}

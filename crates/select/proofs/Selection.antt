@@ -23,8 +23,7 @@ use Rattle.window.proofs.Laws.{blocks-few, blocks-capped, before-irrefl, →lis
 use Rattle.map.specs.Spans.{holds}
 use Rattle.map.specs.Sound.{Follow, Spaced}
 use Rattle.map.specs.Records.{pixelRecord}
-use Rattle.map.proofs.Tiles.{Holder}
-use Rattle.map.proofs.Laws.{spaced, record-of, pixel-holder, holds-is}
+use Rattle.map.proofs.Laws.{Holder, spaced, record-of, pixel-holder, holds-is}
 use Rattle.border.specs.Step.{Corner}
 use Rattle.border.proofs.Laws.{spans, listed-corner}
 use Rattle.select.specs.Select.{selected, selection}

@@ -1,4 +1,5 @@
-pub mod Fitting
+mod Stretched
+mod Fitting
 mod Bases
 mod Around
 mod Listed

@@ -1,4 +1,5 @@
-pub mod Laws
-pub mod Telling
+mod Digits
+mod Telling
 mod Steps
 mod Examples
+pub mod Laws

@@ -1,7 +1,7 @@
 -- Digits, from the last on: what the loop does in a turn.
 -- Assumes nothing.
 use mathlib.Core.Path.{_≡_, sym, ap, _∙_}
-use mathlib.Core.List.{List, _∷_, _++_, append-nil}
+use mathlib.Core.List.{List, [], _∷_, _++_, append-nil}
 use Prim.Native.Nat.{ℕ, _+_, _-_, _/_, _%_, _^_, _≤_, _<_}
 use native.Mathlib.Numerals.{add-one}
 use native.Mathlib.Omega.{arith}
@@ -10,7 +10,7 @@ use lib.Seq.{set-split, append-snoc, drop-at, length-take-le}
 use Rattle.answers.specs.After.{after}
 use Rattle.answers.proofs.Laws.{overwrite-part}
 use Rattle.text.specs.Text.{digitsOf, putOf}
-use Rattle.text.proofs.Laws.{digits-small, digits-large, width-small, width-large, width-some, put-all}
+use Rattle.text.proofs.Digits.{digits-small, digits-large, width-small, width-large, width-some, put-all}
 
 drop-set : (cells : List ℕ) (i y : ℕ) → i < length cells → drop i (set cells i y) ≡ y ∷ drop (i + 1) cells
 drop-set cells i y l = ap (drop i) (set-split cells i y l) ∙ drop-at (take i cells) _ i (length-take-le i cells (omega arith)) ∙ rw add-one
@@ -23,7 +23,10 @@ pub record Spelling (x i rest : ℕ) (cells : List ℕ) : Type 0 where
   pub small : rest < 2 ^ 32
 
 pub spell-first : (x i : ℕ) (cells : List ℕ) → x < 2 ^ 32 → i + 1 ≡ length cells → length cells ≡ length (digitsOf x) → Spelling x i x cells
-spell-first x i cells s e l = record { is = ap (λ (rest : List ℕ). digitsOf x ++ rest) (drop-of-length-le cells (let all : length cells ≤ i + 1 = omega arith in all)) ∙ append-nil _; left = sym l ∙ sym e; within = omega arith; small = s }
+spell-first x i cells s e l =
+    let all : length cells ≤ i + 1 = omega arith in
+    let behind : drop (i + 1) cells ≡ [] = drop-of-length-le cells all in
+    record { is = rw behind (append-nil (digitsOf x)); left = sym l ∙ sym e; within = omega arith; small = s }
 
 module _ {x i rest : ℕ} {cells : List ℕ} (s : Spelling x i rest cells) where
   pub spell-more : 10 ≤ rest → 1 ≤ i

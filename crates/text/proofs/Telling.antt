@@ -9,7 +9,7 @@ use lib.Seq.{append-snoc}
 use Rattle.answers.specs.After.{after}
 use Rattle.answers.proofs.Laws.{lent, back, lent-is, Filling, filling, filling-first, filling-cell, filling-part}
 use Rattle.text.specs.Text.{putOf}
-use Rattle.text.proofs.Laws.{put-all, put-there}
+use Rattle.text.proofs.Digits.{put-all, put-there}
 
 -- of a whole text the bytes up to `at` are put, and the rest is not
 pub record Telling (all rest : List ℕ) (at : ℕ) (out₀ out : List ℕ) : Type 0 where

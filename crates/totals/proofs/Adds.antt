@@ -14,8 +14,7 @@ use Rattle.border.specs.declared.Found.{Found}
 use Rattle.border.specs.declared.Found.the-variants as found
 use Rattle.border.specs.Openings.{Opening, made, allHands}
 use Rattle.border.specs.Found.{walkMakes, walk, spot, Finds}
-use Rattle.border.proofs.Laws.{hands-none, hands-one, hands-append, records-once}
-use Rattle.border.proofs.Finding.{Finding, Opens, finding-last}
+use Rattle.border.proofs.Laws.{hands-none, hands-one, hands-append, records-once, Finding, Opens, finding-last}
 use Rattle.used.specs.Used.{Usable}
 use Rattle.totals.specs.Totals.{totals}
 use Rattle.totals.specs.Gather.{gathered, Hands, Gathering}

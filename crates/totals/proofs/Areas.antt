@@ -24,15 +24,13 @@ use Rattle.window.specs.Blocks
 use Rattle.window.specs.Blocks.{floor, pixels}
 use Rattle.window.specs.Promises.{Same}
 use Rattle.window.specs.Keys.{keyOf}
-use Rattle.window.proofs.Fitting.{Fits}
-use Rattle.window.proofs.Laws.{floor-le, floor-lt, floor-eq, same-div, fits-same, fits-down, exponent-fits, corner→same, pixel-in, key-named, rows-count, side-square, in-pixels}
+use Rattle.window.proofs.Laws.{Fits, floor-le, floor-lt, floor-eq, same-div, fits-same, fits-down, exponent-fits, corner→same, pixel-in, key-named, rows-count, side-square, in-pixels}
 use Rattle.map.specs.declared.Run.{Run}
 use Rattle.map.specs.Spans.{formExponent}
 use Rattle.map.specs.Sound.{Spaced}
 use Rattle.map.specs.Records.{pixelRecord, pixelExponent}
 use Rattle.map.specs.Runs.{runOf}
-use Rattle.map.proofs.Tiles.{Holder}
-use Rattle.map.proofs.Laws.{tiles, record-at, record-of, exponent-record, tile-record, record-tile, reach-within, reach-beyond, exponent-is}
+use Rattle.map.proofs.Laws.{Holder, tiles, record-at, record-of, exponent-record, tile-record, record-tile, reach-within, reach-beyond, exponent-is}
 use Rattle.border.specs.Openings.{met}
 use Rattle.border.specs.Step.{Corner}
 use Rattle.border.proofs.Laws.{met-in, met-pixels}

@@ -1,5 +1,1 @@
-mod Lines
-mod Results
-pub mod Laws
-mod Steps
-mod Examples
+mod Arrived

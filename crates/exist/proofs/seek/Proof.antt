@@ -8,7 +8,7 @@ use lib.ListN.{length}
 use borrow.Author.Needs.{needs}
 use Rattle.window.proofs.Laws.{inside-12}
 use Rattle.border.specs.Found.{walkMakes, spot}
-use Rattle.border.proofs.Finding.{fresh-same, fresh-usable, fresh-spent, finding-first, finding-usable, finding-spent, finding-last, Opens, finds-opens}
+use Rattle.border.proofs.Laws.{fresh-same, fresh-usable, fresh-spent, finding-first, finding-usable, finding-spent, finding-last, Opens, finds-opens}
 use Rattle.used.specs.Used.{Usable, spent}
 use Rattle.exist.proofs.Seeking.{Seeking, seeking-first, seeking-next, seeking-found, seeking-last}
 use Rattle.exist.proofs.Tables.{existing-yes, existing-no}

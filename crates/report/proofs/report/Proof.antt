@@ -7,7 +7,7 @@ use borrow.Author.Needs.{needs}
 use Rattle.answers.specs.declared.Verdict.the-variants.{Passed}
 use Rattle.answers.specs.Refusals.{verdict}
 use Rattle.window.proofs.Laws.{inside-12, pixels-most}
-use Rattle.border.proofs.Finding.{filled-spent}
+use Rattle.border.proofs.Laws.{filled-spent}
 use Rattle.used.specs.Used.{Usable, useRefusals}
 use Rattle.used.proofs.Laws.{use-known, use-same, use-whole}
 use Rattle.totals.proofs.Laws.{totals-length}

@@ -5,8 +5,7 @@ use Prim.Native.Nat.{_-_}
 use native.Mathlib.Omega.{arith}
 use borrow.Author.Needs.{needs}
 use Rattle.key.proofs.Laws.{reaches-least, reaches-before, reaches-around}
-use Rattle.map.proofs.Tiles.{SomeRecord}
-use Rattle.map.proofs.Laws.{record-at, found-around}
+use Rattle.map.proofs.Laws.{SomeRecord, record-at, found-around}
 use Rattle.map.proofs.Loops.{found-none}
 use Rattle.runs.proofs.record_around.Statement.{statement}
 use Rattle.runs.proofs.record_around.Tie as tie

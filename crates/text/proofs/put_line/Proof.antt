@@ -8,30 +8,42 @@ use lib.ListN.{length, set, length-set}
 use borrow.Author.Needs.{needs}
 use Rattle.answers.proofs.Laws.{back}
 use Rattle.text.specs.Text.{spaced, lineOf}
-use Rattle.text.proofs.Laws.{put-none, line-length}
+use Rattle.text.proofs.Digits.{put-none, line-length}
 use Rattle.text.proofs.Telling.{Telling, telling-first, telling-length, telling-room, telling-lent, telling-part, telling-byte, telling-last}
 use Rattle.text.proofs.put_line.Statement.{statement}
 use Rattle.text.proofs.put_line.Tie as tie
 
 -- where the line fits
-abbrev letter : tie.Else2 → ℕ
-letter c = c .before .before .before .before .before .args .letter
+module _ (c : tie.Else2) where
+  abbrev start : tie.Start
+  start = c .before .before .before .before .before
 
-abbrev numbers : tie.Else2 → List ℕ
-numbers c = c .before .before .before .before .before .args .numbers .now
+  abbrev letter : ℕ
+  letter = start .args .letter
 
-abbrev out : tie.Else2 → List ℕ
-out c = c .before .before .before .before .before .args .out .now
+  abbrev numbers : List ℕ
+  numbers = start .args .numbers .now
 
-room : (c : tie.Else2) → length (lineOf (letter c) (numbers c)) ≤ length (out c)
-room c = omega (arith, line-length (letter c) (numbers c), c .before .span .ensures, c .if2 .left, c .before .before .if1 .left)
+  abbrev out : List ℕ
+  out = start .args .out .now
 
-lettered : (c : tie.Else2) → Telling (lineOf (letter c) (numbers c)) (spaced (numbers c) ++ (10 ∷ [])) 1 (out c) (set (out c) 0 (letter c))
-unfolding lineOf
-lettered c = telling-byte (telling-first _ (out c) (room c)) (letter c) _ refl
+  abbrev line : List ℕ
+  line = lineOf letter numbers
 
-numbered : (c : tie.After-put-numbers) → (let t = c .before .before in Telling (lineOf (letter t) (numbers t)) (10 ∷ []) (1 + c .put-numbers .result) (out t) (back 1 (set (out t) 0 (letter t)) (c .put-numbers .last .1 .0)))
-numbered c = telling-part (lettered (c .before .before)) (spaced (numbers (c .before .before))) (10 ∷ []) refl (c .put-numbers .ensures)
+  room : length line ≤ length out
+  room = omega (arith, line-length letter numbers, c .before .span .ensures, c .if2 .left, c .before .before .if1 .left)
+
+  lettered : Telling line (spaced numbers ++ (10 ∷ [])) 1 out (set out 0 letter)
+  unfolding lineOf
+  lettered = telling-byte (telling-first _ out room) letter _ refl
+
+-- and the numbers are put
+module _ (c : tie.After-put-numbers) where
+  abbrev fits : tie.Else2
+  fits = c .before .before
+
+  numbered : Telling (line fits) (10 ∷ []) (1 + c .put-numbers .result) (out fits) (back 1 (set (out fits) 0 (letter fits)) (c .put-numbers .last .1 .0))
+  numbered = telling-part (lettered fits) (spaced (numbers fits)) (10 ∷ []) refl (c .put-numbers .ensures)
 
 returns : tie.Need-returns
 returns c = sym (put-none _ _ (omega (arith, line-length (c .before .before .before .args .letter) (c .before .before .before .args .numbers .now), c .if1 .taken)))

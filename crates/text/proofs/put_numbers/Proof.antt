@@ -1,12 +1,13 @@
 -- `text::put_numbers` meets its contract. The invariant: the first i numbers are put, and the next goes to `at`. The measure is how many numbers are left.
 -- Assumes nothing.
 use mathlib.Core.Path.{refl}
-use Prim.Native.Nat.{_+_, _-_, _≤_}
+use mathlib.Core.List.{List}
+use Prim.Native.Nat.{ℕ, _+_, _-_, _≤_}
 use native.Mathlib.Omega.{arith}
 use lib.ListN.{length, drop, getD, length-set}
 use borrow.Author.Needs.{needs}
 use Rattle.text.specs.Text.{digitsOf, spaced}
-use Rattle.text.proofs.Laws.{spaced-none, spaced-next, span-next}
+use Rattle.text.proofs.Digits.{spaced-none, spaced-next, span-next}
 use Rattle.text.proofs.Telling.{Telling, telling-first, telling-length, telling-room, telling-byte, telling-part, telling-last}
 use Rattle.text.proofs.put_numbers.Statement.{statement}
 use Rattle.text.proofs.put_numbers.Tie as tie
@@ -17,9 +18,16 @@ Inv-loop numbers out₀ at₀ i₀ out at i = Telling (spaced numbers) (spaced (
 abbrev μ-loop : tie.MeasureT-loop
 μ-loop numbers out₀ at₀ i₀ out at i = length numbers - i
 
--- the next number fits
-room : (c : tie.In-loop Inv-loop μ-loop) → c .before .loop .at + 1 + length (digitsOf (getD (c .before .before .before .before .args .numbers .now) (c .before .loop .i) 0)) ≤ length (c .before .loop .out)
-room c = omega (arith, telling-room (c .before .loop .inv), span-next (c .before .before .before .before .args .numbers .now) (c .before .loop .i) (c .loop-test .taken))
+-- in a turn: all numbers, which one is next, and that it fits
+module _ (c : tie.In-loop Inv-loop μ-loop) where
+  abbrev numbers : List ℕ
+  numbers = c .before .before .before .before .args .numbers .now
+
+  abbrev i : ℕ
+  i = c .before .loop .i
+
+  room : c .before .loop .at + 1 + length (digitsOf (getD numbers i 0)) ≤ length (c .before .loop .out)
+  room = omega (arith, telling-room (c .before .loop .inv), span-next numbers i (c .loop-test .taken))
 
 loop-holds : tie.Need-loop-holds Inv-loop μ-loop
 loop-holds c = telling-first _ _ (c .before .before .pre)
@@ -52,9 +60,8 @@ loop-again : tie.Need-loop-again Inv-loop μ-loop
 loop-again c =
     let called = c .before .before in
     let turn = called .before .before .before in
-    let xs = turn .before .before .before .before .args .numbers .now in
-    let i = turn .before .loop .i in
-    telling-part (telling-byte (turn .before .loop .inv) 32 _ (spaced-next xs i (turn .loop-test .taken))) (digitsOf (getD xs i 0)) _ refl (called .put-number .ensures)
+    let space = telling-byte (turn .before .loop .inv) 32 _ (spaced-next (numbers turn) (i turn) (turn .loop-test .taken)) in
+    telling-part space (digitsOf (getD (numbers turn) (i turn) 0)) _ refl (called .put-number .ensures)
 
 add-at-2 : tie.Need-add-at-2 Inv-loop μ-loop
 add-at-2 c = omega (arith, telling-length (loop-again c), loop-again c .room)

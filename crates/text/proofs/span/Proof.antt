@@ -6,7 +6,7 @@ use native.Mathlib.Omega.{arith}
 use lib.ListN.{length, drop}
 use borrow.Author.Needs.{needs}
 use Rattle.text.specs.Text.{spaced}
-use Rattle.text.proofs.Laws.{spaced-none, span-next}
+use Rattle.text.proofs.Digits.{spaced-none, span-next}
 use Rattle.text.proofs.span.Statement.{statement}
 use Rattle.text.proofs.span.Tie as tie
 

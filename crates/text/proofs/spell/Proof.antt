@@ -4,7 +4,7 @@ use mathlib.Core.Path.{_≡_, refl}
 use native.Mathlib.Omega.{arith}
 use lib.ListN.{length}
 use borrow.Author.Needs.{needs}
-use Rattle.text.proofs.Laws.{width-some}
+use Rattle.text.proofs.Digits.{width-some}
 use Rattle.text.proofs.Steps.{Spelling, spell-first, spell-more, spell-next, spell-last}
 use Rattle.text.proofs.spell.Statement.{statement}
 use Rattle.text.proofs.spell.Tie as tie

@@ -6,7 +6,7 @@ use native.Mathlib.Omega.{arith}
 use lib.ListN.{length}
 use borrow.Author.Needs.{needs}
 use Rattle.text.specs.Text.{digitsOf}
-use Rattle.text.proofs.Laws.{width-small, width-large}
+use Rattle.text.proofs.Digits.{width-small, width-large}
 use Rattle.text.proofs.width.Statement.{statement}
 use Rattle.text.proofs.width.Tie as tie
 

@@ -5,7 +5,7 @@ use native.Mathlib.Omega.{arith}
 use lib.ListN.{length}
 use borrow.Author.Needs.{needs}
 use Rattle.border.specs.Found.{walkMakes, spot}
-use Rattle.border.proofs.Finding.{fresh-same, fresh-usable, fresh-spent, finding-first, finding-usable, finding-last, Opens, finds-opens}
+use Rattle.border.proofs.Laws.{fresh-same, fresh-usable, fresh-spent, finding-first, finding-usable, finding-last, Opens, finds-opens}
 use Rattle.totals.proofs.Adds.{Totalling, totalling-first, totalling-hands, totalling-once, totalling-next, totalling-last}
 use Rattle.totals.proofs.add_up.Statement.{statement}
 use Rattle.totals.proofs.add_up.Tie as tie

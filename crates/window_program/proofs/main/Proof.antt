@@ -6,7 +6,7 @@ use native.Mathlib.Omega.{arith}
 use lib.ListN.{length, length-take, length-replicate}
 use borrow.Author.Needs.{needs}
 use Rattle.text.proofs.Laws.{put-within}
-use Rattle.window_program.proofs.Steps.{begun-sound}
+use Rattle.beginning.proofs.Laws.{begun-sound}
 use Rattle.window_program.proofs.main.Statement.{statement}
 use Rattle.window_program.proofs.main.Tie as tie
 

@@ -8,8 +8,9 @@ use lib.ListN.{length, take, drop, length-append, length-take}
 use lib.Seq.{length-take-le}
 use borrow.Author.Needs.{needs}
 use borrow.Rule.Slice.PartMut.{putMid}
-use Rattle.window_program.specs.Text.{Received}
-use Rattle.window_program.proofs.Steps.{received-few, announced-bounds, received}
+use Rattle.input.proofs.Laws.{announced-bounds}
+use Rattle.window_program.specs.Received.{Received}
+use Rattle.window_program.proofs.Arrived.{received-few, received}
 use Rattle.window_program.proofs.receive.Statement.{statement}
 use Rattle.window_program.proofs.receive.Tie as tie
 

@@ -1,0 +1,4 @@
+mod Silent
+mod Starts
+mod Examples
+pub mod Laws

@@ -1,0 +1,3 @@
+mod Sizes
+mod Windows
+pub mod Laws

@@ -1,0 +1,4 @@
+mod Turns
+mod Lengths
+mod Refused
+pub mod Laws

@@ -1,0 +1,3 @@
+mod Results
+mod Steps
+mod Examples
