@@ -1,6 +1,6 @@
 -- Refusal 8, and cells in a slice that has room for them.
 -- Assumes nothing.
-use mathlib.Core.Path.{_≡_, ap}
+use mathlib.Core.Path.{_≡_, refl, ap}
 use mathlib.Core.Logic.{_↔_}
 use mathlib.Core.List.{List, []}
 use Prim.Native.Nat.{ℕ, _≤_, _<_}
@@ -23,6 +23,10 @@ module _ (room needed : ℕ) where
   room-refused l = refusal-held Refused 8 needed [] Passed (lt-ltb room needed l)
 
 module _ {A : Type 0} (refuse : ℕ → ℕ → A) (done : A) (cells out : List ℕ) where
+  pub room-is : roomFor refuse done cells out ≡ answer (λ n p. after (refuse n p) out) (roomRefusals (length out) (length cells)) (after done (overwrite cells out))
+  unfolding roomFor
+  room-is = refl
+
   -- where there is no room
   pub room-short : length out < length cells → roomFor refuse done cells out ≡ after (refuse 8 (length cells)) out
   unfolding roomFor

@@ -14,6 +14,7 @@ use Rattle.window.proofs.Laws.{walked-first}
 use Rattle.map.specs.Runs.{runOf}
 use Rattle.map.specs.Runs as runs
 use Rattle.used.specs.Used.{Usable, spent}
+use Rattle.used.proofs.Laws.{spent-is}
 use Rattle.border.specs.declared.Walk.{Walk}
 use Rattle.border.specs.declared.Found.{Found}
 use Rattle.border.specs.declared.Found.the-variants as found
@@ -59,7 +60,7 @@ module _ {m top : ℕ} {keys : List ℕ} {W : Window} (cells : List ℕ) {border
   fresh-spent = spent-kept fresh
 
   pub finding-first : Finding m top keys W border border (walk (W .r0) (W .c0) (W .w)) []
-  unfolding handedAfter spent
+  unfolding handedAfter
   finding-first = record {
     reached = record { past = []; walked = walked; stated = stated; left = rw e (left-first W cells (U .inside .tall) (U .wide)) };
     kept = kept-none;
@@ -67,7 +68,7 @@ module _ {m top : ℕ} {keys : List ℕ} {W : Window} (cells : List ℕ) {border
     left =
         let t = ends (stepsLeave m top keys W border (maximal W top)) (λ p v. all-covered (U .spaced) (U .inside) (U .cap) v) (omega (arith, fresh-usable .wide, A .kept .same)) (A .stated) in
         let l : length (replicate (W .w) (W .r0 + W .h)) ≡ W .w = length-replicate (W .w) (W .r0 + W .h) in
-        rw (← walked .all) (sym (take-append-drop (W .w) _) ∙ rw (t, A .kept .beyond) (rw l at (overwrite-part (replicate (W .w) (W .r0 + W .h)) border)));
+        rw (← walked .all) (sym (take-append-drop (W .w) _) ∙ rw (t, A .kept .beyond) (rw l at (overwrite-part (replicate (W .w) (W .r0 + W .h)) border)) ∙ sym (spent-is W border));
   }
     where
       walked : Walked W top [] (W .r0, W .c0)

@@ -1,5 +1,6 @@
--- What the functions of `openings` go by: the state of their loops.
+-- What the functions of `openings` and of `open` go by: the state of their loops, and what a pass leaves.
 -- Assumes nothing.
 pub use Rattle.border.proofs.Written.{entered-late, entered-there}
 pub use Rattle.border.proofs.Skipping.{reached-done, Skipping, skipping-first, skipping-end, skipping-ready, skipping-kept, skipping-next, skipping-room, skipping-found}
 pub use Rattle.border.proofs.Passes.{Passing, passing-first, passing-last, passing-next, passing-few}
+pub use Rattle.border.proofs.Passed.{passed-nothing, passed-same, passed-written}

@@ -8,7 +8,7 @@ use native.Mathlib.Nat.{add-zero}
 use native.Mathlib.Omega.{arith}
 use lib.ListN.{length, getD, take, drop, replicate, length-replicate}
 use Rattle.answers.specs.After.{After}
-use Rattle.answers.proofs.Laws.{overwrite-part, overwrite-same}
+use Rattle.answers.proofs.Laws.{overwrite-part}
 use Rattle.key.specs.Picture.{Px}
 use Rattle.window.specs.declared.Window.{Window}
 use Rattle.window.specs.Blocks.{exponent, maximal}
@@ -16,6 +16,7 @@ use Rattle.window.specs.Keys.{keyOf}
 use Rattle.map.specs.Records.{pixelExponent}
 use Rattle.map.proofs.Laws.{pixelTile, tiles}
 use Rattle.used.specs.Used.{Usable, spent}
+use Rattle.used.proofs.Laws.{spent-is, spent-beyond}
 use Rattle.border.specs.declared.Stepped.{Stepped}
 use Rattle.border.specs.declared.Stepped.the-variants as stepped
 use Rattle.border.specs.Border.{Stated, Covered}
@@ -37,19 +38,16 @@ pub kept-more : {W : Window} {a b c : List ℕ} → Kept W a b → Kept W b c �
 kept-more k l = record { same = l .same ∙ k .same; beyond = l .beyond ∙ k .beyond }
 
 pub spent-kept : {W : Window} {cells border : List ℕ} → Kept W cells border → spent W border ≡ spent W cells
-unfolding spent
-spent-kept {W} {cells} {border} k =
-    let l : length (replicate (W .w) (W .r0 + W .h)) ≡ W .w = length-replicate (W .w) (W .r0 + W .h) in
-    overwrite-same (replicate (W .w) (W .r0 + W .h)) cells border (rw l (k .beyond))
+spent-kept {W} {cells} {border} k = spent-beyond W border cells (k .beyond)
 
 pub filled-spent : (W : Window) (cells : List ℕ) → W .w ≤ length cells → filled 0 (W .w) (W .r0 + W .h) cells ≡ spent W cells
-unfolding filled spent
+unfolding filled
 filled-spent W cells l =
     let z : W .w - 0 ≡ W .w = omega arith in
     let y : 0 + (W .w - 0) ≡ W .w = omega arith in
     let e : take 0 cells ++ replicate (W .w - 0) (W .r0 + W .h) ++ drop (0 + (W .w - 0)) cells ≡ replicate (W .w) (W .r0 + W .h) ++ drop (W .w) cells = rw (y, z) in
     let n : length (replicate (W .w) (W .r0 + W .h)) ≡ W .w = length-replicate (W .w) (W .r0 + W .h) in
-    e ∙ rw n at (overwrite-part (replicate (W .w) (W .r0 + W .h)) cells)
+    e ∙ rw n at (overwrite-part (replicate (W .w) (W .r0 + W .h)) cells) ∙ sym (spent-is W cells)
 
 -- ---- one step
 

@@ -25,7 +25,6 @@ use Rattle.exist.specs.Exist.{exists}
 
 module _ (m : ℕ) (keys classes : List ℕ) (class : ℕ) where
   pub class-is : (p : Px) → (hasClass m keys classes class p ≡ true) ↔ (getD classes (pixelRecord m keys (p .0) (p .1)) 0 ≡ class)
-  unfolding hasClass
   class-is p = (λ e. eqb-true _ _ e, λ e. eq-eqb _ _ e)
 
   pub exists-means : (W : Window) → (exists m keys classes W class ≡ true) ↔ ((p : Px) × In W p × (getD classes (pixelRecord m keys (p .0) (p .1)) 0 ≡ class))

@@ -7,6 +7,7 @@ use Prim.Native.Nat.{ℕ, suc, _+_, _*_, _/_, _%_, _^_, _≤_, _<_}
 use native.Mathlib.Decide.{decLt}
 use native.Mathlib.Nat.{pow-suc, zero-mod, mod-eq-of-lt}
 use native.Mathlib.Omega.{arith}
+use lib.Count.{trailingZeros}
 use lib.ListN.{getD}
 use Rattle.key.specs.declared.Spot.{Spot}
 use Rattle.key.specs.declared.Fit.the-variants.{Block, Other}
@@ -108,7 +109,8 @@ module _ {m key i s : ℕ} (few : m ≤ 12) (n : Names m key i s) where
             let e : t .top ≡ top = omega arith in
             subst (λ (x : ℕ). At m (key + 5 ^ i) x place) e (t .at)
 
-  pub next-stands : {t : Spot} → t .place ≡ s + 4 ^ i → t .top ≡ alignment 32 (t .place) / 2 → t .key ≡ key + 4 * ones i + 1 → Stands m t
+  pub next-stands : {t : Spot} → t .place ≡ s + 4 ^ i → t .top ≡ trailingZeros 32 (t .place) / 2 → t .key ≡ key + 4 * ones i + 1 → Stands m t
+  unfolding alignment
   next-stands {t} ep et ek = record {
     within = omega (arith, lies here .span);
     largest = λ h. let e : t .key ≡ key + 5 ^ i = omega (arith, ones-pow i) in rw e (record { is = at-form (next-top ep et h) });

@@ -1,14 +1,14 @@
 -- Digits 1: E of as many bits, and what is between the key of a block and that of its first pixel, its corner.
 -- Assumes nothing.
 use mathlib.Core.Path.{_≡_, sym, ap, ap₂, _∙_}
-use mathlib.Core.List.{List}
+use mathlib.Core.List.{List, [], _∷_}
 use Prim.Native.Nat.{ℕ, zero, suc, _+_, _-_, _*_, _/_, _^_, _≤_}
 use native.Mathlib.Nat.{pow-suc, zero-add, zero-mul, mul-div-cancel, div-mul-le-self, pow-le-pow-right}
 use native.Mathlib.Omega.{arith}
 use lib.Dec.{lit<}
 use lib.ListN.{getD}
 use lib.Pow.{pow-pos}
-use Rattle.lists.proofs.Laws.{table-entry}
+use Rattle.lists.proofs.Laws.{table-entry, table-written}
 use Rattle.key.specs.Spread.{spread}
 use Rattle.key.specs.Picture.{Pixel}
 use Rattle.key.specs.Key.{pixelKey, blockKey, ones}
@@ -37,6 +37,10 @@ spread-is-ones k = omega (arith, ones-pow k, spread-ones 4 k)
 pub ones-entry : {table : List ℕ} (i : ℕ) → table ≡ onesTable → i ≤ 12 → getD table i 0 ≡ ones i
 unfolding onesTable
 ones-entry i e h = table-entry ones 13 i e (omega arith)
+
+pub ones-listed : onesTable ≡ 0 ∷ 1 ∷ 6 ∷ 31 ∷ 156 ∷ 781 ∷ 3906 ∷ 19531 ∷ 97656 ∷ 488281 ∷ 2441406 ∷ 12207031 ∷ 61035156 ∷ []
+unfolding onesTable ones
+ones-listed = sym (table-written ones 0 13)
 
 -- ---- the first pixel of a block
 

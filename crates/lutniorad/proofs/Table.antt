@@ -24,7 +24,6 @@ use Rattle.map.specs.Spans.{within}
 use Rattle.map.specs.Check.{late, refusalsFrom, mapRefusals, checkOf}
 use Rattle.map.specs.Records.{recordOf, exponentOf}
 use Rattle.map.specs.Runs.{runOf}
-use Rattle.map.specs.Classes.{hasClass}
 use Rattle.border.specs.Openings.{isHanded, made, opening, openFrom, openings, handedCount}
 use Rattle.used.specs.Used.{useRefusals, spent, usedFor, borderRefusals}
 use Rattle.numbers.specs.Numbers.{bytes, bytesOf}
@@ -73,7 +72,7 @@ pub table : Table
 unfolding pictureRefusals countRefusals borderRefusals roomRefusals roomFor answer wrongCount sizeRefusals overwrite upFrom spreadTo spread place
     pixelKey blockKey from formOf beyond outside windowRefusals keep floor lies fits greatest exponent corner across rows isCorner maximal keyOf
     keysOf spans.malformed spans.formExponent spans.start spans.end spans.holds spans.overlap late refusalsFrom mapRefusals checkOf before howMany
-    recordOf exponentOf runOf any within isHanded opening openFrom openings handedCount useRefusals spent hasClass total totals around inside selected
+    recordOf exponentOf runOf any within isHanded opening openFrom openings handedCount useRefusals spent total totals around inside selected
     allSelected selection usedFor reportOf selectOf bytes bytesOf header fileOf
 table = record {
   p1-length = refl;

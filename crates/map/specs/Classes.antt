@@ -13,5 +13,5 @@ abbrev pub classed : List ℕ → ℕ → ℕ → Bool
 classed classes class n = eqb (getD classes n 0) class
 
 -- a pixel has the class of its record
-unfoldable pub hasClass : ℕ → List ℕ → List ℕ → ℕ → Px → Bool
+abbrev pub hasClass : ℕ → List ℕ → List ℕ → ℕ → Px → Bool
 hasClass m keys classes class p = classed classes class (pixelRecord m keys (p .0) (p .1))

@@ -15,8 +15,9 @@ use Rattle.open.specs.declared.Opened.the-variants.{Done, Refused}
 use Rattle.open.specs.Open.{openOf}
 use Rattle.open.specs.Promises.{Answered}
 
-refused-not-done : (n p : ℕ) {count records : ℕ} → Refused n p ≡ Done count records → ⊥
-refused-not-done n p e = let z : _≡_ {A = ℕ} 0 1 = cc in omega arith
+-- a refusal is no answer
+pub opened-apart : (n p : ℕ) {count records : ℕ} → Refused n p ≡ Done count records → ⊥
+opened-apart n p e = let z : _≡_ {A = ℕ} 0 1 = cc in omega arith
 
 -- the count in the answer is the length of the list that was written, and the laws above hold of that list
 pub answered : (m : ℕ) (keys : List ℕ) (classes : ℕ) (W : Window) (border out : List ℕ) {count records : ℕ} {border′ out′ : List ℕ}
@@ -24,7 +25,7 @@ pub answered : (m : ℕ) (keys : List ℕ) (classes : ℕ) (W : Window) (border 
 unfolding openOf
 answered m keys classes W border out {count} {records} {border′} {out′} e =
     let os = openings m m keys W in
-    let t = used-told Refused (Done (length os) (handedCount os)) (cellsOf os) m keys classes W border out (λ n p. refused-not-done n p) e in
+    let t = used-told Refused (Done (length os) (handedCount os)) (cellsOf os) m keys classes W border out (λ n p. opened-apart n p) e in
     let U = use-known m keys classes W (length border) (t .passed) in
     let d = t .says in
     let n : length os ≡ count = cc in

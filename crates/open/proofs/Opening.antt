@@ -2,24 +2,21 @@
 -- Assumes nothing.
 use mathlib.Core.Path.{_≡_, refl, sym, ap, _∙_}
 use mathlib.Core.List.{List, [], _++_}
-use Prim.Native.Nat.{ℕ, _+_, _*_, _/_, _≤_, _<_}
+use Prim.Native.Nat.{ℕ, _+_, _*_, _≤_, _<_}
 use native.Mathlib.Omega.{arith}
-use lib.ListN.{length, take, replicate, length-take, length-replicate}
-use lib.Seq.{take-all}
+use lib.ListN.{length}
 use Rattle.answers.specs.declared.Verdict.the-variants as verdict-of
 use Rattle.answers.specs.Refusals.{verdict}
-use Rattle.answers.specs.Cells.{overwrite}
 use Rattle.answers.specs.After.{after}
 use Rattle.answers.proofs.Laws as Answers
-use Rattle.answers.proofs.Laws.{overwrite-length, overwrite-part, overwrite-again}
 use Rattle.window.specs.declared.Window.{Window}
 use Rattle.border.specs.declared.Totals.{Totals}
 use Rattle.border.specs.Openings.{openings, handedCount, cellsOf}
-use Rattle.border.specs.Cells.{fitting}
 use Rattle.border.specs.Found.{Passed}
+use Rattle.border.proofs.Loops.{passed-nothing, passed-same, passed-written}
 use Rattle.border.proofs.Laws.{cells-length}
 use Rattle.used.specs.Used.{useRefusals, spent, usedFor}
-use Rattle.used.proofs.Laws.{used-refused, used-short, used-done}
+use Rattle.used.proofs.Laws.{used-refused, used-short, used-done, spent-again}
 use Rattle.open.specs.declared.Opened.the-variants.{Done, Refused}
 use Rattle.open.specs.Open.{openOf}
 use Rattle.open.proofs.Accepted.{accepted}
@@ -49,37 +46,14 @@ module _ (m : ℕ) (keys : List ℕ) (classes : ℕ) (W : Window) (border out : 
 
 -- a border that is spent already is spent no further
 pub accepted-again : (m : ℕ) (keys : List ℕ) (W : Window) (border out : List ℕ) → accepted m keys W (spent W border) out ≡ accepted m keys W border out
-unfolding accepted spent
-accepted-again m keys W border out =
-    ap (λ (t : List ℕ). after (Done (length (openings m m keys W)) (handedCount (openings m m keys W))) (t, overwrite (cellsOf (openings m m keys W)) out))
-    (overwrite-again (replicate (W .w) (W .r0 + W .h)) border)
-
--- a pass over a slice with no room writes nothing
-pub passed-nothing : {m top : ℕ} {keys : List ℕ} {W : Window} {border₀ border part : List ℕ} {totals : Totals} (out : List ℕ)
-    → Passed m top keys W border₀ [] totals border part → part ++ out ≡ out
-unfolding fitting
-passed-nothing out p = ap (λ (xs : List ℕ). xs ++ out) (p .written ∙ sym (overwrite-part [] []))
-
--- a pass keeps the lengths of both slices
-pub passed-same : {m top : ℕ} {keys : List ℕ} {W : Window} {border₀ out₀ border out : List ℕ} {totals : Totals}
-    → Passed m top keys W border₀ out₀ totals border out → W .w ≤ length border₀
-    → (length border ≡ length border₀) × (length out ≡ length out₀)
-unfolding spent fitting
-passed-same {m} {top} {keys} {W} {border₀} {out₀} p wide =
-    let l : length (replicate (W .w) (W .r0 + W .h)) ≡ W .w = length-replicate (W .w) (W .r0 + W .h) in
-    let cells = cellsOf (openings m top keys W) in (
-      ap length (p .ends) ∙ overwrite-length (replicate (W .w) (W .r0 + W .h)) border₀ (rw l wide),
-      ap length (p .written) ∙ overwrite-length (take (3 * (length out₀ / 3)) cells) out₀ (omega (arith, length-take (3 * (length out₀ / 3)) cells)),
-    )
+unfolding accepted
+accepted-again m keys W border out = rw (spent-again W border)
 
 -- a pass over a slice with room for all
 pub passed-all : {m : ℕ} {keys : List ℕ} {W : Window} {border₀ out₀ border out : List ℕ} {totals : Totals} → Passed m m keys W border₀ out₀ totals border out
     → 3 * length (openings m m keys W) ≤ length out₀ → after (Done (totals .openings) (totals .records)) (border, out) ≡ accepted m keys W border₀ out₀
-unfolding accepted fitting
-passed-all {m} {keys} {W} {out₀ = out₀} p l =
-    let os = openings m m keys W in
-    let all = take-all (3 * (length out₀ / 3)) (cellsOf os) (omega (arith, cells-length os)) in
-    rw (p .many, p .records, p .ends, p .written, all)
+unfolding accepted
+passed-all p l = rw (p .many, p .records, p .ends, passed-written p l)
 
 -- ---- the pass that writes
 

@@ -18,7 +18,6 @@ use Rattle.map.specs.Spans.{within}
 use Rattle.map.specs.Check.{late, refusalsFrom, mapRefusals}
 use Rattle.map.specs.Records.{recordOf, exponentOf}
 use Rattle.map.specs.Runs.{runOf}
-use Rattle.map.specs.Classes.{hasClass}
 use Rattle.border.specs.Openings.{isHanded, opening, openFrom, openings, handedCount, cellsOf}
 use Rattle.used.specs.Used.{useRefusals, borderRefusals}
 use Rattle.totals.specs.Totals.{total, totals}
@@ -56,7 +55,7 @@ pub record Examples : Type 0 where
 pub examples : Examples
 unfolding pictureRefusals countRefusals borderRefusals answer wrongCount sizeRefusals upFrom spreadTo spread place pixelKey blockKey from formOf beyond outside windowRefusals keep floor lies fits
     greatest exponent corner across rows isCorner maximal keyOf keysOf spans.malformed spans.formExponent spans.start spans.end spans.holds spans.overlap late
-    refusalsFrom mapRefusals before howMany recordOf exponentOf runOf any within isHanded opening openFrom openings handedCount cellsOf useRefusals hasClass
+    refusalsFrom mapRefusals before howMany recordOf exponentOf runOf any within isHanded opening openFrom openings handedCount cellsOf useRefusals
     total totals digits digitsOf spaced lineOf openingLines classLine classLines foundLines foundBy resultOf answerOf leftText
 examples = record {
   p1-window = refl;

@@ -19,7 +19,7 @@ use Rattle.open.specs.declared.Opened.{Opened}
 use Rattle.open.specs.declared.Opened.the-variants as opened
 use Rattle.open.specs.Open.{openOf}
 use Rattle.open.specs.Promises.{Answered}
-use Rattle.open.proofs.Laws.{openings-fit, answered}
+use Rattle.open.proofs.Laws.{openings-fit, answered, open-is, opened-apart}
 use Rattle.totals.specs.Totals.{totals}
 use Rattle.totals.proofs.Laws.{totals-length}
 use Rattle.report.specs.declared.Reported.{Reported}
@@ -107,12 +107,10 @@ module _ {m : ℕ} {keys classes : List ℕ} {W : Window} {border : List ℕ} {r
 
   -- it does not refuse
   pub open-never : {A : Type 0} {n p : ℕ} → r ≡ opened.Refused n p → A
-  unfolding openOf
-  open-never {n = n} {p = p} d = absurd (go (used-roomy opened.Refused _ _ m keys (length classes) W border (replicate 3000 0) other room (told-opened d)))
+  open-never {n = n} {p = p} d =
+      let is = sym (open-is m keys (length classes) W border (replicate 3000 0)) ∙ told-opened d in
+      absurd (go (used-roomy opened.Refused _ _ m keys (length classes) W border (replicate 3000 0) (λ n p. opened-apart n p) room is))
     where
-      other : (n p : ℕ) → opened.Refused n p ≡ opened.Done (length (openings m m keys W)) (handedCount (openings m m keys W)) → ⊥
-      other n p f = let z : _≡_ {A = ℕ} 0 1 = cc in omega arith
-
       room : length (cellsOf (openings m m keys W)) ≤ length (replicate {A = ℕ} 3000 0)
       room = omega (arith, fit, length-replicate {A = ℕ} 3000 0)
 

@@ -17,7 +17,6 @@ use Rattle.window.specs.Blocks.{across, rows}
 use Rattle.map.specs.Spans as spans
 use Rattle.map.specs.Check.{late, refusalsFrom, mapRefusals}
 use Rattle.map.specs.Records.{recordOf}
-use Rattle.map.specs.Classes.{hasClass}
 use Rattle.used.specs.Used.{useRefusals, spent, usedFor, borderRefusals}
 use Rattle.used.proofs.P1.{keys, classes, W, old}
 use Rattle.totals.specs.Totals.{total, totals}
@@ -35,7 +34,7 @@ pub record Examples : Type 0 where
 pub examples : Examples
 unfolding pictureRefusals countRefusals borderRefusals roomRefusals roomFor answer wrongCount sizeRefusals overwrite upFrom spreadTo spread place from
     formOf beyond outside windowRefusals across rows spans.malformed spans.formExponent spans.start spans.end spans.holds late refusalsFrom
-    mapRefusals before howMany recordOf useRefusals spent hasClass total totals usedFor reportOf
+    mapRefusals before howMany recordOf useRefusals spent total totals usedFor reportOf
 examples = record {
   part = refl;
   report-short = refl;

@@ -23,14 +23,15 @@ pub record Counted (m : ℕ) (keys classes : List ℕ) (W : Window) (border valu
   pub pixels : value ≡ W .h * W .w
   pub list : take 256 out ≡ totals m keys classes W
 
-refused-not-done : (n p : ℕ) {value : ℕ} → Refused n p ≡ Done value → ⊥
-refused-not-done n p e = let z : _≡_ {A = ℕ} 0 1 = cc in omega arith
+-- a refusal is no answer
+reported-apart : (n p : ℕ) {value : ℕ} → Refused n p ≡ Done value → ⊥
+reported-apart n p e = let z : _≡_ {A = ℕ} 0 1 = cc in omega arith
 
 module _ (m : ℕ) (keys classes : List ℕ) (W : Window) (border out : List ℕ) where
   pub counted : {value : ℕ} {border′ out′ : List ℕ} → reportOf m keys classes W border out ≡ after (Done value) (border′, out′) → Counted m keys classes W (length border) value out′
   unfolding reportOf
   counted e =
-      let t = used-told Refused (Done (W .h * W .w)) (totals m keys classes W) m keys (length classes) W border out (λ n p. refused-not-done n p) e in
+      let t = used-told Refused (Done (W .h * W .w)) (totals m keys classes W) m keys (length classes) W border out (λ n p. reported-apart n p) e in
       let d = t .says in
       record { passed = t .passed; pixels = cc; list = rw (← t .writes, ← totals-length m keys classes W) (take-overwrite (totals m keys classes W) out) }
 
@@ -38,7 +39,7 @@ module _ (m : ℕ) (keys classes : List ℕ) (W : Window) (border out : List ℕ
       → verdict (useRefusals m keys (length classes) W (length border)) ≡ verdict-of.Refused n p
   unfolding reportOf
   uncounted {n} {p} room e =
-      let t = used-roomy Refused (Done (W .h * W .w)) (totals m keys classes W) m keys (length classes) W border out (λ n p. refused-not-done n p) (omega (arith, totals-length m keys classes W)) e in
+      let t = used-roomy Refused (Done (W .h * W .w)) (totals m keys classes W) m keys (length classes) W border out (λ n p. reported-apart n p) (omega (arith, totals-length m keys classes W)) e in
       go t
     where
       go : (n′ : ℕ) × (p′ : ℕ) × (verdict (useRefusals m keys (length classes) W (length border)) ≡ verdict-of.Refused n′ p′) × (Refused n′ p′ ≡ Refused n p)

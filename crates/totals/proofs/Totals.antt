@@ -21,7 +21,7 @@ use Rattle.window.specs.Blocks.{pixels}
 use Rattle.window.proofs.Laws.{pixels-length, in-pixels}
 use Rattle.map.specs.Sound.{Follow}
 use Rattle.map.specs.Records.{pixelRecord}
-use Rattle.map.specs.Classes.{classed, hasClass}
+use Rattle.map.specs.Classes.{classed}
 use Rattle.map.proofs.Laws.{spaced}
 use Rattle.border.specs.Openings.{openings, allHands}
 use Rattle.border.proofs.Laws.{in-hands, hands-whole, records-once}
@@ -41,7 +41,7 @@ module _ (m : ℕ) (keys classes : List ℕ) (W : Window) where
 
   -- they add up to the number of pixels
   pub totals-sum : ((n : ℕ) → getD classes n 0 < 256) → sum (totals m keys classes W) ≡ W .h * W .w
-  unfolding totals total hasClass
+  unfolding totals total
   totals-sum small = each-once class (pixels W) (up-distinct 0 256) ∙ many-all (pixels W) (λ p l. listed p) ∙ pixels-length W
     where
       class : Px → ℕ
@@ -127,7 +127,7 @@ module _ (m : ℕ) (keys classes : List ℕ) (W : Window) where
 
   pub gathered-all : {ns : List ℕ} → Ordered _≢_ ns → ((p : Px) → In W p → List·Memᴰ (pixelRecord m keys (p .0) (p .1)) ns)
       → gathered m keys classes W ns (replicate 256 0) ≡ totals m keys classes W
-  unfolding total hasClass
+  unfolding total
   gathered-all {ns} o has = ext-getD 0 _ _ (from-zeros ns ∙ sym totals-length) (λ k l. each k (omega (arith, from-zeros ns, l)))
     where
       -- a pixel's record is among those of class k exactly when its class is k

@@ -2,3 +2,4 @@
 -- Assumes nothing.
 pub use Rattle.used.proofs.Use.{use-answerable, numbered-use, use-known, use-whole, use-same}
 pub use Rattle.used.proofs.Used.{used-refused, used-passed, used-short, used-done, used-said, used-by-lengths, numbered-used, used-answerable, used-told, used-roomy}
+pub use Rattle.used.proofs.Spent.{spent-is, spent-beyond, spent-again, spent-length}

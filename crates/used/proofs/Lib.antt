@@ -1,4 +1,5 @@
 mod Use
 mod Used
+mod Spent
 pub mod Laws
 pub mod P1

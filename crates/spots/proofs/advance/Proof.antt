@@ -6,7 +6,6 @@ use native.Mathlib.Omega.{arith}
 use lib.ListN.{getD}
 use borrow.Author.Needs.{needs}
 use Rattle.key.specs.Key.{ones}
-use Rattle.key.specs.Alignment.{alignment}
 use Rattle.key.proofs.Laws.{Lies, pow-most}
 use Rattle.key.proofs.Loops.{ones-pow, ones-entry, next-room, next-stands}
 use Rattle.spots.proofs.advance.Statement.{statement}
@@ -48,7 +47,6 @@ add-end-2 : tie.Need-add-end-2
 add-end-2 c = omega (arith, own (c .before .before), end (c .before .before), most (c .before .before))
 
 returns : tie.Need-returns
-unfolding alignment
 returns c =
     let s = c .before .before in
     let reached : s .args .start + c .before .pow4 .result ≡ s .args .start + 4 ^ s .args .i = omega (arith, c .before .pow4 .ensures .is) in
