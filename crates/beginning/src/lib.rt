@@ -19,7 +19,7 @@ pub struct Begun {
 fn put_map(m: u32, keys: &[u32], classes: &[u8], out: &mut [u8]) -> usize
     ensures { λ r. ⌜ after r (now (out .exit)) ≡ putOf (mapText m (now (keys .entry)) (now (classes .entry))) (now (out .entry)) ⌝ }
 {
-    let sound = map::sound(m, keys, classes);
+    let sound = checks::sound(m, keys, classes);
     let Verdict::Refused { number, place } = sound else {
         return 0;
     };

@@ -4,3 +4,6 @@ pub use Rattle.border.proofs.Written.{entered-late, entered-there}
 pub use Rattle.border.proofs.Skipping.{reached-done, Skipping, skipping-first, skipping-end, skipping-ready, skipping-kept, skipping-next, skipping-room, skipping-found}
 pub use Rattle.border.proofs.Passes.{Passing, passing-first, passing-last, passing-next, passing-few}
 pub use Rattle.border.proofs.Passed.{passed-nothing, passed-same, passed-written}
+pub use Rattle.border.proofs.Filled.{filled-none, filled-next, raised-is}
+pub use Rattle.border.proofs.Columns.{shut-none, shut-some}
+pub use Rattle.border.proofs.Steps.{step-pixel, step-name, step-block, step-reach, step-small, step-skipped, step-opened}

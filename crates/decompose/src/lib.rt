@@ -26,7 +26,7 @@ fn list_blocks(table: &[u32; 256], m: u32, window: Window, top: u32, out: &mut [
     let mut c = window.c0;
     let mut n: u32 = 0;
     loop {
-        let next = window::next_block(window, top, r, c);
+        let next = walk::next_block(window, top, r, c);
         let Next::Block {
             row,
             col,
@@ -36,7 +36,7 @@ fn list_blocks(table: &[u32; 256], m: u32, window: Window, top: u32, out: &mut [
         else {
             return n;
         };
-        let key = key::block_key(table, m, exponent, row, col);
+        let key = blocks::block_key(table, m, exponent, row, col);
         answers::put(out, n, key);
         n += 1;
         r = row;
@@ -55,13 +55,13 @@ pub fn decompose(m: u32, window: Window, out: &mut [u32]) -> Decomposed
             place: 0,
         };
     }
-    if window::outside(m, window) {
+    if walk::outside(m, window) {
         return Decomposed::Refused {
             number: 6,
             place: 0,
         };
     }
-    let table = key::spread_table();
+    let table = blocks::spread_table();
     let most = 4 * ((window.w as usize) + (window.h as usize));
     if out.len() < most {
         let needed = list_blocks(&table, m, window, m, &mut out[..0]);

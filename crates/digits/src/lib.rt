@@ -50,7 +50,7 @@ pub fn read_key(m: u32, key: u32) -> Form
         if rest < p {
             return Form::Malformed;
         }
-        start += (rest / p - 1) * key::pow4(k);
+        start += (rest / p - 1) * blocks::pow4(k);
         rest = rest % p;
     }
     Form::Block { exponent: k, start }
@@ -67,7 +67,7 @@ pub fn reach_over(table: &[u32; 256], m: u32, own: u32, key: u32, i: u32) -> u32
     }
     let over = key - own;
     let mut e = i;
-    let mut p = key::pow5(table, i);
+    let mut p = blocks::pow5(table, i);
     while p <= over {
         p = 5 * p;
         e += 1;

@@ -50,7 +50,7 @@ fn seek(
     ensures { λ r. ⌜ after r (now (border .exit)) ≡ existing m (now (keys .entry)) (now (classes .entry)) window class (now (border .entry)) ⌝ }
 {
     let w = window.w as usize;
-    border::fill(border, 0, w, window.r0);
+    step::fill(border, 0, w, window.r0);
     let mut at = openings::start(window);
     loop {
         let found = openings::next_opening(table, m, m, keys, window, at, border);
@@ -64,7 +64,7 @@ fn seek(
             return Existence::No;
         };
         if has_class(classes, class, first, count) {
-            border::fill(border, 0, w, window.r0 + window.h);
+            step::fill(border, 0, w, window.r0 + window.h);
             return Existence::Yes;
         }
         at = on;
@@ -86,6 +86,6 @@ pub fn exist(
     if let Verdict::Refused { number, place } = verdict {
         return Existence::Refused { number, place };
     }
-    let table = key::spread_table();
+    let table = blocks::spread_table();
     seek(&table, m, keys, classes, window, class, border)
 }

@@ -55,7 +55,7 @@ pub fn first_seen(table: &[u32; 256], m: u32, keys: &[u32]) -> Seen
     if keys[0] != 0 {
         return none;
     }
-    let whole = near_to(0, 0, key::pow5(table, m));
+    let whole = near_to(0, 0, blocks::pow5(table, m));
     seen_with(none.run, whole, none.other)
 }
 
@@ -92,7 +92,7 @@ pub fn look_up(table: &[u32; 256], m: u32, keys: &[u32], key: u32, i: u32, seen:
             return seen_with(run, near, other);
         }
         let from = keys[run.first as usize];
-        let around = near_to(run.first, from, from + key::pow5(table, reach));
+        let around = near_to(run.first, from, from + blocks::pow5(table, reach));
         return seen_with(run, around, near);
     }
     seen_with(runs::inside(first, count, i), near, other)

@@ -29,7 +29,7 @@ pub fn open(
     if let Verdict::Refused { number, place } = verdict {
         return Opened::Refused { number, place };
     }
-    let table = key::spread_table();
+    let table = blocks::spread_table();
     let most = 12 * ((window.w as usize) + (window.h as usize));
     if out.len() < most {
         let counted = openings::pass(&table, m, m, keys, window, border, &mut out[..0]);

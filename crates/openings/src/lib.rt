@@ -58,7 +58,7 @@ pub fn next_opening(
     let mut r = at.row;
     let mut c = at.col;
     loop {
-        let next = window::next_block(window, top, r, c);
+        let next = walk::next_block(window, top, r, c);
         let Next::Block {
             row,
             col,
@@ -68,7 +68,7 @@ pub fn next_opening(
         else {
             return Found::End;
         };
-        let stepped = border::step(table, m, top, keys, window, row, col, exponent, border);
+        let stepped = step::step(table, m, top, keys, window, row, col, exponent, border);
         if let Stepped::Opened {
             key,
             first,
@@ -105,7 +105,7 @@ pub fn pass(
     requires { ⌜ (now table ≡ spreads) × Usable m top (now keys) window (length (now border)) ⌝ }
     ensures { λ r. ⌜ Passed m top (now (keys .entry)) window (now (border .entry)) (now (out .entry)) r (now (border .exit)) (now (out .exit)) ⌝ }
 {
-    border::fill(border, 0, window.w as usize, window.r0);
+    step::fill(border, 0, window.w as usize, window.r0);
     let mut at = start(window);
     let mut openings: u32 = 0;
     let mut records: u32 = 0;

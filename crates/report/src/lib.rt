@@ -43,13 +43,13 @@ pub fn report(
         return Reported::Refused { number, place };
     }
     if out.len() < 256 {
-        border::fill(border, 0, window.w as usize, window.r0 + window.h);
+        step::fill(border, 0, window.w as usize, window.r0 + window.h);
         return Reported::Refused {
             number: 8,
             place: 256,
         };
     }
-    let table = key::spread_table();
+    let table = blocks::spread_table();
     let ones = spots::ones_table();
     let digits = spots::digits_table();
     let mut totals: [u32; 256] = [0; 256];

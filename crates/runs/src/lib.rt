@@ -46,7 +46,7 @@ pub fn records_inside(
     if found == key {
         return 1;
     }
-    let end = key + key::pow5(table, i);
+    let end = key + blocks::pow5(table, i);
     if end <= found {
         return 0;
     }

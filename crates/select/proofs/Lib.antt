@@ -1,5 +1,4 @@
 mod Choices
-mod Picking
 mod Picked
 mod Blockwise
 mod Chosen

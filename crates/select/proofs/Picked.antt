@@ -1,14 +1,14 @@
 -- Selecting from one block: what `selected` says over all records is what `picked` does with the run of records that overlap the block. Where the run reaches further than the block,
 -- its only record contains it; and otherwise its records lie in the block, and the block in none but itself.
 -- Assumes nothing.
-use mathlib.Core.Path.{_≡_, refl, sym, ap, _∙_}
+use mathlib.Core.Path.{_≡_, sym, ap, _∙_}
 use mathlib.Core.Bool.{true, false}
 use mathlib.Core.List.{List, [], _∷_, map, List·Memᴰ}
 use Prim.Native.Nat.{ℕ, _^_, _≤_, _<_}
 use native.Mathlib.Decide.{decLt, ℕ-discrete}
 use native.Mathlib.Omega.{arith}
 use lib.ListN.{length, getD}
-use borrow.Author.Tests.{eqb-true, eq-eqb, lt-ltb, le-ltb}
+use borrow.Author.Tests.{eqb-true, eq-eqb}
 use Rattle.lists.specs.Lists.{upFrom, keep}
 use Rattle.lists.proofs.Laws.{refuted, agree, up-in, keep-none, keep-same, keep-run}
 use Rattle.key.specs.Picture.{Px}
@@ -25,25 +25,13 @@ use Rattle.map.specs.Runs as runs
 use Rattle.map.specs.Runs.{runOf}
 use Rattle.map.specs.Classes.{classed}
 use Rattle.map.proofs.Laws.{Record, Meets, record-at, block-records, found-around, Alone, reach-least, reach-within, reach-beyond}
+use Rattle.pick.specs.Picked.{pickedRun, picked}
+use Rattle.pick.proofs.Laws.{around-has, around-not, picks-one, picked-around, picked-inside, picked-run}
 use Rattle.border.specs.Step.{Corner}
-use Rattle.select.specs.Select.{inside, around, selected, pickedRun, pickedAround, picked}
-use Rattle.select.proofs.Picking.{around-has, around-not, picks-one}
+use Rattle.select.specs.Select.{inside, around, selected}
 use Rattle.select.proofs.Choices.{around-is, inside-is, selected-whole, selected-parts, Choice, whole, parts as parts-of, choice}
 
 -- ---- what is picked, by cases
-
-module _ (keys classes : List ℕ) (class key i : ℕ) (run : Run) where
-  pub picked-around : i < run .reach → picked keys classes class key i run ≡ pickedAround classes class key (run .first)
-  unfolding picked
-  picked-around l = rw (lt-ltb i (run .reach) l)
-
-  pub picked-inside : run .reach ≤ i → picked keys classes class key i run ≡ pickedRun keys classes class (run .first) (run .count)
-  unfolding picked
-  picked-inside l = rw (le-ltb i (run .reach) l)
-
-picked-run : (keys classes : List ℕ) (class first count : ℕ) → pickedRun keys classes class first count ≡ map (λ n. getD keys n 0) (keep (classed classes class) (upFrom first count))
-unfolding pickedRun
-picked-run keys classes class first count = refl
 
 -- ---- the law
 

@@ -19,14 +19,16 @@ use Rattle.window.proofs.Laws.{walked-first, walked-next, walked-last, walked-s
 use Rattle.map.specs.declared.Run.{Run}
 use Rattle.map.specs.Runs.{runOf, BlockOf}
 use Rattle.map.proofs.Laws.{Alone, reach-beyond}
+use Rattle.pick.specs.Picked.{picked, pickedAround, Overlapped}
+use Rattle.pick.proofs.Laws.{picked-around}
 use Rattle.near.specs.declared.Near.{Near}
 use Rattle.near.specs.declared.Seen.{Seen}
 use Rattle.near.specs.Near.{seen, LiesIn, Known}
 use Rattle.border.specs.Step.{Corner}
 use Rattle.border.proofs.Laws.{met-room, block-key}
 use Rattle.used.specs.Used.{Usable}
-use Rattle.select.specs.Select.{selected, picked, pickedAround, Overlapped, selection}
-use Rattle.select.proofs.Picked.{picked-around, block-selected}
+use Rattle.select.specs.Select.{selected, selection}
+use Rattle.select.proofs.Picked.{block-selected}
 use Rattle.select.proofs.Blockwise.{all-none, selectedBy, selection-is, selected-snoc, selected-room}
 use Rattle.select.proofs.Selection.{selection-fits}
 

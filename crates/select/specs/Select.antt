@@ -2,15 +2,13 @@
 -- Assumes nothing.
 use mathlib.Core.Bool.{Bool, cond, _&&_}
 use mathlib.Core.List.{List, [], _∷_, _++_, map}
-use Prim.Native.Nat.{ℕ, _+_, _≤_, _<_}
-use lib.Dec.{ltb}
+use Prim.Native.Nat.{ℕ, _+_}
 use lib.ListN.{length, getD}
 use Rattle.lists.specs.Lists.{upFrom, any, keep}
 use Rattle.answers.specs.After.{After, roomFor}
 use Rattle.key.specs.Form.{formOf}
 use Rattle.window.specs.declared.Window.{Window}
 use Rattle.window.specs.Keys.{keysOf}
-use Rattle.map.specs.declared.Run.{Run}
 use Rattle.map.specs.Spans.{within}
 use Rattle.map.specs.Classes.{classed}
 use Rattle.used.specs.Used.{usedFor}
@@ -40,26 +38,6 @@ module _ (m : ℕ) (keys classes : List ℕ) (class : ℕ) where
 -- the keys to select: those of the window's maximal blocks, in their order
 unfoldable pub selection : ℕ → ℕ → List ℕ → List ℕ → Window → ℕ → List ℕ
 selection m top keys classes W class = allSelected m keys classes class (keysOf m top W)
-
--- ---- the same by the run of records that overlap a block
-
--- the key of a block that lies in record n, if the record has the class
-unfoldable pub pickedAround : List ℕ → ℕ → ℕ → ℕ → List ℕ
-pickedAround classes class key n = cond (classed classes class n) (key ∷ []) []
-
-module _ (keys classes : List ℕ) (class : ℕ) where
-  -- the keys of the records of a run that have the class
-  unfoldable pub pickedRun : ℕ → ℕ → List ℕ
-  pickedRun first count = map (λ n. getD keys n 0) (keep (classed classes class) (upFrom first count))
-
-  -- of a block of this key and exponent i: a record that reaches further contains it, and otherwise those of the run lie in it
-  unfoldable pub picked : ℕ → ℕ → Run → List ℕ
-  picked key i run = cond (ltb i (run .reach)) (pickedAround classes class key (run .first)) (pickedRun (run .first) (run .count))
-
--- what the records of a block of exponent i are: records of the map, and one where they reach further
-pub record Overlapped (keys : List ℕ) (i : ℕ) (run : Run) : Type 0 where
-  pub some : i < run .reach → 1 ≤ run .count
-  pub room : run .first + run .count ≤ length keys
 
 -- ---- the call
 

@@ -1,76 +1,19 @@
 // Select: the keys of a class in a window.
 use answers::Verdict;
-use map::Run;
 use window::Next;
 use window::Window;
 ghost use mathlib.Core.Path.{_≡_};
-ghost use Prim.Native.Nat.{_+_, _≤_, _<_};
 ghost use lib.ListN.{length};
 ghost use Rattle.answers.specs.Cells.{Listed};
 ghost use Rattle.answers.specs.After.{after};
 ghost use Rattle.key.specs.Spread.{spreads};
 ghost use Rattle.used.specs.Used.{Usable};
-ghost use Rattle.select.specs.Select.{pickedRun, pickedAround, picked, Overlapped, selection, keysInto, selectOf};
+ghost use Rattle.select.specs.Select.{selection, keysInto, selectOf};
 
 // What select answers: how many keys there are, or a refusal.
 pub enum Selected {
     Done { count: u32 },
     Refused { number: u32, place: u32 },
-}
-
-// Of a block that lies in a record, lists the block's key behind n others if the record has the class. How many there are then.
-fn pick_around(classes: &[u8], class: u8, key: u32, around: usize, out: &mut [u32], n: u32) -> u32
-    requires { ⌜ (around < length (now classes)) × (n < 4294967295) ⌝ }
-    ensures { λ r. ⌜ Listed n (pickedAround (now (classes .entry)) class key around) (now (out .entry)) r (now (out .exit)) ⌝ }
-{
-    if classes[around] == class {
-        answers::put(out, n, key);
-        return n + 1;
-    }
-    n
-}
-
-// Lists the keys of the records of a run that have the class: each lies in itself.
-fn pick_run(
-    keys: &[u32],
-    classes: &[u8],
-    class: u8,
-    first: u32,
-    count: u32,
-    out: &mut [u32],
-    n: u32,
-) -> u32
-    requires { ⌜ (first + count ≤ length (now keys)) × (length (now keys) ≤ 65536) × (length (now keys) ≡ length (now classes)) × (n + count ≤ 4294967295) ⌝ }
-    ensures { λ r. ⌜ Listed n (pickedRun (now (keys .entry)) (now (classes .entry)) class first count) (now (out .entry)) r (now (out .exit)) ⌝ }
-{
-    let mut i = first as usize;
-    let end = i + (count as usize);
-    let mut k = n;
-    while i < end {
-        k = pick_around(classes, class, keys[i], i, out, k);
-        i += 1;
-    }
-    k
-}
-
-// Of a maximal block and the records that overlap it: lists its own key if it lies in a record of the class, else the keys of the records inside it that have the class.
-fn pick(
-    keys: &[u32],
-    classes: &[u8],
-    class: u8,
-    key: u32,
-    exponent: u32,
-    run: Run,
-    out: &mut [u32],
-    n: u32,
-) -> u32
-    requires { ⌜ Overlapped (now keys) exponent run × (length (now keys) ≤ 65536) × (length (now keys) ≡ length (now classes)) × (n + run .count ≤ 4294967295) ⌝ }
-    ensures { λ r. ⌜ Listed n (picked (now (keys .entry)) (now (classes .entry)) class key exponent run) (now (out .entry)) r (now (out .exit)) ⌝ }
-{
-    if exponent < run.reach {
-        return pick_around(classes, class, key, run.first as usize, out, n);
-    }
-    pick_run(keys, classes, class, run.first, run.count, out, n)
 }
 
 // Goes through the maximal blocks and lists what each has. How many keys there are; those are written for which there is room. A block in one of the two records found last is not
@@ -92,7 +35,7 @@ fn pick_all(
     let mut n: u32 = 0;
     let mut seen = near::first_seen(table, m, keys);
     loop {
-        let next = window::next_block(window, m, r, c);
+        let next = walk::next_block(window, m, r, c);
         let Next::Block {
             row,
             col,
@@ -104,18 +47,18 @@ fn pick_all(
         };
         r = row;
         c = after;
-        let key = key::block_key(table, m, exponent, row, col);
+        let key = blocks::block_key(table, m, exponent, row, col);
         if near::lies_in(seen.near, key) {
-            n = pick_around(classes, class, key, seen.near.first as usize, out, n);
+            n = pick::pick_around(classes, class, key, seen.near.first as usize, out, n);
             continue;
         }
         if near::lies_in(seen.other, key) {
             seen = near::exchanged(seen);
-            n = pick_around(classes, class, key, seen.near.first as usize, out, n);
+            n = pick::pick_around(classes, class, key, seen.near.first as usize, out, n);
             continue;
         }
         seen = near::look_up(table, m, keys, key, exponent, seen);
-        n = pick(keys, classes, class, key, exponent, seen.run, out, n);
+        n = pick::pick(keys, classes, class, key, exponent, seen.run, out, n);
     }
 }
 
@@ -163,7 +106,7 @@ pub fn select(
     if let Verdict::Refused { number, place } = verdict {
         return Selected::Refused { number, place };
     }
-    border::fill(border, 0, window.w as usize, window.r0 + window.h);
-    let table = key::spread_table();
+    step::fill(border, 0, window.w as usize, window.r0 + window.h);
+    let table = blocks::spread_table();
     list_keys(&table, m, keys, classes, window, class, out)
 }

@@ -64,7 +64,7 @@ pub fn exponent_at(ones: &[u32; 13], digits: &[u8; 16], m: u32, spot: Spot, key:
     requires { ⌜ (now ones ≡ onesTable) × TellsOnes (now digits) × (m ≤ 12) × Stands m spot ⌝ }
     ensures { λ r. ⌜ ToldFit m (spot .place) key r ⌝ }
 {
-    if spot.place == key::pow4(m) {
+    if spot.place == blocks::pow4(m) {
         return Fit::Other;
     }
     if key == spot.key {
@@ -107,7 +107,7 @@ pub fn advance(ones: &[u32; 13], m: u32, key: u32, i: u32, start: u32) -> Spot
     requires { ⌜ (now ones ≡ onesTable) × (m ≤ 12) × Names m key i start ⌝ }
     ensures { λ r. ⌜ (r .place ≡ start + 4 ^ i) × Stands m r ⌝ }
 {
-    let place = start + key::pow4(i);
+    let place = start + blocks::pow4(i);
     let top = u32::trailing_zeros(place) / 2;
     let end = key + 4 * ones[i as usize] + 1;
     Spot {

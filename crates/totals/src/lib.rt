@@ -18,11 +18,11 @@ fn shared(a: u16, n: u16, b: u16, k: u16) -> u16
     requires { ⌜ (a + n ≤ 65535) × (b + k ≤ 65535) ⌝ }
     ensures { λ r. ⌜ r ≡ shared a n b k ⌝ }
 {
-    let high = window::least(a + n, b + k);
+    let high = walk::least(a + n, b + k);
     if a < b {
-        border::ahead(high, b)
+        step::ahead(high, b)
     } else {
-        border::ahead(high, a)
+        step::ahead(high, a)
     }
 }
 
@@ -31,9 +31,9 @@ fn clipped(window: Window, e: u32, row: u16, col: u16) -> u32
     requires { ⌜ (e ≤ 12) × Inside 12 window × In window (row, col) ⌝ }
     ensures { λ r. ⌜ r ≡ clipped window e (row, col) ⌝ }
 {
-    let side = key::side(e);
-    let rows = shared(window.r0, window.h, window::floor(e, row), side);
-    let cols = shared(window.c0, window.w, window::floor(e, col), side);
+    let side = blocks::side(e);
+    let rows = shared(window.r0, window.h, walk::floor(e, row), side);
+    let cols = shared(window.c0, window.w, walk::floor(e, col), side);
     (rows as u32) * (cols as u32)
 }
 
@@ -62,7 +62,7 @@ fn gather_run(
         let at = n as usize;
         let inner = keys[at] - key;
         let e = spots::exponent_here(ones, digits, exponent, spot, inner);
-        totals[classes[at] as usize] += key::pow4(e);
+        totals[classes[at] as usize] += blocks::pow4(e);
         spot = spots::advance(ones, exponent, inner, e, spot.place);
         n += 1;
     }
@@ -124,7 +124,7 @@ pub fn add_up(
     requires { ⌜ (now table ≡ spreads) × (now ones ≡ onesTable) × TellsOnes (now digits) × Usable m m (now keys) window (length (now border)) × (length (now keys) ≡ length (now classes)) × (now counts ≡ replicate 256 0) × Follow m 0 (now keys) ⌝ }
     ensures { λ r. ⌜ (now (counts .exit) ≡ totals m (now (keys .entry)) (now (classes .entry)) window) × (now (border .exit) ≡ spent window (now (border .entry))) ⌝ }
 {
-    border::fill(border, 0, window.w as usize, window.r0);
+    step::fill(border, 0, window.w as usize, window.r0);
     let mut at = openings::start(window);
     loop {
         let found = openings::next_opening(table, m, m, keys, window, at, border);

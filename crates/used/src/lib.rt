@@ -10,11 +10,11 @@ ghost use Rattle.used.specs.Used.{useRefusals};
 pub fn usable(m: u32, keys: &[u32], classes: &[u8], window: Window, cells: usize) -> Verdict
     ensures { λ r. ⌜ r ≡ verdict (useRefusals m (now (keys .entry)) (length (now (classes .entry))) window cells) ⌝ }
 {
-    let sound = map::sound(m, keys, classes);
+    let sound = checks::sound(m, keys, classes);
     if let Verdict::Refused { number, place } = sound {
         return Verdict::Refused { number, place };
     }
-    if window::outside(m, window) {
+    if walk::outside(m, window) {
         return Verdict::Refused {
             number: 6,
             place: 0,

@@ -2,7 +2,6 @@
 // What is printed is put into bytes first, by functions whose contracts say which bytes. Which bytes are handed over, and what is written when, no contract can say.
 use libc::STDIN_FILENO;
 use libc::STDOUT_FILENO;
-ghost use mathlib.Core.Path.{_≡_};
 ghost use Prim.Native.Nat.{_≤_};
 ghost use lib.ListN.{length};
 ghost use Rattle.map.specs.Sound.{SoundMap};

@@ -1,0 +1,2 @@
+mod Picking
+pub mod Laws
