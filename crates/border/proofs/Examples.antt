@@ -29,7 +29,7 @@ gapped = 11 ∷ 20 ∷ []
 pub record Examples : Type 0 where
   -- one record over all: the first block opens it, and all others are skipped
   pub single : openings 2 2 (0 ∷ []) W ≡ made 7 0 1 ∷ []
-  -- P1's first steps: block 7 raises the cell of its column to the bottom of record 0; block 9, after block 10, is skipped
+  -- P1's first steps: block 7 pushes the cell of its column to the bottom of record 0; block 9, after block 10, is skipped
   pub step-7 : stepOf 2 2 keys W (0, 1) (0 ∷ 0 ∷ 0 ∷ []) ≡ after (stepped.Opened 7 0 1 1 0) (2 ∷ 0 ∷ 0 ∷ [])
   pub step-10 : stepOf 2 2 keys W (0, 2) (2 ∷ 0 ∷ 0 ∷ []) ≡ after (stepped.Opened 10 1 4 1 0) (2 ∷ 2 ∷ 2 ∷ [])
   pub step-9 : stepOf 2 2 keys W (1, 1) (2 ∷ 2 ∷ 2 ∷ []) ≡ after stepped.Skipped (2 ∷ 2 ∷ 2 ∷ [])
@@ -39,7 +39,7 @@ pub record Examples : Type 0 where
   pub gaps : openings 2 2 gapped W ≡ made 7 0 0 ∷ made 10 0 1 ∷ made 9 0 0 ∷ made 17 0 0 ∷ made 21 1 1 ∷ []
   -- two of them bring a record
   pub two : bringing (openings 2 2 gapped W) ≡ made 10 0 1 ∷ made 21 1 1 ∷ []
-  -- an empty block raises its own column
+  -- an empty block pushes its own column
   pub step-none : stepOf 2 2 gapped W (0, 1) (0 ∷ 0 ∷ 0 ∷ []) ≡ after (stepped.Opened 7 0 0 0 0) (1 ∷ 0 ∷ 0 ∷ [])
   -- with blocks of one pixel and no larger, P1's records 1 to 4 take an opening each, and record 6 one still
   pub pixels : openings 2 0 keys W ≡ made 7 0 1 ∷ made 11 1 1 ∷ made 12 2 1 ∷ made 13 3 1 ∷ made 14 4 1 ∷ made 17 5 1 ∷ made 21 6 1 ∷ []

@@ -19,7 +19,7 @@ use Rattle.border.specs.declared.Stepped.the-variants.{Skipped, Opened}
 use Rattle.border.specs.Cells.{pushed, closed}
 use Rattle.border.specs.Step.{reach, stepOf, Ready, Step}
 use Rattle.border.proofs.Sweep.{Out}
-use Rattle.border.proofs.Stays.{skip-iff, skips, raises}
+use Rattle.border.proofs.Stays.{skip-iff, skips, pushes}
 use Rattle.border.proofs.Overlaps.{block-key, far-is}
 use Rattle.border.proofs.Earlier.{stated-out}
 use Rattle.border.proofs.Making.{high-is, low-is, stated-made}
@@ -82,6 +82,6 @@ module _ {m top : ℕ} {keys : List ℕ} {W : Window} {b : Px} {i room : ℕ} (K
           stays = λ before later split st.
               let o = stated-out (K .given .spaced) (K .given .inside) (K .given .cap) before b later split st in
               let fresh : ¬ Out W top (pixelTile m keys) b b = λ z. omega (arith, skip-iff (K .given .inside) (tiles (K .given .spaced)) (K .corner) o .1 z) in
-              let now = raises (K .given .inside) (tiles (K .given .spaced)) (K .corner) fresh wide o in
+              let now = pushes (K .given .inside) (tiles (K .given .spaced)) (K .corner) fresh wide o in
               stated-made (K .given .spaced) (K .given .inside) (K .given .cap) before b later split st is (rw up now);
         }

@@ -26,7 +26,7 @@ use Rattle.border.specs.Cells.{pushed, closed}
 abbrev pub reach : Window → ℕ → (ℕ → ℕ → ℕ) → Px → ℕ
 reach W top ex b = max (exponent W top b) (ex (b .0) (b .1))
 
--- the cell of the corner's column decides; an opened block raises the cells of its columns, or of those of the record that contains it
+-- the cell of the corner's column decides; an opened block pushes the cells of its columns, or of those of the record that contains it
 unfoldable pub stepOf : ℕ → ℕ → List ℕ → Window → Px → List ℕ → After Stepped (List ℕ)
 stepOf m top keys W b cells =
     let key = keyOf m top W b in

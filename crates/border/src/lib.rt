@@ -1,5 +1,4 @@
 // The active border: what stands in its cells, and the laws of openings. The step stands in the crate `step`, the way from opening to opening in `openings`.
-ghost use Rattle.border.specs.Cells.{closed};
 
 // What a step answers: the block was skipped, or opened, by its key, with so many records from the first on, which reach so far; that closed so many columns.
 pub enum Stepped {

@@ -1,4 +1,4 @@
-// The digits of keys: reading one, and how far a block reaches around another. As in the crate `key`, m is at most 12.
+// The digits of keys: reading one, and how far a block reaches around another. As in the crate `blocks`, m is at most 12.
 use key::Form;
 ghost use mathlib.Core.Path.{_≡_};
 ghost use Prim.Native.Nat.{_≤_};

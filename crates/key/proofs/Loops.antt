@@ -1,4 +1,4 @@
--- What the functions of `digits` and `spots` go by: the state of their loops, and the tests that they make.
+-- What the functions of `blocks`, `digits` and `spots` go by: the state of their loops, and the tests that they make.
 -- Assumes nothing.
 pub use Rattle.key.proofs.Digits.{form-big, Reading, Left, reading-first, reading-last, reading-left, reading-gap, reading-next}
 pub use Rattle.key.proofs.Corners.{ones-pow, ones-entry, ones-listed, corner-pixel, corner-key, spread-is-ones, ones-most}

@@ -1,4 +1,4 @@
--- What the functions of `runs` and `near` go by.
+-- What the functions of `checks`, `runs` and `near` go by: the state of their loops, and the tests that they make.
 -- Assumes nothing.
 pub use Rattle.map.proofs.Halves.{between-first, between-upper, between-lower, between-last}
 pub use Rattle.map.proofs.Found.{end-here, end-own, end-later, found-none, in-order, counted, found-inside}

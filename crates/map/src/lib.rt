@@ -1,6 +1,5 @@
 // Maps: what they are, and their laws. A map may have gaps, unless it is to be whole. Of keys it knows only the laws of the crate `key`.
 use key::Spot;
-ghost use Rattle.map.specs.Runs;
 
 // What the check answers: the number of records of a sound map, or a refusal.
 pub enum Checked {

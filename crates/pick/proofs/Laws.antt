@@ -1,3 +1,3 @@
--- The laws of `pick`: all that the crates above know of it.
+-- The laws of picking: all that the crates above know of it.
 -- Assumes nothing.
 pub use Rattle.pick.proofs.Picking.{around-has, around-not, picks-one, picked-around, picked-inside, picked-run}

@@ -1,4 +1,4 @@
-// Along the keys, from block to block, without their digits. As in the crate `key`, m is at most 12.
+// Along the keys, from block to block, without their digits. As in the crate `blocks`, m is at most 12.
 use key::Fit;
 use key::Spot;
 ghost use mathlib.Core.Path.{_≡_};

@@ -6,7 +6,7 @@ use native.Mathlib.Omega.{arith}
 use borrow.Author.Needs.{needs}
 use Rattle.window.proofs.Laws.{floor-le, floor-lt}
 use Rattle.border.specs.Cells.{west, east, south}
-use Rattle.border.proofs.Loops.{raised-is, shut-none, shut-some}
+use Rattle.border.proofs.Loops.{pushed-is, shut-none, shut-some}
 use Rattle.step.proofs.push.Statement.{statement}
 use Rattle.step.proofs.push.Tie as tie
 
@@ -85,7 +85,7 @@ same-length c = search needs
 returns : tie.Need-returns
 returns c =
     let at = c .before .before .before .before .before .before in
-    (shut-none _ _ _ (value at) (c .if1 .taken), c .before .before .before .before .fill .ensures ∙ raised-is _ _ _ _ (from at) (to at) (value at))
+    (shut-none _ _ _ (value at) (c .if1 .taken), c .before .before .before .before .fill .ensures ∙ pushed-is _ _ _ _ (from at) (to at) (value at))
 
 sub-result : tie.Need-sub-result
 sub-result c = order (c .before .before .before .before .before .before)
@@ -96,7 +96,7 @@ same-length-2 c = search needs
 returns-2 : tie.Need-returns-2
 returns-2 c =
     let at = c .before .before .before .before .before .before in
-    (shut-some _ _ _ (from at) (to at) (value at) (omega (arith, c .if1 .left)), c .before .before .before .before .fill .ensures ∙ raised-is _ _ _ _ (from at) (to at) (value at))
+    (shut-some _ _ _ (from at) (to at) (value at) (omega (arith, c .if1 .left)), c .before .before .before .before .fill .ensures ∙ pushed-is _ _ _ _ (from at) (to at) (value at))
 
 pub push-spec : {M : Type 1} → statement M
 push-spec =
