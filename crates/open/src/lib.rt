@@ -32,7 +32,7 @@ pub fn open(
     let table = blocks::spread_table();
     let most = 12 * ((window.w as usize) + (window.h as usize));
     if out.len() < most {
-        let counted = openings::pass(&table, m, m, keys, window, border, &mut out[..0]);
+        let counted = passes::pass(&table, m, m, keys, window, border, &mut out[..0]);
         let needed = 3 * counted.openings;
         if out.len() < needed as usize {
             return Opened::Refused {
@@ -41,7 +41,7 @@ pub fn open(
             };
         }
     }
-    let totals = openings::pass(&table, m, m, keys, window, border, out);
+    let totals = passes::pass(&table, m, m, keys, window, border, out);
     Opened::Done {
         openings: totals.openings,
         records: totals.records,

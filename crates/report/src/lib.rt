@@ -53,7 +53,7 @@ pub fn report(
     let ones = spots::ones_table();
     let digits = spots::digits_table();
     let mut totals: [u32; 256] = [0; 256];
-    totals::add_up(
+    sums::add_up(
         &table,
         &ones,
         &digits,

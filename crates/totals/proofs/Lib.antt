@@ -4,3 +4,4 @@ mod Parts
 mod Gathers
 mod Adds
 pub mod Laws
+pub mod Loops

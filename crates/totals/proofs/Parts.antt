@@ -32,8 +32,8 @@ module _ {m : ℕ} {keys : List ℕ} {classes : ℕ} {W : Window} {b : Px} {key 
     alone : Alone m keys key i (place (b .0) (b .1))
     alone = reach-beyond (H .given .spaced) named (rw (H .found) l)
 
-    pub hands-one : count ≡ 1
-    hands-one = rw (H .found) at (alone .one)
+    pub hands-alone : count ≡ 1
+    hands-alone = rw (H .found) at (alone .one)
 
     pub hands-small : far ≤ m
     hands-small = rw (H .found) at (block-lies (alone .is .names) .small)

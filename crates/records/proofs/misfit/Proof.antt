@@ -1,4 +1,4 @@
--- `checks::misfit` meets its contract: the key's form says which of the record's refusals holds.
+-- `records::misfit` meets its contract: the key's form says which of the record's refusals holds.
 -- Assumes nothing.
 use mathlib.Core.Path.{_≡_, sym, _∙_}
 use Prim.Native.Nat.{ℕ, _<_}
@@ -9,8 +9,8 @@ use Rattle.key.specs.Blocks.{Names}
 use Rattle.key.proofs.Laws.{fits-other}
 use Rattle.map.specs.Walk.{behind, refused}
 use Rattle.map.proofs.Loops.{step-malformed, step-early, step-late, late-is}
-use Rattle.checks.proofs.misfit.Statement.{statement}
-use Rattle.checks.proofs.misfit.Tie as tie
+use Rattle.records.proofs.misfit.Statement.{statement}
+use Rattle.records.proofs.misfit.Tie as tie
 
 read-key-requires : tie.Need-read-key-requires
 read-key-requires c κs = search needs

@@ -1,4 +1,4 @@
--- `totals::clipped` meets its contract.
+-- `gather::clipped` meets its contract.
 -- Assumes nothing.
 use mathlib.Core.Path.{_≡_, ap₂, _∙_}
 use Prim.Native.Nat.{_*_, _^_}
@@ -8,10 +8,10 @@ use Rattle.key.specs.Picture.{Px}
 use Rattle.window.specs.declared.Window.{Window}
 use Rattle.window.specs.Blocks.{floor}
 use Rattle.window.proofs.Laws.{floor-le}
 use Rattle.totals.specs.Gather.{shared, clipped}
-use Rattle.totals.proofs.Areas.{clipped-most}
-use Rattle.totals.proofs.clipped.Statement.{statement}
-use Rattle.totals.proofs.clipped.Tie as tie
+use Rattle.totals.proofs.Loops.{clipped-most}
+use Rattle.gather.proofs.clipped.Statement.{statement}
+use Rattle.gather.proofs.clipped.Tie as tie
 
 side-requires : tie.Need-side-requires
 side-requires c κs = search needs

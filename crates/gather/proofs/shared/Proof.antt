@@ -1,10 +1,10 @@
--- `totals::shared` meets its contract.
+-- `gather::shared` meets its contract.
 -- Assumes nothing.
 use native.Mathlib.Omega.{arith}
 use borrow.Author.Needs.{needs}
 use Rattle.totals.specs.Gather.{shared}
-use Rattle.totals.proofs.shared.Statement.{statement}
-use Rattle.totals.proofs.shared.Tie as tie
+use Rattle.gather.proofs.shared.Statement.{statement}
+use Rattle.gather.proofs.shared.Tie as tie
 
 add-least : tie.Need-add-least
 add-least c = search needs

@@ -1,4 +1,4 @@
--- `totals::gather_run` meets its contract. The invariant is `Adding`, for whatever window the records fill a block of, and that the walk through the block stands where record n
+-- `gather::gather_run` meets its contract. The invariant is `Adding`, for whatever window the records fill a block of, and that the walk through the block stands where record n
 -- starts; the measure is the number of records left.
 -- Assumes nothing.
 use mathlib.Core.Path.{_≡_}
@@ -12,11 +12,10 @@ use Rattle.key.proofs.Laws.{block-lies}
 use Rattle.window.specs.declared.Window.{Window}
 use Rattle.window.proofs.Laws.{inside-12}
 use Rattle.map.proofs.Laws.{Inner}
 use Rattle.totals.specs.Gather.{area, Fills, Gathering}
-use Rattle.totals.proofs.Parts.{fills-small, fills-first, fills-key, fills-within, fills-begins, fills-area, fills-next}
-use Rattle.totals.proofs.Gathers.{Adding, adding-first, adding-most, adding-next, adding-last}
-use Rattle.totals.proofs.gather_run.Statement.{statement}
-use Rattle.totals.proofs.gather_run.Tie as tie
+use Rattle.totals.proofs.Loops.{fills-small, fills-first, fills-key, fills-within, fills-begins, fills-area, fills-next, Adding, adding-first, adding-most, adding-next, adding-last}
+use Rattle.gather.proofs.gather_run.Statement.{statement}
+use Rattle.gather.proofs.gather_run.Tie as tie
 
 abbrev Inv-loop : tie.InvT-loop
 Inv-loop ones digits m keys classes key exponent first count totals₀ end spot₀ n₀ totals spot n =

@@ -1,11 +1,11 @@
--- `checks::ended` meets its contract.
+-- `records::ended` meets its contract.
 -- Assumes nothing.
 use mathlib.Core.Path.{sym}
 use native.Mathlib.Omega.{arith}
 use borrow.Author.Needs.{needs}
 use Rattle.map.proofs.Loops.{step-short, step-full, late-is, late-not, late-never}
-use Rattle.checks.proofs.ended.Statement.{statement}
-use Rattle.checks.proofs.ended.Tie as tie
+use Rattle.records.proofs.ended.Statement.{statement}
+use Rattle.records.proofs.ended.Tie as tie
 
 pow4-requires : tie.Need-pow4-requires
 pow4-requires c κs = search needs

@@ -1,4 +1,4 @@
--- `totals::gather` meets its contract. A record that reaches beyond the block is added in one step of `Adding`, those that fill it are those of `gather_run`.
+-- `gather::gather` meets its contract. A record that reaches beyond the block is added in one step of `Adding`, those that fill it are those of `gather_run`.
 -- Assumes nothing.
 use mathlib.Core.Path.{_≡_, sym, _∙_}
 use Prim.Native.Nat.{_<_}
@@ -7,11 +7,10 @@ use lib.ListN.{getD}
 use borrow.Author.Needs.{needs}
 use Rattle.key.specs.Blocks.{Among}
 use Rattle.window.proofs.Laws.{inside-12}
 use Rattle.totals.specs.Gather.{area}
-use Rattle.totals.proofs.Parts.{hands-one, hands-small, hands-single, hands-fill}
-use Rattle.totals.proofs.Gathers.{adding-first, adding-most, adding-next, adding-last}
-use Rattle.totals.proofs.gather.Statement.{statement}
-use Rattle.totals.proofs.gather.Tie as tie
+use Rattle.totals.proofs.Loops.{hands-alone, hands-small, hands-single, hands-fill, adding-first, adding-most, adding-next, adding-last}
+use Rattle.gather.proofs.gather.Statement.{statement}
+use Rattle.gather.proofs.gather.Tie as tie
 
 -- where a record reaches beyond the block
 module _ (c : tie.Then1) where
@@ -19,7 +18,7 @@ module _ (c : tie.Then1) where
   start = c .before .before .before
 
   one : start .args .count ≡ 1
-  one = hands-one (start .pre .2) (c .if1 .taken)
+  one = hands-alone (start .pre .2) (c .if1 .taken)
 
   only : Among (start .args .first) (start .args .count) (start .args .first)
   only = omega (arith, one)

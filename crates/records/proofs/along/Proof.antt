@@ -1,4 +1,4 @@
--- `checks::along` meets its contract. The invariant is `GoesAlong`, but for its end, and the measure the number of records left.
+-- `records::along` meets its contract. The invariant is `GoesAlong`, but for its end, and the measure the number of records left.
 -- Assumes nothing.
 use mathlib.Core.Bool.{Bool}
 use Prim.Native.Nat.{_-_, _≤_}
@@ -10,8 +10,8 @@ use Rattle.key.specs.Along.{Stands}
 use Rattle.key.proofs.Laws.{fits-block}
 use Rattle.map.specs.Walk.{CheckedTo}
 use Rattle.map.proofs.Loops.{late-not, walked-next}
-use Rattle.checks.proofs.along.Statement.{statement}
-use Rattle.checks.proofs.along.Tie as tie
+use Rattle.records.proofs.along.Statement.{statement}
+use Rattle.records.proofs.along.Tie as tie
 
 abbrev Inv-loop : tie.InvT-loop
 Inv-loop ones digits m keys n spot₀ next₀ spot next =

@@ -1,4 +1,4 @@
--- `totals::add_up` meets its contract. The invariant is `Totalling`, the measure the number of openings left.
+-- `sums::add_up` meets its contract. The invariant is `Totalling`, the measure the number of openings left.
 -- Assumes nothing.
 use mathlib.Core.Path.{_∙_}
 use native.Mathlib.Omega.{arith}
@@ -6,9 +6,9 @@ use lib.ListN.{length}
 use borrow.Author.Needs.{needs}
 use Rattle.border.specs.Found.{walkMakes, spot}
 use Rattle.border.proofs.Laws.{fresh-same, fresh-usable, fresh-spent, finding-first, finding-usable, finding-last, Opens, finds-opens}
-use Rattle.totals.proofs.Adds.{Totalling, totalling-first, totalling-hands, totalling-once, totalling-next, totalling-last}
-use Rattle.totals.proofs.add_up.Statement.{statement}
-use Rattle.totals.proofs.add_up.Tie as tie
+use Rattle.totals.proofs.Loops.{Totalling, totalling-first, totalling-hands, totalling-once, totalling-next, totalling-last}
+use Rattle.sums.proofs.add_up.Statement.{statement}
+use Rattle.sums.proofs.add_up.Tie as tie
 
 abbrev Inv-loop : tie.InvT-loop
 Inv-loop table ones digits m keys classes window border₀ counts₀ at₀ border counts at = Totalling m keys classes window border₀ border counts at

@@ -1,4 +1,4 @@
--- `checks::records` meets its contract. The invariant is `CheckedTo`, with what is kept of the place reached, and the measure the number of records left.
+-- `records::records` meets its contract. The invariant is `CheckedTo`, with what is kept of the place reached, and the measure the number of records left.
 -- Assumes nothing.
 use mathlib.Core.Path.{_≡_, sym, _∙_}
 use mathlib.Core.Bool.{false}
@@ -11,8 +11,8 @@ use Rattle.key.specs.Along.{onesTable, Stands}
 use Rattle.map.specs.declared.Gone.{Gone}
 use Rattle.map.specs.Walk.{CheckedTo}
 use Rattle.map.proofs.Loops.{late-never, walked-first, walked-here, walked-next, walked-end, taken-behind, taken-refused}
-use Rattle.checks.proofs.records.Statement.{statement}
-use Rattle.checks.proofs.records.Tie as tie
+use Rattle.records.proofs.records.Statement.{statement}
+use Rattle.records.proofs.records.Tie as tie
 
 abbrev Inv-loop : tie.InvT-loop
 Inv-loop m keys whole ones digits spot₀ n₀ spot n = CheckedTo whole m keys (spot .place) n × Stands m spot
