@@ -1,6 +1,6 @@
 -- Digits 1: E of as many bits, and what is between the key of a block and that of its first pixel, its corner.
 -- Assumes nothing.
-use mathlib.Core.Path.{_≡_, sym, ap, ap₂, _∙_}
+use mathlib.Core.Path.{_≡_, refl, sym, ap, ap₂, _∙_}
 use mathlib.Core.List.{List, [], _∷_}
 use Prim.Native.Nat.{ℕ, zero, suc, _+_, _-_, _*_, _/_, _^_, _≤_}
 use native.Mathlib.Nat.{pow-suc, zero-add, zero-mul, mul-div-cancel, div-mul-le-self, pow-le-pow-right}
@@ -9,7 +9,7 @@ use lib.Dec.{lit<}
 use lib.ListN.{getD}
 use lib.Pow.{pow-pos}
 use Rattle.lists.proofs.Laws.{table-entry, table-written}
-use Rattle.key.specs.Spread.{spread}
+use Rattle.key.specs.Spread.{spread, E}
 use Rattle.key.specs.Picture.{Pixel}
 use Rattle.key.specs.Key.{pixelKey, blockKey, ones}
 use Rattle.key.specs.Along.{onesTable}
@@ -22,6 +22,11 @@ use Rattle.key.proofs.Pixels.{ones as ones-sum, corner-place, pixel-at,
 pub ones-pow : (k : ℕ) → 4 * ones k + 1 ≡ 5 ^ k
 unfolding ones
 ones-pow k = ones-sum k
+
+-- a pixel's key, by the digits 1 that it has at least
+pub pixel-key-ones : (m r c : ℕ) → pixelKey m r c ≡ ones m + 2 * E r + E c
+unfolding pixelKey ones
+pixel-key-ones m r c = refl
 
 pub ones-most : (i m : ℕ) → i ≤ m → 4 * ones i + 1 ≤ 5 ^ m
 ones-most i m h = omega (arith, ones-pow i, pow-le-pow-right {n = 5} (lit< tt) {i = i} {j = m} h)

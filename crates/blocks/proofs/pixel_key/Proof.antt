@@ -6,7 +6,7 @@ use borrow.Author.Needs.{needs}
 use Rattle.key.specs.Spread.{spread}
 use Rattle.key.specs.Picture.{Pixel}
 use Rattle.key.specs.Key.{pixelKey, ones}
-use Rattle.key.proofs.Loops.{spread-lt, larger, ones-most}
+use Rattle.key.proofs.Loops.{spread-lt, larger, pixel-key-ones, ones-most}
 use Rattle.blocks.proofs.pixel_key.Statement.{statement}
 use Rattle.blocks.proofs.pixel_key.Tie as tie
 
@@ -39,8 +39,7 @@ add-result-2 : tie.Need-add-result-2
 add-result-2 c = omega (arith, small (c .before .before .before), digits (c .before .before .before))
 
 returns : tie.Need-returns
-unfolding pixelKey ones
-returns c = omega arith
+returns c = let s = c .before .before .before in omega (arith, pixel-key-ones (s .args .m) (s .args .row) (s .args .col))
 
 pub pixel-key-spec : {M : Type 1} → statement M
 pixel-key-spec =

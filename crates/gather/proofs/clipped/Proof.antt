@@ -1,6 +1,6 @@
 -- `gather::clipped` meets its contract.
 -- Assumes nothing.
-use mathlib.Core.Path.{_≡_, ap₂, _∙_}
+use mathlib.Core.Path.{_≡_, sym, ap₂, _∙_}
 use Prim.Native.Nat.{_*_, _^_}
 use native.Mathlib.Omega.{arith}
 use borrow.Author.Needs.{needs}
@@ -9,7 +9,7 @@ use Rattle.window.specs.declared.Window.{Window}
 use Rattle.window.specs.Blocks.{floor}
 use Rattle.window.proofs.Laws.{floor-le}
 use Rattle.totals.specs.Gather.{shared, clipped}
-use Rattle.totals.proofs.Loops.{clipped-most}
+use Rattle.totals.proofs.Loops.{clipped-is, clipped-most}
 use Rattle.gather.proofs.clipped.Statement.{statement}
 use Rattle.gather.proofs.clipped.Tie as tie
 
@@ -59,8 +59,7 @@ module _ (c : tie.After-shared2) where
   cols = c .shared2 .ensures ∙ ap₂ (shared (W .c0) (W .w)) (c .before .floor2 .ensures) (sided .side .ensures .is)
 
   product : c .before .before .shared .result * c .shared2 .result ≡ clipped W (start .args .e) pixel
-  unfolding clipped
-  product = ap₂ _*_ rows cols
+  product = ap₂ _*_ rows cols ∙ sym (clipped-is W (start .args .e) pixel)
 
 mul-result : tie.Need-mul-result
 mul-result c = omega (arith, product c, clipped-most (W c) (start c .args .e) (pixel c) (start c .pre .0))
