@@ -39,7 +39,7 @@ pub record Corner (W : Window) (top : ℕ) (b : Px) : Type 0 where
   pub inside : In W b
   pub own : corner W top b ≡ b
 
--- and one of the window's maximal blocks, by corner and exponent: what a step may take for granted
+-- what a step may take for granted: a map and a window that can be used, and one of the window's maximal blocks, by corner and exponent
 pub record Ready (m top : ℕ) (keys : List ℕ) (W : Window) (b : Px) (i cells : ℕ) : Type 0 where
   pub given : Usable m top keys W cells
   pub corner : Corner W top b

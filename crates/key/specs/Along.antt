@@ -12,7 +12,7 @@ use Rattle.key.specs.declared.Fit.the-variants.{Block, Other}
 use Rattle.key.specs.Key.{ones}
 use Rattle.key.specs.Blocks.{Names}
 
--- the table of them
+-- digits 1, as many as an exponent says, by a table
 unfoldable pub onesTable : List ℕ
 onesTable = map ones (upFrom 0 13)
 

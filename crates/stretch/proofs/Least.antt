@@ -1,5 +1,5 @@
--- No fewer blocks make up a set than its maximalIn blocks, and as many only if they are these. A block that has the first place of a maximalIn block lies in it; so the blocks of
--- another list are no fewer, and where they are as many, each is all of its maximalIn block.
+-- No fewer blocks make up a set than its maximal blocks, and as many only if they are these. A block that has the first place of a maximal block lies in it; so the blocks of
+-- another list are no fewer, and where they are as many, each is all of its maximal block.
 -- Assumes nothing.
 use mathlib.Core.Path.{_≡_, sym, _∙_, subst}
 use mathlib.Core.Bool.{Bool, true}
@@ -18,7 +18,7 @@ use Rattle.stretch.proofs.Around.{first, lies-first, first-among}
 use Rattle.stretch.proofs.Listed.{listed, maximal-rising, one-first, named, fewest-in, fewest-rising}
 
 module _ (m : ℕ) (P : ℕ → Bool) (low : (q : ℕ) → P q ≡ true → q < 4 ^ m) (a n : ℕ) {ks : List ℕ} (M : MakesUp m P ks) where
-  -- a block of the list that has the first place of a maximalIn block
+  -- a block of the list that has the first place of a maximal block
   Begins : ℕ → ℕ → Type 0
   Begins s k = LiesInSet m P k × Has m s k
 
@@ -34,13 +34,13 @@ module _ (m : ℕ) (P : ℕ → Bool) (low : (q : ℕ) → P q ≡ true → q < 
   unfolding fewest
   fewest-least = rw (length-map (maximalIn m P a n) (keyFrom m P)) (pigeon Begins ks (rising-distinct (maximal-rising m P a n)) begins one)
 
-  -- as many, and each is all of a maximalIn block
+  -- as many, and each is all of a maximal block
   module _ (few : length ks ≤ length (fewest m P a n)) where
     each : (k : ℕ) → List·Memᴰ k ks → (s : ℕ) × List·Memᴰ s (maximalIn m P a n) × Begins s k
     unfolding fewest
     each = pigeon-onto Begins ks (rising-distinct (maximal-rising m P a n)) begins one (rw (length-map (maximalIn m P a n) (keyFrom m P)) at few)
 
-    -- the one that has the last place of a maximalIn block has its first too
+    -- the one that has the last place of a maximal block has its first too
     whole : (s : ℕ) → List·Memᴰ s (maximalIn m P a n) → (k : ℕ) × List·Memᴰ k ks × LiesInSet m P k × Has m s k × Has m (s + (4 ^ exponentIn m P s - 1)) k
     unfolding Begins
     whole s l =

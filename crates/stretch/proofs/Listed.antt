@@ -1,4 +1,4 @@
--- The maximalIn blocks of a set: what is listed, in which order, and that the list makes up the set.
+-- The maximal blocks of a set: what is listed, in which order, and that the list makes up the set.
 -- Assumes nothing.
 use mathlib.Core.Path.{_≡_, refl, sym, ap, _∙_}
 use mathlib.Core.Logic.{_↔_}
@@ -65,7 +65,7 @@ module _ (m : ℕ) (P : ℕ → Bool) where
         largest = λ j l k f. omega (arith, exponent-max m P k (record { all = f }));
       })
 
-  -- two places of a block that lies in the set have one maximalIn block
+  -- two places of a block that lies in the set have one maximal block
   pub one-first : {k x y : ℕ} → LiesInSet m P k → Has m x k → Has m y k → (first m P x ≡ first m P y) × (exponentIn m P x ≡ exponentIn m P y)
   one-first {k} {x} {y} L hx hy =
       let j : ℕ = L .exponent in
@@ -91,7 +91,7 @@ module _ (m : ℕ) (P : ℕ → Bool) where
     key-lies : {s : ℕ} → P s ≡ true → first m P s ≡ s → LiesInSet m P (keyFrom m P s)
     key-lies {s} v e = record { exponent = exponentIn m P s; start = s; names = named v e; inside = λ q h. exponent-fits m P v .all q (rw e h) }
 
-    -- it has the places whose maximalIn block it is
+    -- it has the places whose maximal block it is
     key-has : {q s : ℕ} → P q ≡ true → first m P q ≡ s → Has m q (keyFrom m P s)
     key-has {q} {s} v e =
         let f = first-in m P v in

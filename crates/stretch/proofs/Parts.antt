@@ -1,4 +1,4 @@
--- A part of a set in which no maximalIn block of the set is cut has the same blocks there. No block crosses a cut, a place where one of two neighbours is not in the set.
+-- A part of a set in which no maximal block of the set is cut has the same blocks there. No block crosses a cut, a place where one of two neighbours is not in the set.
 -- Assumes nothing.
 use mathlib.Core.Path.{_≡_, sym, ap, _∙_, subst}
 use mathlib.Core.Bool.{Bool, true, false}
@@ -37,7 +37,7 @@ module _ (m : ℕ) (P : ℕ → Bool) where
   pub not-start : {q : ℕ} → P q ≡ false → starts m P q ≡ false
   not-start {q} e = refuted _ (λ s. never (sym (starts-is m P q .0 s .0) ∙ e))
 
--- ---- a part of a set in which no maximalIn block of the set is cut
+-- ---- a part of a set in which no maximal block of the set is cut
 
 pub record Part (m : ℕ) (P Q : ℕ → Bool) (x y : ℕ) : Type 0 where
   pub less : (q : ℕ) → Q q ≡ true → P q ≡ true

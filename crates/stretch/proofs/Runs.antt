@@ -1,4 +1,4 @@
--- NextRun by run: the fewest blocks of a set are those of its maximalIn runs, one after another.
+-- Run by run: the fewest blocks of a set are those of its maximal runs, one after another.
 -- Assumes nothing.
 use mathlib.Core.Path.{_≡_, refl, _∙_}
 use mathlib.Core.Logic.{_⊎_, inl, inr}
