@@ -1,4 +1,4 @@
--- What is printed before the first window, and how long a file is, computed from the definitions. P1's map has m = 2 and the keys 5, 11, 12, 13, 14, 15, 20.
+-- What is printed before the first window, and how long a file is, computed from the definitions.
 -- Assumes nothing.
 use mathlib.Core.Path.{_≡_, refl}
 use mathlib.Core.List.{List, [], _∷_}
@@ -6,6 +6,7 @@ use Prim.Native.Nat.{ℕ}
 use lib.ListN.{take}
 use Rattle.answers.specs.Refusals.{answer}
 use Rattle.answers.specs.Sizes.{wrongCount, sizeRefusals, pictureRefusals, countRefusals}
+use Rattle.answers.proofs.P1.{keys, classes}
 use Rattle.key.specs.Form.{from, formOf}
 use Rattle.map.specs.Spans as spans
 use Rattle.map.specs.Check.{late, refusalsFrom, mapRefusals}
@@ -14,12 +15,6 @@ use Rattle.house.specs.File.{header, fileOf, layoutRefusals, fileM, fileQ, read
 use Rattle.text.specs.Text.{digits, digitsOf, spaced, lineOf}
 use Rattle.input.specs.Input.{announcedOf, wholeOf}
 use Rattle.beginning.specs.Beginning.{mapText, startRefusals, startText, fileIn}
-
-abbrev keys : List ℕ
-keys = 5 ∷ 11 ∷ 12 ∷ 13 ∷ 14 ∷ 15 ∷ 20 ∷ []
-
-abbrev classes : List ℕ
-classes = 1 ∷ 2 ∷ 2 ∷ 3 ∷ 1 ∷ 1 ∷ 2 ∷ []
 
 abbrev file : List ℕ
 file = fileOf 2 keys classes

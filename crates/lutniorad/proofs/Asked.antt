@@ -41,7 +41,8 @@ use Rattle.lutniorad.proofs.Using.{used-crossed, used-says, used-number
 one-not-zero : values 1 0 ≡ values 0 0 → ⊥
 one-not-zero e = let d : _≡_ {A = ℕ} 1 0 = ap (λ (x : Answer). x .first) e in omega arith
 
-module _ (m : ℕ) (keys classes : List ℕ) (W : Window) (class : ℕ) (border : List ℕ) {border′ : List ℕ} {r : Answer} (call : Exist m keys classes W class border r border′) (z : r .refusal ≡ 0) where
+module _ (m : ℕ) (keys classes : List ℕ) (W : Window) (class : ℕ) (border : List ℕ) {border′ : List ℕ} {r : Answer}
+    (call : Exist m keys classes W class border r border′) (z : r .refusal ≡ 0) where
   pub exist-promise : ExistPromise m keys classes W class border r border′
   exist-promise =
       let passed = use-answerable m keys (length classes) W (length border) .1 (exist-answered m keys classes W class border call .0 z) in

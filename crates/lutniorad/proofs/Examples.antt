@@ -8,6 +8,7 @@ use Rattle.answers.specs.Refusals.{answer}
 use Rattle.answers.specs.Sizes.{wrongCount, sizeRefusals, pictureRefusals, countRefusals}
 use Rattle.answers.specs.Cells.{overwrite}
 use Rattle.answers.specs.After.{roomRefusals, roomFor}
+use Rattle.answers.proofs.P1.{keys, classes, old}
 use Rattle.key.specs.Spread.{spreadTo, spread}
 use Rattle.key.specs.Picture.{place}
 use Rattle.key.specs.Key.{pixelKey, blockKey}
@@ -15,6 +16,7 @@ use Rattle.key.specs.Form.{from, formOf}
 use Rattle.window.specs.Window.{beyond, outside, windowRefusals}
 use Rattle.window.specs.Blocks.{floor, lies, fits, exponent, corner, across, rows, isCorner, maximal}
 use Rattle.window.specs.Keys.{keyOf, keysOf}
+use Rattle.window.proofs.P1.{W}
 use Rattle.decompose.specs.Decompose.{decomposeRefusals, decomposeOf}
 use Rattle.map.specs.Spans as spans
 use Rattle.map.specs.Spans.{within}
@@ -28,7 +30,6 @@ use Rattle.open.specs.Open.{openOf}
 use Rattle.lutniorad.specs.Numbers.{values}
 use Rattle.lutniorad.specs.Calls.{Decompose, Open}
 use Rattle.lutniorad.specs.Promises.{DecomposePromise, OpenPromise}
-use Rattle.lutniorad.proofs.Table.{keys, classes, W, old}
 use Rattle.lutniorad.proofs.Promised.{decompose-promise, open-promise}
 
 abbrev cells : List ℕ

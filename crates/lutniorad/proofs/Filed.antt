@@ -27,7 +27,8 @@ module _ (file keys classes : List ℕ) {keys′ classes′ : List ℕ} {r : Ans
       }
 
   -- what was read, written again where there is room, gives the same bytes
-  pub read-write : Below 256 file → (out : List ℕ) {out′ : List ℕ} {s : Answer} → Write (r .first) (take (r .second) keys′) (take (r .second) classes′) out s out′ → length file ≤ length out
+  pub read-write : Below 256 file → (out : List ℕ) {out′ : List ℕ} {s : Answer}
+      → Write (r .first) (take (r .second) keys′) (take (r .second) classes′) out s out′ → length file ≤ length out
       → (s ≡ values (length file) 0) × (out′ ≡ overwrite file out)
   read-write low out again room =
       let p = read-promise in
@@ -49,7 +50,8 @@ module _ (m : ℕ) (keys classes out : List ℕ) {out′ : List ℕ} {r : Answer
       }
 
   -- what was written, read again where there is room, gives the same map
-  pub write-read : Below (2 ^ 32) keys → (ks cs : List ℕ) {ks′ cs′ : List ℕ} {s : Answer} → Read (take (r .first) out′) ks cs s ks′ cs′ → length keys ≤ length ks → length keys ≤ length cs
+  pub write-read : Below (2 ^ 32) keys → (ks cs : List ℕ) {ks′ cs′ : List ℕ} {s : Answer}
+      → Read (take (r .first) out′) ks cs s ks′ cs′ → length keys ≤ length ks → length keys ≤ length cs
       → (s ≡ values m (length keys)) × (ks′ ≡ overwrite keys ks) × (cs′ ≡ overwrite classes cs)
   write-read small ks cs again k l =
       let p = write-promise in

@@ -84,7 +84,8 @@ decompose-promise m W out call z =
     }
 
 -- 4 (w + h) cells are always enough
-pub decompose-enough : (m : ℕ) (W : Window) (out : List ℕ) {out′ : List ℕ} {r : Answer} → Decompose m W out r out′ → m ≤ 12 → Inside m W → 4 * (W .w + W .h) ≤ length out → r .refusal ≡ 0
+pub decompose-enough : (m : ℕ) (W : Window) (out : List ℕ) {out′ : List ℕ} {r : Answer}
+    → Decompose m W out r out′ → m ≤ 12 → Inside m W → 4 * (W .w + W .h) ≤ length out → r .refusal ≡ 0
 decompose-enough m W out call l I room = decompose-answered m W out call .1 (l, I, omega (arith, keys-length m m W, blocks-few W m I))
 
 -- ---- opening

@@ -1,8 +1,7 @@
 -- The checked examples P1 to P12, as one table under a single claim, computed from the definitions. P1's printed text is computed by the window program's definitions, and run.
 -- Assumes nothing.
 use mathlib.Core.Path.{_≡_, refl}
-use mathlib.Core.List.{List, [], _∷_, _++_}
-use Prim.Native.Nat.{ℕ}
+use mathlib.Core.List.{[], _∷_, _++_}
 use lib.ListN.{length, take, drop, replicate}
 use Rattle.lists.specs.Lists.{upFrom, any, keep, before, howMany, greatest}
 use Rattle.answers.specs.declared.Verdict.the-variants as verdict-of
@@ -10,14 +9,15 @@ use Rattle.answers.specs.Refusals.{answer, verdict}
 use Rattle.answers.specs.Sizes.{wrongCount, sizeRefusals, pictureRefusals, countRefusals}
 use Rattle.answers.specs.Cells.{overwrite}
 use Rattle.answers.specs.After.{after, roomRefusals, roomFor}
+use Rattle.answers.proofs.P1.{keys, classes, old}
 use Rattle.key.specs.Spread.{spreadTo, spread}
 use Rattle.key.specs.Picture.{place}
 use Rattle.key.specs.Key.{pixelKey, blockKey}
 use Rattle.key.specs.Form.{from, formOf}
-use Rattle.window.specs.declared.Window.{Window}
 use Rattle.window.specs.Window.{window, beyond, outside, windowRefusals}
 use Rattle.window.specs.Blocks.{floor, lies, fits, exponent, corner, across, rows, isCorner, maximal}
 use Rattle.window.specs.Keys.{keyOf, keysOf}
+use Rattle.window.proofs.P1.{W}
 use Rattle.map.specs.declared.Checked.the-variants as checked
 use Rattle.map.specs.Spans as spans
 use Rattle.map.specs.Spans.{within}
@@ -33,20 +33,6 @@ use Rattle.report.specs.declared.Reported.the-variants as reported
 use Rattle.report.specs.Report.{reportOf}
 use Rattle.select.specs.declared.Selected.the-variants as selected
 use Rattle.select.specs.Select.{around, inside, selected, allSelected, selection, selectOf}
-
--- P1's map, of m = 2, and its window
-abbrev pub keys : List ℕ
-keys = 5 ∷ 11 ∷ 12 ∷ 13 ∷ 14 ∷ 15 ∷ 20 ∷ []
-
-abbrev pub classes : List ℕ
-classes = 1 ∷ 2 ∷ 2 ∷ 3 ∷ 1 ∷ 1 ∷ 2 ∷ []
-
-abbrev pub W : Window
-W = window 0 1 3 3
-
--- old contents
-abbrev pub old : ℕ → List ℕ
-old n = replicate n 99
 
 pub record Table : Type 0 where
   pub p1-length : length (fileOf 2 keys classes) ≡ 55

@@ -1,4 +1,4 @@
--- Worked examples of maps, computed from the definitions. P1's map has m = 2 and the keys 5, 11, 12, 13, 14, 15, 20.
+-- Worked examples of maps, computed from the definitions.
 -- Assumes nothing.
 use mathlib.Core.Path.{_≡_, refl}
 use mathlib.Core.Bool.{true, false}
@@ -9,6 +9,7 @@ use Rattle.answers.specs.declared.Verdict.the-variants.{Passed}
 use Rattle.answers.specs.declared.Verdict.the-variants as refusal
 use Rattle.answers.specs.Refusals.{answer, verdict}
 use Rattle.answers.specs.Sizes.{wrongCount, sizeRefusals, pictureRefusals, countRefusals}
+use Rattle.answers.proofs.P1.{keys}
 use Rattle.key.specs.Spread.{spreadTo, spread}
 use Rattle.key.specs.Picture.{place}
 use Rattle.key.specs.Form.{from, formOf}
@@ -18,9 +19,6 @@ use Rattle.map.specs.Check.{late, refusalsFrom, mapRefusals, checkOf}
 use Rattle.map.specs.Records.{recordOf, exponentOf}
 use Rattle.map.specs.Runs.{run, runOf}
 use Rattle.map.proofs.Tiles.{tileOf}
-
-abbrev keys : List ℕ
-keys = 5 ∷ 11 ∷ 12 ∷ 13 ∷ 14 ∷ 15 ∷ 20 ∷ []
 
 abbrev gapped : List ℕ
 gapped = 11 ∷ 20 ∷ []

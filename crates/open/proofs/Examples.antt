@@ -10,6 +10,7 @@ use Rattle.answers.specs.Refusals.{answer}
 use Rattle.answers.specs.Sizes.{wrongCount, sizeRefusals, pictureRefusals, countRefusals}
 use Rattle.answers.specs.Cells.{overwrite}
 use Rattle.answers.specs.After.{after, roomRefusals, roomFor}
+use Rattle.answers.proofs.P1.{keys}
 use Rattle.key.specs.Spread.{spreadTo, spread}
 use Rattle.key.specs.Picture.{place}
 use Rattle.key.specs.Key.{pixelKey, blockKey}
@@ -17,6 +18,7 @@ use Rattle.key.specs.Form.{from, formOf}
 use Rattle.window.specs.Window.{window, beyond, outside, windowRefusals}
 use Rattle.window.specs.Blocks.{floor, lies, fits, exponent, corner, across, rows, isCorner, maximal}
 use Rattle.window.specs.Keys.{keyOf, keysOf}
+use Rattle.window.proofs.P1.{W}
 use Rattle.map.specs.Spans as spans
 use Rattle.map.specs.Spans.{within}
 use Rattle.map.specs.Check.{late, refusalsFrom, mapRefusals}
@@ -26,7 +28,6 @@ use Rattle.border.specs.Openings.{isHanded, opening, openFrom, openings, handed
 use Rattle.used.specs.Used.{useRefusals, spent, usedFor, borderRefusals}
 use Rattle.used.specs.Promises.{Answerable}
 use Rattle.used.proofs.Laws.{use-answerable}
-use Rattle.used.proofs.P1.{keys, W}
 use Rattle.open.specs.declared.Opened.the-variants.{Done, Refused}
 use Rattle.open.specs.Open.{openOf}
 

@@ -1,4 +1,4 @@
--- P1's text, computed from the definitions, and what is printed for bytes left over. P1's map has m = 2 and the keys 5, 11, 12, 13, 14, 15, 20; its window is 0 1 3 3.
+-- P1's text, computed from the definitions, and what is printed for bytes left over.
 -- Assumes nothing.
 use mathlib.Core.Path.{_≡_, refl}
 use mathlib.Core.List.{List, [], _∷_, _++_}
@@ -6,6 +6,7 @@ use Prim.Native.Nat.{ℕ}
 use Rattle.lists.specs.Lists.{upFrom, any, keep, before, howMany, greatest}
 use Rattle.answers.specs.Refusals.{answer}
 use Rattle.answers.specs.Sizes.{wrongCount, sizeRefusals, pictureRefusals, countRefusals}
+use Rattle.answers.proofs.P1.{keys, classes}
 use Rattle.key.specs.Spread.{spreadTo, spread}
 use Rattle.key.specs.Picture.{place}
 use Rattle.key.specs.Key.{pixelKey, blockKey}
@@ -25,12 +26,6 @@ use Rattle.text.specs.Text.{digits, digitsOf, spaced, lineOf}
 use Rattle.lines.specs.Lines.{openingLines, classLine, classLines, foundLines}
 use Rattle.input.specs.Input.{windowOf, leftText}
 use Rattle.reply.specs.Reply.{foundBy, resultOf, answerOf}
-
-abbrev keys : List ℕ
-keys = 5 ∷ 11 ∷ 12 ∷ 13 ∷ 14 ∷ 15 ∷ 20 ∷ []
-
-abbrev classes : List ℕ
-classes = 1 ∷ 2 ∷ 2 ∷ 3 ∷ 1 ∷ 1 ∷ 2 ∷ []
 
 -- W 0 1 3 3, four openings, three classes, T 4 7 9
 abbrev p1-text : List ℕ

@@ -1,24 +1,24 @@
--- Report, in examples. P1's map has m = 2 and the keys 5, 11, 12, 13, 14, 15, 20; its window is 0 1 3 3.
+-- Report, in examples: on the map and the window of P1.
 -- Assumes nothing.
 use mathlib.Core.Path.{_≡_, refl}
 use mathlib.Core.List.{[], _∷_}
-use Prim.Native.Nat.{ℕ}
 use lib.ListN.{take}
 use Rattle.lists.specs.Lists.{upFrom, before, howMany}
 use Rattle.answers.specs.Refusals.{answer}
 use Rattle.answers.specs.Sizes.{wrongCount, sizeRefusals, pictureRefusals, countRefusals}
 use Rattle.answers.specs.Cells.{overwrite}
 use Rattle.answers.specs.After.{after, roomRefusals, roomFor}
+use Rattle.answers.proofs.P1.{keys, classes, old}
 use Rattle.key.specs.Spread.{spreadTo, spread}
 use Rattle.key.specs.Picture.{place}
 use Rattle.key.specs.Form.{from, formOf}
 use Rattle.window.specs.Window.{window, beyond, outside, windowRefusals}
 use Rattle.window.specs.Blocks.{across, rows}
+use Rattle.window.proofs.P1.{W}
 use Rattle.map.specs.Spans as spans
 use Rattle.map.specs.Check.{late, refusalsFrom, mapRefusals}
 use Rattle.map.specs.Records.{recordOf}
 use Rattle.used.specs.Used.{useRefusals, spent, usedFor, borderRefusals}
-use Rattle.used.proofs.P1.{keys, classes, W, old}
 use Rattle.totals.specs.Totals.{total, totals}
 use Rattle.report.specs.declared.Reported.the-variants.{Refused}
 use Rattle.report.specs.Report.{reportOf}

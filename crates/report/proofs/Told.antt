@@ -28,7 +28,8 @@ reported-apart : (n p : ℕ) {value : ℕ} → Refused n p ≡ Done value → �
 reported-apart n p e = let z : _≡_ {A = ℕ} 0 1 = cc in omega arith
 
 module _ (m : ℕ) (keys classes : List ℕ) (W : Window) (border out : List ℕ) where
-  pub counted : {value : ℕ} {border′ out′ : List ℕ} → reportOf m keys classes W border out ≡ after (Done value) (border′, out′) → Counted m keys classes W (length border) value out′
+  pub counted : {value : ℕ} {border′ out′ : List ℕ} → reportOf m keys classes W border out ≡ after (Done value) (border′, out′)
+      → Counted m keys classes W (length border) value out′
   unfolding reportOf
   counted e =
       let t = used-told Refused (Done (W .h * W .w)) (totals m keys classes W) m keys (length classes) W border out (λ n p. reported-apart n p) e in

@@ -37,6 +37,7 @@ module _ (m : ℕ) (keys classes : List ℕ) (W : Window) (class : ℕ) (border 
   select-refused e = used-refused Refused _ _ m keys (length classes) W border out e
 
   module _ (e : verdict (useRefusals m keys (length classes) W (length border)) ≡ verdict-of.Passed) {left : List ℕ} (d : left ≡ spent W border) where
-    pub select-listed : {r : Selected} {out′ : List ℕ} → after r out′ ≡ keysInto (selection m m keys classes W class) out → after r (left, out′) ≡ selectOf m keys classes W class border out
+    pub select-listed : {r : Selected} {out′ : List ℕ} → after r out′ ≡ keysInto (selection m m keys classes W class) out
+        → after r (left, out′) ≡ selectOf m keys classes W class border out
     unfolding selectOf
     select-listed t = used-passed Refused _ (selection m m keys classes W class) m keys (length classes) W border out e d t

@@ -43,7 +43,8 @@ module _ {all rest : List ℕ} {at : ℕ} {out₀ out : List ℕ} (t : Telling a
       let n : length rest ≡ length piece + length rest′ = ap length e ∙ simp length-append in
       rw (lent-is at out, length-drop) (omega (arith, telling-room))
 
-  pub telling-part : (piece rest′ : List ℕ) {r : ℕ} {ys : List ℕ} → rest ≡ piece ++ rest′ → after r ys ≡ putOf piece (lent at out) → Telling all rest′ (at + r) out₀ (back at out ys)
+  pub telling-part : (piece rest′ : List ℕ) {r : ℕ} {ys : List ℕ} → rest ≡ piece ++ rest′ → after r ys ≡ putOf piece (lent at out)
+      → Telling all rest′ (at + r) out₀ (back at out ys)
   telling-part piece rest′ {r} {ys} e p =
       let put = put-there piece (lent at out) p (telling-lent piece rest′ e) in
       let n : length rest ≡ length piece + length rest′ = ap length e ∙ simp length-append in

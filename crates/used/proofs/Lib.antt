@@ -2,4 +2,3 @@ mod Use
 mod Used
 mod Spent
 pub mod Laws
-pub mod P1
