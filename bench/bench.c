@@ -1,6 +1,6 @@
 /*
- * The instructions of the library's operations, beside those of the programs in programs.h: a table over maps and
- * windows, what it says in short, how the operations grow, and the experiment with random windows.
+ * The instructions of the library's operations, beside those of the programs in programs.h: tables over maps and
+ * windows, what they say in short, how the operations grow, and the experiment with random windows.
  *
  *     bench FILE-OF-COUNTS FILE-OF-BEFORE PLOT
  */
@@ -95,8 +95,43 @@ static void print_table(void)
            "  ratio | past check |  plain C |   ratio | growing list |   times | every block |   times |\n"
            "| :-------- | :-------------- | :----- | -------: | -------: | ------: | --------: | ------: | -------: | "
            "------: | ---------: | -------: | ------: | -----------: | ------: | ----------: | ------: |\n");
-    for (int operation = 0; operation < OPERATIONS; operation++)
+    for (int operation = 0; operation < ADD_FIRST; operation++)
         print_rows(operation);
+}
+
+/* Adding a map to a month, beside report and plain C. */
+static void print_added(const cell *c, const cell *report)
+{
+    printf(" %9" PRId64 " | %8.2f | %8" PRId64 " |", c->library, ratio(c->library, report->library),
+           c->library - report->library);
+    print_ratio(8, c->plain, c->library, MOST_OF_PLAIN);
+}
+
+static void print_months_of(int number, int window)
+{
+    const cell *report = find_cell(cells, n_cells, REPORT, number, window), *added = cells + n_cells;
+    for (int operation = ADD_FIRST; operation <= ADD_NEXT; operation++)
+        cells[n_cells++] = measure_cell(operation, &a, number, window);
+    printf("| %-15s | %-6s | %8" PRId64 " |", map_name(report), window_name(report), report->library);
+    for (; added < cells + n_cells; added++)
+        print_added(added, report);
+    printf("\n");
+    fflush(stdout);
+}
+
+static void print_months(void)
+{
+    printf("\nAdding a map to a month: the first map, and a next one, beside report of the same map and window, and "
+           "beside plain C.\n\n"
+           "| map             | window |   report | first map | / report | - report |  plain C |   ratio |  next map | "
+           "/ report | - report |  plain C |   ratio |\n"
+           "| :-------------- | :----- | -------: | --------: | -------: | -------: | -------: | ------: | --------: | "
+           "-------: | -------: | -------: | ------: |\n");
+    for (int number = 0; number < MAPS; number++) {
+        make_map(&a, number);
+        for (int window = 0; window < WINDOWS; window++)
+            print_months_of(number, window);
+    }
 }
 
 int main(int argc, char **argv)
@@ -108,6 +143,7 @@ int main(int argc, char **argv)
     begin_measuring(argv[1]);
     read_before(argv[2]);
     print_table();
+    print_months();
     print_summaries(cells, n_cells);
     print_against_before(cells, n_cells);
     print_wanted(cells, n_cells);

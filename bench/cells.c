@@ -1,7 +1,9 @@
 #include "cells.h"
 
 #include <inttypes.h>
+#include <stdbool.h>
 #include <stdio.h>
+#include <stdlib.h>
 #include <string.h>
 
 const char *map_name(const cell *c)
@@ -43,15 +45,29 @@ static int64_t before(const cell *c)
     for (int i = 0; i < n_lines; i++)
         if (strncmp(lines[i], start, strlen(start)) == 0 && sscanf(lines[i] + strlen(start), "%" SCNd64, &count) == 1)
             return count;
-    wrong("it is not told what a cell took before", start);
+    if (c->operation < ADD_FIRST)
+        wrong("it is not told what a cell took before", start);
     return 0;
 }
 
 /* ---- What it takes ---- */
 
+/* What was added to a month must be what report says, and the border must be as report leaves it. */
+static void hold_against_report(const result *added, int operation, const map *a, rectangle at, const char *where)
+{
+    static result reported;
+    bool next = operation == ADD_NEXT;
+    measure(&library, REPORT, a, at, &reported);
+    if (added->answer.first != 1 + (uint32_t)next || !is_month_with(added->table, a->m, at, next, reported.out))
+        wrong("the month is not what report says", where);
+    if (memcmp(added->border, reported.border, sizeof reported.border) != 0)
+        wrong("the month and report leave different borders", where);
+}
+
 cell measure_cell(int operation, const map *a, int map_number, int window_number)
 {
     static result r;
+    bool adds = operation >= ADD_FIRST;
     cell c = {operation, map_number, window_number, a->q, 0, 0, 0, 0, 0, 0};
     rectangle at = make_window(a->m, window_number);
     char where[LONGEST_LINE], name[LONGEST_NAME];
@@ -60,13 +76,25 @@ cell measure_cell(int operation, const map *a, int map_number, int window_number
     measure(&library, operation, a, at, &r);
     if (r.answer.refusal != 0)
         wrong("the library refuses", where);
+    if (adds)
+        hold_against_report(&r, operation, a, at, where);
     c.library = r.instructions;
     c.plain = measure_same(&plain, operation, a, at, &r, where);
-    c.fastest = measure_same(&fastest, operation, a, at, &r, where);
     c.before = before(&c);
+    if (adds)
+        return c;
+    c.fastest = measure_same(&fastest, operation, a, at, &r, where);
     if (operation > DECOMPOSE) {
         c.past_library = c.library - measure_check(&library, operation, a);
         c.past_plain = c.plain - measure_check(&plain, operation, a);
     }
     return c;
+}
+
+const cell *find_cell(const cell *cells, int n, int operation, int map_number, int window_number)
+{
+    for (const cell *c = cells; c < cells + n; c++)
+        if (c->operation == operation && c->map == map_number && c->window == window_number)
+            return c;
+    abort();
 }

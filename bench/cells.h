@@ -6,7 +6,10 @@
 
 enum { MOST_CELLS = OPERATIONS * MAPS * WINDOWS };
 
-/* Instructions. Those past the check are 0 where a call takes no map or does nothing but check it. */
+/*
+ * Instructions. Those past the check are 0 where a call takes no map or does nothing but check it. Of adding a map to a
+ * month there are those of the library and of plain C, and those before only if the file has them; the others are 0.
+ */
 typedef struct {
     int operation, map, window;
     size_t records;
@@ -19,6 +22,9 @@ void read_before(const char *file);
 
 /* The map is that of the number. */
 cell measure_cell(int operation, const map *a, int map_number, int window_number);
+
+/* One that was measured. */
+const cell *find_cell(const cell *cells, int n, int operation, int map_number, int window_number);
 
 /* Decomposing takes no map: of it, there is m. Checking takes no window. */
 const char *map_name(const cell *c);

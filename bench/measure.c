@@ -13,19 +13,21 @@
 
 const program library = {
     "library",       lutniorad_check,  lutniorad_decompose, lutniorad_open,
-    lutniorad_exist, lutniorad_report, lutniorad_select,
+    lutniorad_exist, lutniorad_report, lutniorad_select,    lutniorad_month_add,
 };
 const program plain = {
-    "plain C", plain_check, plain_decompose, plain_open, plain_exist, plain_report, plain_select,
+    "plain C", plain_check, plain_decompose, plain_open, plain_exist, plain_report, plain_select, plain_month_add,
 };
 const program fastest = {
     "fastest C",   fastest_check,  fastest_decompose, fastest_open,
-    fastest_exist, fastest_report, fastest_select,
+    fastest_exist, fastest_report, fastest_select,    NULL,
 };
-const program growing = {"growing list", NULL, NULL, growing_open, NULL, NULL, NULL};
-const program every = {"every block", NULL, NULL, every_open, NULL, NULL, NULL};
+const program growing = {"growing list", NULL, NULL, growing_open, NULL, NULL, NULL, NULL};
+const program every = {"every block", NULL, NULL, every_open, NULL, NULL, NULL, NULL};
 
-const char *const operation_names[OPERATIONS] = {"check", "decompose", "open", "exist", "report", "select"};
+const char *const operation_names[OPERATIONS] = {
+    "check", "decompose", "open", "exist", "report", "select", "month_add, first map", "month_add, next map",
+};
 
 void wrong(const char *why, const char *where)
 {
@@ -51,6 +53,9 @@ lutniorad_answer call(const program *p, int operation, const map *a, rectangle a
     case SELECT:
         return p->select(a->m, a->keys, a->q, a->classes, a->q, at.r0, at.c0, at.h, at.w, SCUM, r->border, CELLS,
                          r->out, ROOM);
+    case ADD_FIRST:
+    case ADD_NEXT:
+        return p->month_add(a->m, a->keys, a->q, a->classes, a->q, r->border, CELLS, r->table, MONTH_CELLS);
     default:
         return none;
     }
@@ -96,13 +101,15 @@ void measure(const program *p, int operation, const map *a, rectangle at, result
         around = marked(p, NOTHING, a, at, r);
     memset(r->border, 0xA5, sizeof r->border);
     memset(r->out, 0xA5, sizeof r->out);
+    make_month(r->table, a->m, at, operation == ADD_NEXT);
     r->instructions = marked(p, operation, a, at, r) - around;
 }
 
 static bool same_answers(const result *x, const result *y)
 {
     return memcmp(&x->answer, &y->answer, sizeof x->answer) == 0 &&
-           memcmp(x->border, y->border, sizeof x->border) == 0 && memcmp(x->out, y->out, sizeof x->out) == 0;
+           memcmp(x->border, y->border, sizeof x->border) == 0 && memcmp(x->out, y->out, sizeof x->out) == 0 &&
+           memcmp(x->table, y->table, sizeof x->table) == 0;
 }
 
 static result other;

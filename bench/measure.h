@@ -3,6 +3,7 @@
 #define MEASURE_H
 
 #include "maps.h"
+#include "month.h"
 #include "programs.h"
 
 typedef struct {
@@ -13,11 +14,12 @@ typedef struct {
     exist_function *exist;
     report_function *report;
     select_function *select;
+    month_add_function *month_add;
 } program;
 
-extern const program library, plain, fastest, growing, every; /* the last two only open */
+extern const program library, plain, fastest, growing, every; /* fastest adds no map, and the last two only open */
 
-enum { CHECK, DECOMPOSE, OPEN, EXIST, REPORT, SELECT, OPERATIONS, NOTHING };
+enum { CHECK, DECOMPOSE, OPEN, EXIST, REPORT, SELECT, ADD_FIRST, ADD_NEXT, OPERATIONS, NOTHING };
 extern const char *const operation_names[OPERATIONS];
 
 /* The widest border, and out cells enough for one pass of opening and for every key that a select can list. */
@@ -28,14 +30,16 @@ typedef struct {
     lutniorad_answer answer;
     uint16_t border[CELLS];
     uint32_t out[ROOM];
+    uint64_t table[MONTH_CELLS];
 } result;
 
 /* Opens the file in which the plugin leaves its counts. */
 void begin_measuring(const char *counts);
 
 /*
- * One call. Exist asks for a class that is nowhere, so it has to look everywhere; select asks for scum. Counted are the
- * instructions from the first that hands over an argument to the return.
+ * One call. Exist asks for a class that is nowhere, so it has to look everywhere; select asks for scum; a map is added
+ * to a month of no map, and to one of a map that is all scum. Counted are the instructions from the first that hands
+ * over an argument to the return.
  */
 void measure(const program *p, int operation, const map *a, rectangle at, result *r);
 

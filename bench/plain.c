@@ -1,5 +1,5 @@
 /* The library's algorithm in plain C: the operations. */
-#include "parts.h"
+#include "openings.h"
 #include "programs.h"
 
 /* ---- Check and decompose ---- */
@@ -46,75 +46,7 @@ lutniorad_answer plain_decompose(uint32_t m, uint16_t r0, uint16_t c0, uint16_t 
     return answered(put_keys(m, at, out, n_out), 0);
 }
 
-/* ---- The border, and opening ---- */
-
-/* A map that was checked, a window on it, and the border. */
-typedef struct {
-    uint32_t m;
-    const uint32_t *keys;
-    size_t q;
-    window at;
-    uint16_t *border;
-} work;
-
-/* From where the walk goes on, and how many columns are done: their cells have come to r0 + h. */
-typedef struct {
-    uint32_t row, col, done;
-} place;
-
-typedef struct {
-    block at;
-    uint32_t key;
-    run records;
-} opening;
-
-static place begin(work on)
-{
-    place first = {on.at.r0, on.at.c0, 0};
-    fill(on.border, 0, on.at.w, on.at.r0);
-    return first;
-}
-
-static uint32_t ahead(uint32_t x, uint32_t a)
-{
-    return x < a ? 0 : x - a;
-}
-
-/* What an opened block does to the border: around it stands a block of side 2^n. Returns how many columns it ends. */
-static uint32_t raise(window at, uint32_t n, uint32_t row, uint32_t col, uint16_t *border)
-{
-    uint32_t side = 1u << n, west = floor_to(n, col), end = at.r0 + at.h;
-    uint32_t from = ahead(west, at.c0), to = least(west + side, at.c0 + at.w) - at.c0;
-    uint32_t south = least(floor_to(n, row) + side, end);
-    fill(border, from, to, south);
-    return south == end ? to - from : 0;
-}
-
-/* One maximal block: false where it is skipped. */
-static inline bool step(work on, opening *o, uint32_t *done)
-{
-    block b = o->at;
-    if (b.row < on.border[b.col - on.at.c0])
-        return false;
-    o->key = block_key(on.m, b.exponent, b.row, b.col);
-    o->records = records_of(on.m, on.keys, on.q, o->key, b.exponent);
-    *done += raise(on.at, o->records.reach, b.row, b.col, on.border);
-    return true;
-}
-
-/* From opening to opening; false where there is no other. Inlined, or else gcc keeps the window in memory. */
-__attribute__((always_inline)) static inline bool next_opening(work on, place *p, opening *o)
-{
-    if (p->done == on.at.w)
-        return false;
-    while (next_block(on.at, on.m, p->row, p->col, &o->at)) {
-        p->row = o->at.row;
-        p->col = o->at.after;
-        if (step(on, o, &p->done))
-            return true;
-    }
-    return false;
-}
+/* ---- Opening ---- */
 
 static lutniorad_answer pass(work on, uint32_t *out, size_t n_out)
 {
@@ -172,44 +104,6 @@ lutniorad_answer plain_exist(uint32_t m, const uint32_t *keys, size_t n_keys, co
             return answered(1, 0);
         }
     return answered(0, 0);
-}
-
-/* How many of `count` numbers from `start` on lie in the block of side 2^n that holds x. */
-static uint32_t shared(uint32_t start, uint32_t count, uint32_t n, uint32_t x)
-{
-    uint32_t from = floor_to(n, x), to = least(from + (1u << n), start + count);
-    return to - (from < start ? start : from);
-}
-
-/* How many pixels the window shares with the block of side 2^n around one of its pixels. */
-static uint32_t clipped(window at, uint32_t n, uint32_t row, uint32_t col)
-{
-    return shared(at.r0, at.h, n, row) * shared(at.c0, at.w, n, col);
-}
-
-/*
- * Records that fill a block are gone through as the check does: the block, whose key is `corner` and whose exponent is
- * i, is a picture of its own. Not inlined, or else gcc runs out of registers.
- */
-__attribute__((noinline)) static void gather_run(const uint32_t *keys, const uint8_t *classes, size_t count,
-                                                 uint32_t corner, uint32_t i, uint32_t *totals)
-{
-    spot at = first_spot(i);
-    for (size_t n = 0; n < count; n++) {
-        uint32_t key = keys[n] - corner, exponent = exponent_here(at, key);
-        totals[classes[n]] += pixels(exponent);
-        at = advance(key, exponent, at.place);
-    }
-}
-
-/* A record that reaches beyond the block contains it and may stick out of the window; otherwise they fill it. */
-static void gather(work on, const uint8_t *classes, opening o, uint32_t *totals)
-{
-    uint32_t first = o.records.first, reach = o.records.reach;
-    if (o.at.exponent < reach)
-        totals[classes[first]] += clipped(on.at, reach, o.at.row, o.at.col);
-    else
-        gather_run(on.keys + first, classes + first, o.records.count, o.key, o.at.exponent, totals);
 }
 
 static void report_totals(work on, const uint8_t *classes, uint32_t *out)

@@ -58,7 +58,8 @@ static void summarize(int operation, const cell *cells, int n)
     for (const cell *c = cells; c < cells + n; c++)
         if (c->operation == operation) {
             put(&wholes, c, c->library, c->plain);
-            put(&fastests, c, c->library, c->fastest);
+            if (c->fastest > 0)
+                put(&fastests, c, c->library, c->fastest);
             if (c->past_plain > 0)
                 put(&pasts, c, c->past_library, c->past_plain);
         }
@@ -108,14 +109,6 @@ void print_against_before(const cell *cells, int n)
 
 /* ---- Totals ---- */
 
-static const cell *find(const cell *cells, int n, int operation, int number, int window)
-{
-    for (const cell *c = cells; c < cells + n; c++)
-        if (c->operation == operation && c->map == number && c->window == window)
-            return c;
-    abort();
-}
-
 static void print_want(const char *what, const char *unit, double most, double is)
 {
     printf("| %-42s | %-12s | %7.3f | %7.3f | %-7s |\n", what, unit, most, is, is <= most ? "met" : "not met");
@@ -124,12 +117,31 @@ static void print_want(const char *what, const char *unit, double most, double i
 /* All that the call takes, shared out; and without what it takes besides, which is what it takes on one record. */
 static void print_want_of_check(const cell *cells, int n, int number)
 {
-    const cell *c = find(cells, n, CHECK, number, 0), *one = find(cells, n, CHECK, ONE, 0);
+    const cell *c = find_cell(cells, n, CHECK, number, 0), *one = find_cell(cells, n, CHECK, ONE, 0);
     char what[LONGEST_NAME];
     snprintf(what, sizeof what, "check, %s: each record", map_name(c));
     print_want(what, "instructions", 25, (double)c->library / (double)c->records);
     snprintf(what, sizeof what, "check, %s: each further record", map_name(c));
     print_want(what, "instructions", 25, (double)(c->library - one->library) / (double)(c->records - 1));
+}
+
+/* Adding a map to a month: so many times report, and so many instructions beyond that, in every cell. */
+#define MOST_OF_REPORT 1.05
+enum { MOST_BEYOND = 15000 };
+
+static void print_want_of_adding(const cell *cells, int n, int operation)
+{
+    double most = -1e12;
+    char what[LONGEST_NAME];
+    for (const cell *c = cells; c < cells + n; c++)
+        if (c->operation == operation) {
+            const cell *report = find_cell(cells, n, REPORT, c->map, c->window);
+            double beyond = (double)c->library - MOST_OF_REPORT * (double)report->library;
+            if (beyond > most)
+                most = beyond;
+        }
+    snprintf(what, sizeof what, "%s: beyond report", operation_names[operation]);
+    print_want(what, "thousands", MOST_BEYOND / 1e3, most / 1e3);
 }
 
 void print_wanted(const cell *cells, int n)
@@ -144,12 +156,16 @@ void print_wanted(const cell *cells, int n)
         {SELECT, LAKE, 7, "select, lake, whole window"},
     };
     printf("\nTotals that are wanted. Each record: the whole call by the number of records. Each further record: "
-           "without what the call takes on a map of one.\n\n"
+           "without what the call takes on a map of one. Beyond report: what adding a map takes beyond %.2f times "
+           "report of the same map and window, where that is most.\n\n"
            "| wanted                                     | in           | at most |      is |         |\n"
-           "| :----------------------------------------- | :----------- | ------: | ------: | :------ |\n");
+           "| :----------------------------------------- | :----------- | ------: | ------: | :------ |\n",
+           MOST_OF_REPORT);
     for (int number = PIXELS; number <= LAKE; number++)
         print_want_of_check(cells, n, number);
     for (size_t i = 0; i < sizeof wants / sizeof *wants; i++)
         print_want(wants[i].what, "millions", wants[i].most,
-                   (double)find(cells, n, wants[i].operation, wants[i].map, WHOLE)->library / 1e6);
+                   (double)find_cell(cells, n, wants[i].operation, wants[i].map, WHOLE)->library / 1e6);
+    for (int operation = ADD_FIRST; operation <= ADD_NEXT; operation++)
+        print_want_of_adding(cells, n, operation);
 }

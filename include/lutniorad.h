@@ -33,6 +33,20 @@
  * The BORDER is lent for opening a window, and for each question about its classes: a 16-bit cell for each column of
  * the window. It holds how far down the column has been handed out. So in the end each of the first w cells is r0 + h.
  *
+ * A MONTH is a table of what the maps of a row have in one window, all of one m: 1,030 cells of 64 bits, which the
+ * caller keeps from one call to the next.
+ *
+ *     cell        what stands in it
+ *     0           m
+ *     1 to 4      r0, c0, h, w
+ *     5           how many maps were added, at most 1,000
+ *     6 + 4k      for each class k from 0 to 255, of the numbers of its pixels in the window, map by map: the least,
+ *     7 + 4k          the greatest,
+ *     8 + 4k          the sum,
+ *     9 + 4k          and how many of them are not 0
+ *
+ * A map that has no pixel of the class there counts as 0 pixels. Before the first map all these cells are 0.
+ *
  * A HOUSE FILE is a map in bytes. Every number is little-endian:
  *
  *     offset      bytes
@@ -44,8 +58,8 @@
  *     20          4Q     the keys
  *     20 + 4Q     Q      the classes
  *
- * WHAT THE CALLER KEEPS. A slice is a pointer and its length in cells (elements of 8, 16 or 32 bits, not bytes). For
- * each slice of a call:
+ * WHAT THE CALLER KEEPS. A slice is a pointer and its length in cells (elements of 8, 16, 32 or 64 bits, not bytes).
+ * For each slice of a call:
  *   - the pointer is valid for that many cells, and aligned for their type;
  *   - it is not NULL, even where the length is 0: any aligned address will do then;
  *   - a slice that the call writes (a pointer without `const`) overlaps no other slice of the call;
@@ -56,7 +70,7 @@
  * memory may run at the same time. Every call ends. A call that refuses writes nothing, but for one: a refusal by 8
  * from lutniorad_open, lutniorad_report or lutniorad_select leaves the border as an answer would. A call that answers
  * writes the cells named with it below, and all others keep their content. What stands at entry in a slice that is
- * written never matters.
+ * written never matters, but for the table of a month, to which lutniorad_month_add adds.
  *
  * The archive is made for Linux on x86-64.
  */
@@ -85,6 +99,11 @@ extern "C" {
  *     7           the border has fewer than w cells                                       w
  *     8           a slice that would be written is too short                              cells needed
  *     9           the layout of the file is wrong                                         offset of the header field
+ *     15          the map's m is not the table's                                          0
+ *     16          the table has 1,000 maps already                                        0
+ *     26          in the table: the window is empty or not inside the picture, or the     0
+ *                 count of maps is over 1,000, or a class has more maps than that count,
+ *                 or a sum over that count times h * w
  *
  * Each call says which of them it gives, in its order. The first that holds is the answer.
  */
@@ -197,6 +216,44 @@ lutniorad_answer lutniorad_select(uint32_t m,
                                   uint8_t of_class,
                                   uint16_t *border, size_t n_border,
                                   uint32_t *out, size_t n_out);
+
+/*
+ * Begins a month: makes the table of this window with no map.
+ *
+ * Answers `first` = 0, `second` = 0. The first 1,030 cells of `table` are then m, r0, c0, h, w, and zeros.
+ *
+ * Refuses by 1; 6; and 8, with place 1,030, when `table` has fewer cells than that.
+ */
+lutniorad_answer lutniorad_month_clear(uint32_t m,
+                                       uint16_t r0, uint16_t c0, uint16_t h, uint16_t w,
+                                       uint64_t *table, size_t n_table);
+
+/*
+ * Adds a map to a month: what lutniorad_report says of it in the table's window goes into the table.
+ *
+ * Answers `first` = the number of maps in the table now, `second` = 0. Cell 5 is then that number, and the four cells
+ * of each class are those of the maps before and of this one. The first w cells of `border` are then r0 + h, by the
+ * table's window.
+ *
+ * From lutniorad_month_clear on, after any row of these calls, answered and refused in any order, the table is that of
+ * the maps for which `refusal` was 0. Such a table is never refused by 26, and by 16 just when it has 1,000 maps.
+ *
+ * With the map and the window of lutniorad_report's example alone, the table is 2, 0, 1, 3, 3, 1; then for class 0 four
+ * zeros, for class 1 the cells 4, 4, 4, 1, for class 2 the same, for class 3 the cells 1, 1, 1, 1, and zeros.
+ *
+ * A table that did not come from these calls is taken too, whatever stands in it, as long as none of the reasons below
+ * holds: sums and numbers of maps are added to what is there; where cell 5 is 0, least and greatest are those of this
+ * map, and otherwise the lesser and the greater of what is there and what this map has. No sum overflows.
+ *
+ * Refuses by 1; 2; then record by record 3, 4, 5, and 5 at Q, as lutniorad_check does; 8, with place 1,030, when
+ * `table` has fewer cells than that; 15; 26; 16; and 7, with place w, when `border` is shorter than the table's window
+ * is wide. A refusal writes nothing, neither table nor border.
+ */
+lutniorad_answer lutniorad_month_add(uint32_t m,
+                                     const uint32_t *keys, size_t n_keys,
+                                     const uint8_t *classes, size_t n_classes,
+                                     uint16_t *border, size_t n_border,
+                                     uint64_t *table, size_t n_table);
 
 /*
  * Reads a house file that lies in memory, the whole of it and nothing more.

@@ -10,6 +10,7 @@
  */
 #include "harness.h"
 #include "maps.h"
+#include "months.h"
 #include "queries.h"
 #include "windows.h"
 
@@ -557,6 +558,16 @@ static const group groups[] = {
     {"large windows", group_large_windows, true},
     {"random windows", group_random_windows, true},
     {"the stack", group_stack, true},
+    {"months written out", group_months_written_out, false},
+    {"clearing months", group_clearing_months, false},
+    {"small months", group_small_months, false},
+    {"spoiled tables", group_spoiled_tables, false},
+    {"refusals of months", group_month_refusals, false},
+    {"old contents of months", group_month_old_contents, false},
+    {"vast tables", group_vast_tables, false},
+    {"full months", group_full_months, false},
+    {"largest sums", group_largest_sums, false},
+    {"random months", group_random_months, true},
 };
 
 int main(int argc, char **argv)

@@ -55,14 +55,21 @@ typedef struct {
                                uint16_t, uint16_t, uint16_t *, size_t, uint32_t *, size_t);
     lutniorad_answer (*select)(uint32_t, const uint32_t *, size_t, const uint8_t *, size_t, uint16_t, uint16_t,
                                uint16_t, uint16_t, uint8_t, uint16_t *, size_t, uint32_t *, size_t);
+    lutniorad_answer (*month_clear)(uint32_t, uint16_t, uint16_t, uint16_t, uint16_t, uint64_t *, size_t);
+    lutniorad_answer (*month_add)(uint32_t, const uint32_t *, size_t, const uint8_t *, size_t, uint16_t *, size_t,
+                                  uint64_t *, size_t);
     lutniorad_answer (*read)(const uint8_t *, size_t, uint32_t *, size_t, uint8_t *, size_t);
     lutniorad_answer (*write)(uint32_t, const uint32_t *, size_t, const uint8_t *, size_t, uint8_t *, size_t);
 } program;
 
-static const program library = {lutniorad_check,  lutniorad_decompose, lutniorad_open, lutniorad_exist,
-                                lutniorad_report, lutniorad_select,    lutniorad_read, lutniorad_write};
-static const program reference = {reference_check,  reference_decompose, reference_open, reference_exist,
-                                  reference_report, reference_select,    reference_read, reference_write};
+static const program library = {
+    lutniorad_check,  lutniorad_decompose,   lutniorad_open,      lutniorad_exist, lutniorad_report,
+    lutniorad_select, lutniorad_month_clear, lutniorad_month_add, lutniorad_read,  lutniorad_write,
+};
+static const program reference = {
+    reference_check,  reference_decompose,   reference_open,      reference_exist, reference_report,
+    reference_select, reference_month_clear, reference_month_add, reference_read,  reference_write,
+};
 
 static lutniorad_answer run_check(const program *p, const call *c, const slice *s)
 {
@@ -98,6 +105,17 @@ static lutniorad_answer run_select(const program *p, const call *c, const slice 
                      c->of_class, s[2].cells, s[2].length, s[3].cells, s[3].length);
 }
 
+static lutniorad_answer run_month_clear(const program *p, const call *c, const slice *s)
+{
+    return p->month_clear(c->m, c->at.r0, c->at.c0, c->at.h, c->at.w, s[0].cells, s[0].length);
+}
+
+static lutniorad_answer run_month_add(const program *p, const call *c, const slice *s)
+{
+    return p->month_add(c->m, s[0].cells, s[0].length, s[1].cells, s[1].length, s[2].cells, s[2].length, s[3].cells,
+                        s[3].length);
+}
+
 static lutniorad_answer run_read(const program *p, const call *c, const slice *s)
 {
     (void)c; /* the file has m */
@@ -131,10 +149,14 @@ const operation REPORT = {
     "report", run_report, true, true, false, 4, {{"keys", 4}, {"classes", 1}, {"border", 2}, {"totals", 4}}};
 const operation SELECT = {
     "select", run_select, true, true, true, 4, {{"keys", 4}, {"classes", 1}, {"border", 2}, {"out", 4}}};
+const operation MONTH_CLEAR = {"month_clear", run_month_clear, true, true, false, 1, {{"table", 8}}};
+const operation MONTH_ADD = {
+    "month_add", run_month_add, true, false, false, 4, {{"keys", 4}, {"classes", 1}, {"border", 2}, {"table", 8}}};
 const operation READ = {"read", run_read, false, false, false, 3, {{"file", 1}, {"keys", 4}, {"classes", 1}}};
 const operation WRITE = {"write", run_write, true, false, false, 3, {{"keys", 4}, {"classes", 1}, {"out", 1}}};
 
-static const operation *const operations[] = {&CHECK, &DECOMPOSE, &OPEN, &EXIST, &REPORT, &SELECT, &READ, &WRITE};
+static const operation *const operations[] = {&CHECK,  &DECOMPOSE,   &OPEN,      &EXIST, &REPORT,
+                                              &SELECT, &MONTH_CLEAR, &MONTH_ADD, &READ,  &WRITE};
 
 /* ---- Cases, and what is said when one fails ---- */
 
@@ -157,9 +179,10 @@ bool begin_case(void)
     return only_case == EVERY_CASE || only_case == case_number;
 }
 
-static uint32_t cell_at(const void *cells, size_t cell, size_t i)
+static uint64_t cell_at(const void *cells, size_t cell, size_t i)
 {
-    return cell == 4   ? ((const uint32_t *)cells)[i]
+    return cell == 8   ? ((const uint64_t *)cells)[i]
+           : cell == 4 ? ((const uint32_t *)cells)[i]
            : cell == 2 ? ((const uint16_t *)cells)[i]
                        : ((const uint8_t *)cells)[i];
 }
@@ -177,8 +200,10 @@ static void print_call(const call *c)
     for (size_t i = 0; i < c->operation->n_slices; i++) {
         const given *g = &c->slices[i];
         printf("\n    %s: %zu cells", c->operation->slices[i].name, g->length);
-        for (size_t k = 0; g->content != NULL && g->length <= MOST_SHOWN && k < g->length; k++)
-            printf("%s%" PRIu32, k == 0 ? ": " : " ", cell_at(g->content, c->operation->slices[i].cell, k));
+        for (size_t k = 0; g->content != NULL && k < g->length && k < MOST_SHOWN; k++)
+            printf("%s%" PRIu64, k == 0 ? ": " : " ", cell_at(g->content, c->operation->slices[i].cell, k));
+        if (g->content != NULL && g->length > MOST_SHOWN)
+            printf(" ...");
     }
     printf("\n");
 }
@@ -239,7 +264,7 @@ void require_numbers(lutniorad_answer got, uint32_t refusal, uint32_t place, uin
  * no reason to touch more than its first cells, and these are what is laid out and compared.
  */
 enum { LIBRARY, REFERENCE, SIDES };
-enum { ROUNDS = 2, GUARD = 17, ROOM = 1 << 20, FENCE = 1 << 16 };
+enum { ROUNDS = 2, GUARD = 17, ROOM = 1 << 20, FENCE = 1 << 16, WIDEST_CELL = 8 };
 
 static unsigned char *rooms[SIDES][MOST_SLICES];
 static unsigned char *vast_rooms[MOST_SLICES];
@@ -269,7 +294,7 @@ static void make_rooms(void)
 static unsigned char *vast_room(size_t i)
 {
     if (vast_rooms[i] == NULL)
-        vast_rooms[i] = new_room(4 * (VAST + ROOM));
+        vast_rooms[i] = new_room(WIDEST_CELL * (VAST + ROOM));
     return vast_rooms[i];
 }
 

@@ -6,7 +6,7 @@
  *   - one pair of function pointers: a member of `program`, and its function in `library` and in `reference`;
  *   - one run_ function, which hands the numbers and slices of a call to that member in the order of its parameters;
  *   - one row: the operation's name, its run_ function, whether it takes m, a window, a class, how many slices it
- *     takes, and for each its name and the bytes in a cell, 1, 2 or 4; and the row's place in `operations`.
+ *     takes, and for each its name and the bytes in a cell, 1, 2, 4 or 8; and the row's place in `operations`.
  * Declare the row below with the others. MOST_SLICES is as many slices as any of them has. A case then fills in a
  * `call` of the operation and hands it to `compare`.
  *
@@ -38,7 +38,7 @@ size_t near_length(size_t right);
 
 typedef struct operation operation;
 
-extern const operation CHECK, DECOMPOSE, OPEN, EXIST, REPORT, SELECT, READ, WRITE;
+extern const operation CHECK, DECOMPOSE, OPEN, EXIST, REPORT, SELECT, MONTH_CLEAR, MONTH_ADD, READ, WRITE;
 
 enum { MOST_SLICES = 4 };
 
@@ -51,7 +51,7 @@ typedef struct {
     size_t length;
 } given;
 
-enum { CELLS_OF_VAST = CLASSES + 64 };
+enum { CELLS_OF_VAST = TABLE_CELLS + 64 };
 #define VAST ((size_t)1 << 32)
 
 /* Of a call that takes none. */

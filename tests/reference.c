@@ -1,4 +1,7 @@
-/* All numbers are 64 bits wide, and none here comes near 2^64: nothing wraps. */
+/*
+ * All numbers are 64 bits wide, and none here comes near 2^64 but what may stand in the table of a month. No sum or
+ * product is made of that before it is known to be small: nothing wraps.
+ */
 #include "reference.h"
 
 #include <stdlib.h>
@@ -315,9 +318,17 @@ static void paint_records(uint32_t m, const uint32_t *keys, uint64_t q, window a
     memcpy(kept_keys, keys, q * sizeof *keys);
 }
 
+/* What every answer about a window on a sound map has: the records painted, and the border as it is in the end. */
+static void begin_answer(uint32_t m, const uint32_t *keys, uint64_t q, window at, uint16_t *border)
+{
+    paint_records(m, keys, q, at);
+    for (uint64_t i = 0; i < at.w; i++)
+        border[i] = (uint16_t)(at.r0 + at.h);
+}
+
 /*
- * What every question about a window on a map begins with: refusals 1 to 7, or refusal 0. Then the records are painted,
- * and the border is as it has to be in the end, whatever comes of the answer slice.
+ * What every question about a window on a map begins with: refusals 1 to 7, or refusal 0. Then the answer is begun,
+ * whatever comes of the slice for it.
  */
 static lutniorad_answer begin_question(uint32_t m,
                                        const uint32_t *keys, size_t n_keys,
@@ -332,9 +343,7 @@ static lutniorad_answer begin_question(uint32_t m,
         return refused(6, 0);
     if (n_border < at.w)
         return refused(7, at.w);
-    paint_records(m, keys, n_keys, at);
-    for (uint64_t i = 0; i < at.w; i++)
-        border[i] = (uint16_t)(at.r0 + at.h);
+    begin_answer(m, keys, n_keys, at, border);
     return answered(0, 0);
 }
 
@@ -523,6 +532,103 @@ lutniorad_answer reference_select(uint32_t m,
     for (uint64_t i = 0; i < list.n; i++)
         out[i] = (uint32_t)list.keys[i];
     return answered(list.n, 0);
+}
+
+/* ---- A month ---- */
+
+lutniorad_answer reference_month_clear(uint32_t m,
+                                       uint16_t r0, uint16_t c0, uint16_t h, uint16_t w,
+                                       uint64_t *table, size_t n_table)
+{
+    window at = {r0, c0, h, w};
+    if (m > MOST_DIGITS)
+        return refused(1, 0);
+    if (!is_inside(at, side_of_picture(m)))
+        return refused(6, 0);
+    if (n_table < TABLE_CELLS)
+        return refused(8, TABLE_CELLS);
+    for (uint64_t i = 0; i < TABLE_CELLS; i++)
+        table[i] = 0;
+    table[TABLE_M] = m;
+    table[TABLE_R0] = r0;
+    table[TABLE_C0] = c0;
+    table[TABLE_H] = h;
+    table[TABLE_W] = w;
+    return answered(0, 0);
+}
+
+/* False where the four cells are no window inside the picture. */
+static bool window_of_table(const uint64_t *table, uint64_t side_of_all, window *at)
+{
+    for (uint64_t i = TABLE_R0; i <= TABLE_W; i++)
+        if (table[i] > UINT16_MAX)
+            return false;
+    at->r0 = (uint16_t)table[TABLE_R0];
+    at->c0 = (uint16_t)table[TABLE_C0];
+    at->h = (uint16_t)table[TABLE_H];
+    at->w = (uint16_t)table[TABLE_W];
+    return is_inside(*at, side_of_all);
+}
+
+/* At most 1,000 maps, and of each class no more maps than that, nor more pixels than these have in the window. */
+static bool numbers_are_possible(const uint64_t *table, window at)
+{
+    uint64_t maps = table[TABLE_MAPS];
+    if (maps > MOST_MAPS)
+        return false;
+    for (uint64_t k = 0; k < CLASSES; k++) {
+        const uint64_t *of_class = table + TABLE_CLASSES + k * CELLS_OF_CLASS;
+        if (of_class[OF_CLASS_MAPS] > maps || of_class[OF_CLASS_SUM] > maps * at.h * at.w)
+            return false;
+    }
+    return true;
+}
+
+/* What the table alone decides for a map of this m, from 15 on; with refusal 0 its window. */
+static lutniorad_answer check_table(uint32_t m, const uint64_t *table, window *at)
+{
+    if (table[TABLE_M] != m)
+        return refused(15, 0);
+    if (!window_of_table(table, side_of_picture(m), at) || !numbers_are_possible(table, *at))
+        return refused(26, 0);
+    if (table[TABLE_MAPS] == MOST_MAPS)
+        return refused(16, 0);
+    return answered(0, 0);
+}
+
+/* Of the first map, least and greatest are set. */
+static void add_pixels(uint64_t of_class[CELLS_OF_CLASS], bool is_first, uint64_t pixels)
+{
+    of_class[OF_CLASS_LEAST] = is_first ? pixels : lesser(of_class[OF_CLASS_LEAST], pixels);
+    of_class[OF_CLASS_GREATEST] = is_first ? pixels : greater(of_class[OF_CLASS_GREATEST], pixels);
+    of_class[OF_CLASS_SUM] += pixels;
+    of_class[OF_CLASS_MAPS] += pixels > 0;
+}
+
+lutniorad_answer reference_month_add(uint32_t m,
+                                     const uint32_t *keys, size_t n_keys,
+                                     const uint8_t *classes, size_t n_classes,
+                                     uint16_t *border, size_t n_border,
+                                     uint64_t *table, size_t n_table)
+{
+    uint64_t pixels[CLASSES];
+    window at;
+    lutniorad_answer check = reference_check(m, keys, n_keys, classes, n_classes);
+    if (check.refusal != 0)
+        return check;
+    if (n_table < TABLE_CELLS)
+        return refused(8, TABLE_CELLS);
+    lutniorad_answer of_table = check_table(m, table, &at);
+    if (of_table.refusal != 0)
+        return of_table;
+    if (n_border < at.w)
+        return refused(7, at.w);
+    begin_answer(m, keys, n_keys, at, border);
+    count_classes(at, classes, pixels);
+    for (uint64_t k = 0; k < CLASSES; k++)
+        add_pixels(table + TABLE_CLASSES + k * CELLS_OF_CLASS, table[TABLE_MAPS] == 0, pixels[k]);
+    table[TABLE_MAPS]++;
+    return answered(table[TABLE_MAPS], 0);
 }
 
 /* ---- The house file ---- */

@@ -53,6 +53,16 @@ lutniorad_answer reference_select(uint32_t m,
                                   uint16_t *border, size_t n_border,
                                   uint32_t *out, size_t n_out);
 
+lutniorad_answer reference_month_clear(uint32_t m,
+                                       uint16_t r0, uint16_t c0, uint16_t h, uint16_t w,
+                                       uint64_t *table, size_t n_table);
+
+lutniorad_answer reference_month_add(uint32_t m,
+                                     const uint32_t *keys, size_t n_keys,
+                                     const uint8_t *classes, size_t n_classes,
+                                     uint16_t *border, size_t n_border,
+                                     uint64_t *table, size_t n_table);
+
 lutniorad_answer reference_read(const uint8_t *file, size_t n,
                                 uint32_t *keys, size_t n_keys,
                                 uint8_t *classes, size_t n_classes);
@@ -64,6 +74,11 @@ lutniorad_answer reference_write(uint32_t m,
 
 /* The most pixels that a picture has, and how many classes there are. */
 enum { MOST_PIXELS = 4096 * 4096, CLASSES = 256 };
+
+/* The cells of a month's table, those of each class among them, and the most maps that a month has. */
+enum { TABLE_M, TABLE_R0, TABLE_C0, TABLE_H, TABLE_W, TABLE_MAPS, TABLE_CLASSES };
+enum { OF_CLASS_LEAST, OF_CLASS_GREATEST, OF_CLASS_SUM, OF_CLASS_MAPS, CELLS_OF_CLASS };
+enum { TABLE_CELLS = TABLE_CLASSES + CLASSES * CELLS_OF_CLASS, MOST_MAPS = 1000 };
 
 /*
  * The raster of a window: for each of its pixels, row by row from the north-west on, the index of the block that it

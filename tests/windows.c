@@ -1,5 +1,6 @@
 #include "windows.h"
 
+#include "months.h"
 #include "questions.h"
 
 #include <stdio.h>
@@ -535,6 +536,10 @@ static void call_everything(void)
         try_window(&sound, thin_window(sound.m, i), some_class(&sound));
     for (int i = 0; i < 4; i++)
         try_window(&sound, random_window(sound.m, (size_t)1 << 16), some_class(&sound));
+    for (size_t i = 0; i < THIN_WINDOWS; i += 2)
+        try_month(&sound, thin_window(sound.m, i));
+    for (int i = 0; i < 2; i++)
+        try_month(&sound, random_window(sound.m, (size_t)1 << 16));
 }
 
 void group_stack(void)

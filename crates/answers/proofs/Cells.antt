@@ -1,10 +1,10 @@
 -- The sizes of a map, and lent cells: an answer in them, and the cells beyond it.
 -- Assumes nothing.
-use mathlib.Core.Path.{_≡_, refl, ap, _∙_}
+use mathlib.Core.Path.{_≡_, refl, sym, ap, subst, _∙_}
 use mathlib.Core.Logic.{_↔_}
 use mathlib.Core.Bool.{Bool, true, false, not, _||_}
 use mathlib.Core.List.{List, [], _∷_, _++_, append-assoc, append-nil}
-use Prim.Native.Nat.{ℕ, _≤_, _<_}
+use Prim.Native.Nat.{ℕ, _+_, _-_, _≤_, _<_}
 use native.Mathlib.Nat.{zero-add}
 use native.Mathlib.Numerals.{add-one}
 use native.Mathlib.Omega.{arith}
@@ -81,6 +81,12 @@ module _ (xs zs : List ℕ) where
   pub drop-overwrite : drop (length xs) (overwrite xs zs) ≡ drop (length xs) zs
   unfolding overwrite
   drop-overwrite = drop-at xs _ _ refl
+
+  pub drop-beyond : (n : ℕ) → length xs ≤ n → drop n (overwrite xs zs) ≡ drop n zs
+  drop-beyond n l =
+      let e : length xs + (n - length xs) ≡ n = omega arith in
+      subst (λ (k : ℕ). drop k (overwrite xs zs) ≡ drop k zs) e
+      (sym (drop-drop (n - length xs) (length xs) (overwrite xs zs)) ∙ ap (drop (n - length xs)) drop-overwrite ∙ drop-drop (n - length xs) (length xs) zs)
 
   -- what is written behind an answer goes on with it
   pub overwrite-append : (ys : List ℕ) → take (length xs) (overwrite xs zs) ++ overwrite ys (drop (length xs) (overwrite xs zs)) ≡ overwrite (xs ++ ys) zs

@@ -12,10 +12,11 @@ use Rattle.answers.specs.After.{after, roomRefusals}
 use Rattle.key.specs.Spread.{spreadTo, spread}
 use Rattle.key.specs.Key.{pixelKey, blockKey}
 use Rattle.window.specs.Window.{window, beyond, outside, windowRefusals}
+use Rattle.window.specs.Drawn.{drawnRefusals, drawnFor}
 use Rattle.window.specs.Blocks.{floor, lies, fits, exponent, corner, across, rows, isCorner, maximal}
 use Rattle.window.specs.Keys.{keyOf, keysOf}
 use Rattle.decompose.specs.declared.Decomposed.the-variants.{Done, Refused}
-use Rattle.decompose.specs.Decompose.{decomposeRefusals, decomposeOf}
+use Rattle.decompose.specs.Decompose.{decomposeOf}
 
 abbrev six : List ℕ
 six = 1 ∷ 2 ∷ 3 ∷ 4 ∷ 5 ∷ 6 ∷ []
@@ -29,5 +30,5 @@ pub record Examples : Type 0 where
 
 pub examples : Examples
 unfolding pictureRefusals roomRefusals answer overwrite spreadTo spread pixelKey blockKey beyond outside windowRefusals keep floor lies fits greatest exponent corner across rows
-    isCorner maximal keyOf keysOf decomposeRefusals decomposeOf
+    isCorner maximal keyOf keysOf drawnRefusals drawnFor decomposeOf
 examples = record { done = refl; short = refl; large = refl; empty = refl }

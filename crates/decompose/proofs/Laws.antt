@@ -1,3 +1,3 @@
 -- The laws of decomposing: all that the crates above know of it.
 -- Assumes nothing.
-pub use Rattle.decompose.proofs.Tables.{numbered-decompose, decompose-passed, decompose-by-length, decompose-leaves, decompose-untouched}
+pub use Rattle.decompose.proofs.Tables.{decompose-is}

@@ -1,4 +1,4 @@
--- Checking, decomposing, exist, reading and writing as calls. The four numbers are the first refusal that holds, or values; of lent working memory only the lengths count. So it is
+-- Checking, exist, reading and writing as calls. The four numbers are the first refusal that holds, or values; of lent working memory only the lengths count. So it is
 -- known when a call is answered, and a refused call leaves every lent cell as it was.
 -- Assumes nothing.
 use mathlib.Core.Path.{_≡_, refl, ap, _∙_}
@@ -12,11 +12,6 @@ use Rattle.answers.specs.Refusals.{answer}
 use Rattle.answers.specs.Sizes.{Sized}
 use Rattle.answers.proofs.Laws.{answer-part, on-passed}
 use Rattle.window.specs.declared.Window.{Window}
-use Rattle.window.specs.Window.{Inside}
-use Rattle.window.specs.Keys.{keysOf}
-use Rattle.decompose.specs.declared.Decomposed.the-variants as decomposed
-use Rattle.decompose.specs.Decompose.{decomposeRefusals}
-use Rattle.decompose.proofs.Laws.{numbered-decompose, decompose-passed, decompose-by-length, decompose-untouched}
 use Rattle.map.specs.declared.Checked.the-variants as checked
 use Rattle.map.specs.Check.{mapRefusals}
 use Rattle.map.specs.Sound.{SoundMap}
@@ -33,8 +28,8 @@ use Rattle.exist.specs.declared.Existence.the-variants as existence
 use Rattle.exist.specs.Exist.{exists}
 use Rattle.exist.proofs.Laws.{exist-by-lengths, exist-untouched}
 use Rattle.lutniorad.specs.declared.Answer.{Answer}
-use Rattle.lutniorad.specs.Numbers.{values, refused, ofChecked, ofDecomposed, ofExistence, ofReading, ofWriting}
-use Rattle.lutniorad.specs.Calls.{Check, Decompose, Exist, Read, Write}
+use Rattle.lutniorad.specs.Numbers.{values, refused, ofChecked, ofExistence, ofReading, ofWriting}
+use Rattle.lutniorad.specs.Calls.{Check, Exist, Read, Write}
 use Rattle.lutniorad.proofs.Told.{told-most, told-when}
 
 -- ---- checking
@@ -51,24 +46,6 @@ module _ (m : ℕ) (keys classes : List ℕ) {r : Answer} (call : Check m keys c
 
   pub check-promise : r .refusal ≡ 0 → r ≡ values (length keys) 0
   check-promise z = check-says ∙ on-passed refused _ _ (sound-map m keys (length classes) .1 (check-answered .0 z))
-
--- ---- decomposing
-
-module _ (m : ℕ) (W : Window) (out : List ℕ) {out′ : List ℕ} {r : Answer} (call : Decompose m W out r out′) where
-  abbrev many : ℕ
-  many = length (keysOf m m W)
-
-  pub decompose-says : r ≡ answer refused (decomposeRefusals m W many (length out)) (values many 0)
-  decompose-says = call .answer ∙ ap ofDecomposed (decompose-by-length m W out) ∙ answer-part ofDecomposed decomposed.Refused (decomposeRefusals m W many (length out)) _
-
-  pub decompose-numbered : r .refusal ≤ 8
-  decompose-numbered = told-most _ refl (numbered-decompose m W many (length out)) decompose-says
-
-  pub decompose-answered : (r .refusal ≡ 0) ↔ ((m ≤ 12) × Inside m W × (many ≤ length out))
-  decompose-answered = told-when _ refl (numbered-decompose m W many (length out)) decompose-says (decompose-passed m W many (length out))
-
-  pub decompose-kept : (r .refusal ≡ 0 → ⊥) → out′ ≡ out
-  decompose-kept held = call .cells ∙ decompose-untouched m W out (λ e. held (decompose-answered .1 (decompose-passed m W many (length out) .0 e)))
 
 -- ---- exist
 

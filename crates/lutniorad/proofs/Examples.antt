@@ -14,10 +14,11 @@ use Rattle.key.specs.Picture.{place}
 use Rattle.key.specs.Key.{pixelKey, blockKey}
 use Rattle.key.specs.Form.{from, formOf}
 use Rattle.window.specs.Window.{beyond, outside, windowRefusals}
+use Rattle.window.specs.Drawn.{drawnRefusals, drawnFor}
 use Rattle.window.specs.Blocks.{floor, lies, fits, exponent, corner, across, rows, isCorner, maximal}
 use Rattle.window.specs.Keys.{keyOf, keysOf}
 use Rattle.window.proofs.P1.{W}
-use Rattle.decompose.specs.Decompose.{decomposeRefusals, decomposeOf}
+use Rattle.decompose.specs.Decompose.{decomposeOf}
 use Rattle.map.specs.Spans as spans
 use Rattle.map.specs.Spans.{within}
 use Rattle.map.specs.Check.{late, refusalsFrom, mapRefusals}
@@ -45,7 +46,7 @@ record Called : Type 0 where
 called : Called
 unfolding pictureRefusals countRefusals roomRefusals borderRefusals roomFor answer wrongCount sizeRefusals overwrite upFrom spreadTo spread place
     pixelKey blockKey from formOf beyond outside windowRefusals keep floor lies fits greatest exponent corner across rows isCorner maximal keyOf
-    keysOf decomposeRefusals decomposeOf spans.malformed spans.formExponent spans.start spans.end spans.holds spans.overlap late refusalsFrom
+    keysOf drawnRefusals drawnFor decomposeOf spans.malformed spans.formExponent spans.start spans.end spans.holds spans.overlap late refusalsFrom
     mapRefusals before howMany recordOf exponentOf runOf any within isHanded opening openFrom openings handedCount cellsOf useRefusals spent usedFor
     openOf
 called = record { p1 = record { answer = refl; cells = refl }; p2 = record { answer = refl; cells = refl } }

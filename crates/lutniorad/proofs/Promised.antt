@@ -10,16 +10,18 @@ use Rattle.lists.proofs.Laws.{ordered-map, map-same}
 use Rattle.answers.specs.Refusals.{refusal, answer}
 use Rattle.answers.specs.Cells.{overwrite}
 use Rattle.answers.specs.After.{after, roomRefusals}
-use Rattle.answers.proofs.Laws.{on-passed, take-overwrite}
+use Rattle.answers.proofs.Laws.{take-overwrite}
 use Rattle.key.specs.Picture.{Px}
 use Rattle.key.specs.Key.{blockKey}
 use Rattle.window.specs.declared.Window.{Window}
 use Rattle.window.specs.Window.{Inside}
+use Rattle.window.specs.Drawn.{drawnRefusals, drawnFor}
 use Rattle.window.specs.Blocks.{exponent, maximal}
 use Rattle.window.specs.Promises.{Maximal}
 use Rattle.window.specs.Keys.{keysOf}
 use Rattle.window.proofs.Laws.{maximal-listed, listed-ordered, blocks-few, keys-of, keys-length, key-at}
-use Rattle.decompose.proofs.Laws.{decompose-passed, decompose-leaves}
+use Rattle.decompose.specs.declared.Decomposed.the-variants as decomposed-as
+use Rattle.decompose.proofs.Laws.{decompose-is}
 use Rattle.map.proofs.Laws.{spaced}
 use Rattle.border.specs.Openings.{Opening, openings, handedCount, cellsOf}
 use Rattle.border.specs.Promises.{openingsIn}
@@ -29,10 +31,10 @@ use Rattle.used.specs.Promises.{Answerable}
 use Rattle.open.specs.declared.Opened.the-variants.{Done, Refused}
 use Rattle.open.proofs.Laws.{open-is}
 use Rattle.lutniorad.specs.declared.Answer.{Answer}
-use Rattle.lutniorad.specs.Numbers.{values, refused, ofOpened}
+use Rattle.lutniorad.specs.Numbers.{values, refused, ofDecomposed, ofOpened}
 use Rattle.lutniorad.specs.Calls.{Decompose, Open}
 use Rattle.lutniorad.specs.Promises.{RefusalLeaves, DecomposePromise, OpenPromise}
-use Rattle.lutniorad.proofs.Answered.{decompose-says, decompose-answered}
+use Rattle.lutniorad.proofs.Drawing.{drawn-crossed, drawn-says, drawn-numbered, drawn-answered, drawn-kept, drawn-done}
 use Rattle.lutniorad.proofs.Using.{used-crossed, used-says, used-numbered, used-answered, used-leaves, used-kept}
 
 -- ---- decomposing
@@ -69,24 +71,43 @@ module _ (m : ℕ) (W : Window) where
   unfolding listed
   many = keys-length m m W ∙ sym (length-map (maximal W m) sized)
 
-pub decompose-promise : (m : ℕ) (W : Window) (out : List ℕ) {out′ : List ℕ} {r : Answer} → Decompose m W out r out′ → r .refusal ≡ 0 → DecomposePromise m W out r out′
-unfolding listed sized
-decompose-promise m W out call z =
-    let t = decompose-answered m W out call .0 z in
-    let passed = decompose-passed m W (length (keysOf m m W)) (length out) .1 t in
-    record {
-      blocks = listed m W;
-      exactly = exactly m W;
-      in-order = ordered-map (sized m W) (listed-ordered W m) (λ p q k l b. b);
-      few = omega (arith, many m W, keys-length m m W, blocks-few W m (t .1));
-      number = decompose-says m W out call ∙ on-passed refused _ _ passed ∙ ap (λ (n : ℕ). values n 0) (many m W);
-      cells = call .cells ∙ decompose-leaves m W out passed ∙ ap (λ (ks : List ℕ). overwrite ks out) (their-keys m W);
-    }
+module _ (m : ℕ) (W : Window) (out : List ℕ) {out′ : List ℕ} {r : Answer} (call : Decompose m W out r out′) where
+  abbrev ks : List ℕ
+  ks = keysOf m m W
 
--- 4 (w + h) cells are always enough
-pub decompose-enough : (m : ℕ) (W : Window) (out : List ℕ) {out′ : List ℕ} {r : Answer}
-    → Decompose m W out r out′ → m ≤ 12 → Inside m W → 4 * (W .w + W .h) ≤ length out → r .refusal ≡ 0
-decompose-enough m W out call l I room = decompose-answered m W out call .1 (l, I, omega (arith, keys-length m m W, blocks-few W m I))
+  -- the call in numbers
+  decomposed : after r out′ ≡ drawnFor refused (values (length ks) 0) ks m W out
+  decomposed = drawn-crossed ofDecomposed decomposed-as.Refused (decomposed-as.Done (length ks)) ks m W out (decompose-is m W out) call
+
+  pub decompose-says : r ≡ answer refused (drawnRefusals m W (length ks) (length out)) (values (length ks) 0)
+  decompose-says = drawn-says (length ks) ks m W out decomposed
+
+  pub decompose-numbered : r .refusal ≤ 8
+  decompose-numbered = drawn-numbered (length ks) ks m W out decomposed
+
+  pub decompose-answered : (r .refusal ≡ 0) ↔ ((m ≤ 12) × Inside m W × (length ks ≤ length out))
+  decompose-answered = drawn-answered (length ks) ks m W out decomposed
+
+  pub decompose-kept : (r .refusal ≡ 0 → ⊥) → out′ ≡ out
+  decompose-kept = drawn-kept (length ks) ks m W out decomposed
+
+  -- 4 (w + h) cells are always enough
+  pub decompose-enough : m ≤ 12 → Inside m W → 4 * (W .w + W .h) ≤ length out → r .refusal ≡ 0
+  decompose-enough l I room = decompose-answered .1 (l, I, omega (arith, keys-length m m W, blocks-few W m I))
+
+  pub decompose-promise : r .refusal ≡ 0 → DecomposePromise m W out r out′
+  unfolding listed sized
+  decompose-promise z =
+      let t = decompose-answered .0 z in
+      let done = drawn-done (length ks) ks m W out decomposed z in
+      record {
+        blocks = listed m W;
+        exactly = exactly m W;
+        in-order = ordered-map (sized m W) (listed-ordered W m) (λ p q k l b. b);
+        few = omega (arith, many m W, keys-length m m W, blocks-few W m (t .1));
+        number = done .0 ∙ ap (λ (n : ℕ). values n 0) (many m W);
+        cells = done .1 ∙ ap (λ (ks : List ℕ). overwrite ks out) (their-keys m W);
+      }
 
 -- ---- opening
 

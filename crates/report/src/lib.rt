@@ -49,21 +49,8 @@ pub fn report(
             place: 256,
         };
     }
-    let table = blocks::spread_table();
-    let ones = spots::ones_table();
-    let digits = spots::digits_table();
     let mut totals: [u32; 256] = [0; 256];
-    sums::add_up(
-        &table,
-        &ones,
-        &digits,
-        m,
-        keys,
-        classes,
-        window,
-        border,
-        &mut totals,
-    );
+    sums::count(m, keys, classes, window, border, &mut totals);
     put_totals(&totals, out);
     Reported::Done {
         pixels: (window.h as u32) * (window.w as u32),

@@ -10,7 +10,7 @@ ghost use Rattle.used.specs.Used.{Usable, spent};
 ghost use Rattle.totals.specs.Totals.{totals};
 
 // Gathers the totals of all classes from opening to opening. In a whole map, those are the totals of all pixels.
-pub fn add_up(
+fn add_up(
     table: &[u32; 256],
     ones: &[u32; 13],
     digits: &[u8; 16],
@@ -59,4 +59,32 @@ pub fn add_up(
         );
         at = on;
     }
+}
+
+// The totals of all classes, from zeros on.
+pub fn count(
+    m: u32,
+    keys: &[u32],
+    classes: &[u8],
+    window: Window,
+    border: &mut [u16],
+    counts: &mut [u32; 256],
+)
+    requires { ⌜ Usable m m (now keys) window (length (now border)) × (length (now keys) ≡ length (now classes)) × (now counts ≡ replicate 256 0) × Follow m 0 (now keys) ⌝ }
+    ensures { λ r. ⌜ (now (counts .exit) ≡ totals m (now (keys .entry)) (now (classes .entry)) window) × (now (border .exit) ≡ spent window (now (border .entry))) ⌝ }
+{
+    let table = blocks::spread_table();
+    let ones = spots::ones_table();
+    let digits = spots::digits_table();
+    add_up(
+        &table,
+        &ones,
+        &digits,
+        m,
+        keys,
+        classes,
+        window,
+        border,
+        counts,
+    );
 }

@@ -21,7 +21,7 @@ use Rattle.window.specs.Blocks.{pixels}
 use Rattle.window.proofs.Laws.{pixels-length, in-pixels}
 use Rattle.map.specs.Sound.{Follow}
 use Rattle.map.specs.Records.{pixelRecord}
-use Rattle.map.specs.Classes.{classed}
+use Rattle.map.specs.Classes.{classed, hasClass}
 use Rattle.map.proofs.Laws.{spaced}
 use Rattle.border.specs.Openings.{openings, allHands}
 use Rattle.border.proofs.Laws.{in-hands, hands-whole, records-once}
@@ -38,6 +38,10 @@ module _ (m : ℕ) (keys classes : List ℕ) (W : Window) where
   pub totals-at : (k : ℕ) → k < 256 → getD (totals m keys classes W) k 0 ≡ total m keys classes W k
   unfolding totals
   totals-at k l = table-entry (total m keys classes W) 256 k refl l
+
+  pub total-most : (k : ℕ) → total m keys classes W k ≤ W .h * W .w
+  unfolding total
+  total-most k = omega (arith, many-most (hasClass m keys classes k) (pixels W), pixels-length W)
 
   -- they add up to the number of pixels
   pub totals-sum : ((n : ℕ) → getD classes n 0 < 256) → sum (totals m keys classes W) ≡ W .h * W .w

@@ -55,38 +55,28 @@ returns-2 c =
     let told = c .before .before .before .before .before .before .before in
     report-short _ _ _ _ _ _ (passed told) (c .before .before .fill .ensures ∙ filled-spent _ _ (known told .wide)) (omega (arith, c .before .before .before .before .before .before .if1 .taken))
 
-spread-table-requires : tie.Need-spread-table-requires
-spread-table-requires c κs = search needs
-
-ones-table-requires : tie.Need-ones-table-requires
-ones-table-requires c κs = search needs
-
-digits-table-requires : tie.Need-digits-table-requires
-digits-table-requires c κs = search needs
-
 -- where there is room for the totals
-abbrev roomy : tie.After-add-up-arg → tie.Else1
-roomy c = c .before .before .before .before .before .before .before
+abbrev roomy : tie.After-count-arg → tie.Else1
+roomy c = c .before
 
-add-up-requires : tie.Need-add-up-requires
-add-up-requires c κs =
+count-requires : tie.Need-count-requires
+count-requires c κs =
     let told = roomy (c .before) .before in
-    let tables = c .before .before .before .before .before in
     let ok = passed told in
-    (tables .before .before .spread-table .ensures, tables .before .ones-table .ensures, tables .digits-table .ensures, known told, use-same _ _ _ _ _ ok, refl, use-whole _ _ _ _ _ ok)
+    (known told, use-same _ _ _ _ _ ok, refl, use-whole _ _ _ _ _ ok)
 
 put-totals-requires : tie.Need-put-totals-requires
 put-totals-requires c κs =
-    (ap length (c .before .before .before .before .add-up .ensures .0) ∙ totals-length _ _ _ _, omega (arith, roomy (c .before .before .before .before .before .before) .if1 .left))
+    (ap length (c .before .before .before .before .count .ensures .0) ∙ totals-length _ _ _ _, omega (arith, roomy (c .before .before .before .before .before .before) .if1 .left))
 
-cast-t34 : tie.Need-cast-t34
-cast-t34 c = search needs
+cast-t25 : tie.Need-cast-t25
+cast-t25 c = search needs
 
-cast-t35 : tie.Need-cast-t35
-cast-t35 c = search needs
+cast-t26 : tie.Need-cast-t26
+cast-t26 c = search needs
 
-mul-t36 : tie.Need-mul-t36
-mul-t36 c =
+mul-t27 : tie.Need-mul-t27
+mul-t27 c =
     let told = roomy (c .before .before .before .before .before .before .before .before .before .before .before) .before in
     let u = known told in
     omega (arith, pixels-most (entry told .args .window) (inside-12 (u .small) (u .inside)))
@@ -99,9 +89,9 @@ same-length-3 c = search needs
 
 returns-3 : tie.Need-returns-3
 returns-3 c =
-    let added = c .before .before .before .before .before .before .before .before .before in
-    let left = roomy (added .before .before) in
-    report-done _ _ _ _ _ _ (passed (left .before)) (added .add-up .ensures .1) (omega (arith, left .if1 .left)) (added .add-up .ensures .0) (c .before .before .before .before .put-totals .ensures)
+    let counted = c .before .before .before .before .before .before .before .before .before in
+    let left = roomy (counted .before .before) in
+    report-done _ _ _ _ _ _ (passed (left .before)) (counted .count .ensures .1) (omega (arith, left .if1 .left)) (counted .count .ensures .0) (c .before .before .before .before .put-totals .ensures)
 
 pub report-spec : {M : Type 1} → statement M
 report-spec =
@@ -116,14 +106,11 @@ report-spec =
     fill-requires
     same-length
     returns-2
-    spread-table-requires
-    ones-table-requires
-    digits-table-requires
-    add-up-requires
+    count-requires
     put-totals-requires
-    cast-t34
-    cast-t35
-    mul-t36
+    cast-t25
+    cast-t26
+    mul-t27
     same-length-2
     same-length-3
     returns-3)

@@ -1,0 +1,5 @@
+mod Rows
+mod Clearing
+mod Sanity
+mod Tables
+mod Adding

@@ -1,0 +1,107 @@
+-- The rows of a table in their cells, and the loop that writes them class by class.
+-- Assumes nothing.
+use mathlib.Core.Path.{_≡_, refl, sym, ap, subst, _∙_}
+use mathlib.Core.Bool.{Bool, true, false, cond}
+use mathlib.Core.List.{List, [], _∷_, _++_, map, map-append, append-assoc, append-nil}
+use Prim.Native.Nat.{ℕ, zero, suc, _+_, _*_, _≤_, _<_}
+use native.Mathlib.Nat.{zero-add}
+use native.Mathlib.Omega.{arith}
+use lib.Dec.{eqb}
+use lib.ListN.{length, getD, take, drop, length-append, length-map}
+use lib.Seq.{length-take-le, getD-drop}
+use Rattle.lists.specs.Lists.{upFrom}
+use Rattle.lists.proofs.Laws.{up-none, up-one, up-append, up-length}
+use Rattle.answers.specs.Cells.{overwrite}
+use Rattle.answers.proofs.Laws.{Filling, filling-front, filling-beyond, filling-cell}
+use Rattle.month.specs.Month.{Row, row, rowCells, rowIn, withMap}
+use Rattle.month.specs.Rows.{putRow, grown, growRows, Fits, AllFit}
+
+-- ---- rows in their cells
+
+pub cells-append : (xs ys : List Row) → rowCells (xs ++ ys) ≡ rowCells xs ++ rowCells ys
+unfolding rowCells
+cells-append [] ys = refl
+cells-append (x ∷ xs) ys = ap (λ (t : List ℕ). x .least ∷ x .greatest ∷ x .sum ∷ x .maps ∷ t) (cells-append xs ys)
+
+pub cells-length : (xs : List Row) → length (rowCells xs) ≡ 4 * length xs
+unfolding rowCells
+cells-length [] = refl
+cells-length (x ∷ xs) = omega (arith, cells-length xs)
+
+pub cells-one : (x : Row) → rowCells (x ∷ []) ≡ x .least ∷ x .greatest ∷ x .sum ∷ x .maps ∷ []
+unfolding rowCells
+cells-one x = refl
+
+-- a map counts at most once
+pub once-most : (n : ℕ) → cond (eqb n 0) 0 1 ≤ 1
+once-most n = go (eqb n 0)
+  where
+    go : (t : Bool) → cond t 0 1 ≤ 1
+    go true = omega arith
+    go false = omega arith
+
+-- ---- a row that is written behind what stands already
+
+module _ {part table₀ table : List ℕ} (f : Filling part table₀ table) (class : ℕ) (e : length part ≡ 6 + 4 * class) where
+  pub row-kept : rowIn table class ≡ rowIn table₀ class
+  row-kept =
+      let at : ℕ = 6 + 4 * class in
+      rw (
+        filling-beyond f at (omega (arith, e)),
+        filling-beyond f (at + 1) (omega (arith, e)),
+        filling-beyond f (at + 2) (omega (arith, e)),
+        filling-beyond f (at + 3) (omega (arith, e)),
+      )
+
+  pub row-put : (x : Row) → 10 + 4 * class ≤ length table₀ → Filling (part ++ rowCells (x ∷ [])) table₀ (putRow class x table)
+  unfolding putRow
+  row-put x l =
+      let at : ℕ = 6 + 4 * class in
+      let one = filling-cell f at e (x .least) (omega arith) in
+      let two = filling-cell one (at + 1) (simp length-append (omega (arith, e))) (x .greatest) (omega arith) in
+      let three = filling-cell two (at + 2) (simp length-append (omega (arith, e))) (x .sum) (omega arith) in
+      let four = filling-cell three (at + 3) (simp length-append (omega (arith, e))) (x .maps) (omega arith) in
+      rw (cells-one x) (rw (append-assoc, append-assoc, append-assoc) at four)
+
+-- ---- the loop
+
+-- the rows of the first k classes have grown
+pub record Growing (first : Bool) (counts table₀ table : List ℕ) (k : ℕ) : Type 0 where
+  pub few : k ≤ 256
+  pub cells : Filling (take 6 table₀ ++ rowCells (map (grown first counts table₀) (upFrom 0 k))) table₀ table
+
+module _ (first : Bool) (counts table₀ : List ℕ) where
+  abbrev rows : ℕ → List Row
+  rows k = map (grown first counts table₀) (upFrom 0 k)
+
+  many : (k : ℕ) → length (rowCells (rows k)) ≡ 4 * k
+  many k = cells-length (rows k) ∙ rw (length-map (upFrom 0 k) (grown first counts table₀), up-length 0 k)
+
+  pub rows-length : 1030 ≤ length table₀ → (k : ℕ) → length (take 6 table₀ ++ rowCells (rows k)) ≡ 6 + 4 * k
+  rows-length l k = length-append (take 6 table₀) (rowCells (rows k)) ∙ rw (many k, length-take-le 6 table₀ (omega arith))
+
+  pub growing-first : 1030 ≤ length table₀ → Growing first counts table₀ table₀ 0
+  unfolding rowCells
+  growing-first l =
+      let none : take 6 table₀ ++ rowCells (rows 0) ≡ take 6 table₀ = rw up-none (append-nil (take 6 table₀)) in
+      record { few = omega arith; cells = rw none (filling-front 6 table₀ (omega arith)) }
+
+  module _ (l : 1030 ≤ length table₀) {table : List ℕ} {k : ℕ} (g : Growing first counts table₀ table k) where
+    -- the next row is as it was
+    pub growing-row : rowIn table k ≡ rowIn table₀ k
+    growing-row = row-kept (g .cells) k (rows-length l k)
+
+    pub growing-next : k < 256 → {table′ : List ℕ} → table′ ≡ putRow k (withMap first (getD counts k 0) (rowIn table k)) table → Growing first counts table₀ table′ (k + 1)
+    growing-next h {table′} e =
+        let x : Row = grown first counts table₀ k in
+        let more : map (grown first counts table₀) (upFrom 0 (k + 1)) ≡ rows k ++ x ∷ [] =
+        ap (map (grown first counts table₀)) (up-append 0 k 1) ∙ map-append (grown first counts table₀) (upFrom 0 k) (upFrom (0 + k) 1) ∙ rw (zero-add k, up-one k) in
+        let list : take 6 table₀ ++ rowCells (rows k) ++ rowCells (x ∷ []) ≡ take 6 table₀ ++ rowCells (map (grown first counts table₀) (upFrom 0 (k + 1))) =
+        append-assoc (take 6 table₀) (rowCells (rows k)) (rowCells (x ∷ [])) ∙ ap (λ (t : List ℕ). take 6 table₀ ++ t) (sym (cells-append (rows k) (x ∷ [])) ∙ ap rowCells (sym more)) in
+        let put : Filling (take 6 table₀ ++ rowCells (rows k) ++ rowCells (x ∷ [])) table₀ table′ =
+        rw (e, growing-row) (row-put (g .cells) k (rows-length l k) x (omega arith)) in
+        record { few = omega arith; cells = subst (λ (part : List ℕ). Filling part table₀ table′) list put }
+
+    pub growing-last : 256 ≤ k → table ≡ growRows first counts table₀
+    unfolding growRows
+    growing-last h = let all : k ≡ 256 = omega (arith, g .few) in subst (λ (n : ℕ). table ≡ overwrite (take 6 table₀ ++ rowCells (rows n)) table₀) all (g .cells .is)

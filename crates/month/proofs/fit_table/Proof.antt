@@ -1,0 +1,45 @@
+-- `month::fit_table` meets its contract.
+-- Assumes nothing.
+use mathlib.Core.Path.{sym, _∙_}
+use borrow.Author.Needs.{needs}
+use Rattle.month.proofs.Tables.{table-short, table-other, table-spoiled, table-full, table-open}
+use borrow.Author.Needs.{needs}
+use Rattle.month.proofs.fit_table.Statement.{statement}
+use Rattle.month.proofs.fit_table.Tie as tie
+
+returns : tie.Need-returns
+returns c = sym (table-short _ _ (c .if1 .taken))
+
+shared-slice-read-if2 : tie.Need-shared-slice-read-if2
+shared-slice-read-if2 c = search needs
+
+returns-2 : tie.Need-returns-2
+returns-2 c = sym (table-other _ _ (c .before .before .if1 .left) (c .if2 .taken))
+
+spoiled-requires : tie.Need-spoiled-requires
+spoiled-requires c κs = search needs
+
+returns-3 : tie.Need-returns-3
+returns-3 c = sym (table-spoiled _ _ (c .before .before .before .before .if1 .left) (c .before .before .if2 .left) (sym (c .before .spoiled .ensures) ∙ c .if3 .taken))
+
+shared-slice-read-if4 : tie.Need-shared-slice-read-if4
+shared-slice-read-if4 c = search needs
+
+returns-4 : tie.Need-returns-4
+returns-4 c = sym (table-full _ _ (c .before .before .before .before .before .before .if1 .left) (c .before .before .before .before .if2 .left) (sym (c .before .before .before .spoiled .ensures) ∙ c .before .before .if3 .left) (c .if4 .taken))
+
+returns-5 : tie.Need-returns-5
+returns-5 c = sym (table-open _ _ (c .before .before .before .before .before .before .if1 .left) (c .before .before .before .before .if2 .left) (sym (c .before .before .before .spoiled .ensures) ∙ c .before .before .if3 .left) (c .if4 .left))
+
+pub fit-table-spec : {M : Type 1} → statement M
+fit-table-spec =
+    tie.close
+    (tie.spec
+    returns
+    shared-slice-read-if2
+    returns-2
+    spoiled-requires
+    returns-3
+    shared-slice-read-if4
+    returns-4
+    returns-5)

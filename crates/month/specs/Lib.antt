@@ -1,0 +1,3 @@
+pub mod Month
+pub mod Rows
+pub mod Promises
