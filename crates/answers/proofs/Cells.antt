@@ -9,8 +9,8 @@ use native.Mathlib.Nat.{zero-add}
 use native.Mathlib.Numerals.{add-one}
 use native.Mathlib.Omega.{arith}
 use lib.Dec.{eqb, ltb}
-use lib.ListN.{length, take, drop, set, length-append, length-drop}
-use lib.Seq.{take-at, drop-at, set-at, drop-drop, drop-cons, drop-length, sets, sets-eq}
+use lib.ListN.{length, take, drop, getD, set, length-append, length-drop}
+use lib.Seq.{getD-take, take-at, drop-at, set-at, drop-drop, drop-cons, drop-length, sets, sets-eq}
 use borrow.Author.Tests.{ltb-false, eqb-false, eqb-true, lt-ltb, le-ltb, eq-eqb, ne-eqb, not-false}
 use Rattle.lists.proofs.Laws.{neither}
 use Rattle.answers.specs.declared.Verdict.the-variants.{Passed, Refused}
@@ -77,6 +77,9 @@ module _ (xs zs : List ℕ) where
   pub take-overwrite : take (length xs) (overwrite xs zs) ≡ xs
   unfolding overwrite
   take-overwrite = take-at xs _ _ refl
+
+  pub overwrite-at : (i : ℕ) → i < length xs → getD (overwrite xs zs) i 0 ≡ getD xs i 0
+  overwrite-at i l = sym (getD-take (length xs) (overwrite xs zs) i 0 l) ∙ ap (λ (t : List ℕ). getD t i 0) take-overwrite
 
   pub drop-overwrite : drop (length xs) (overwrite xs zs) ≡ drop (length xs) zs
   unfolding overwrite

@@ -1,9 +1,20 @@
--- The words in which promises about sums are said.
+-- The words in which promises about numbers of a list are said.
 -- Assumes nothing.
 use mathlib.Core.List.{List, [], _∷_, List·Memᴰ}
-use Prim.Native.Nat.{ℕ, _+_}
+use Prim.Native.Nat.{ℕ, min, max, _+_}
 
 -- numbers, added up
 unfoldable pub sum : List ℕ → ℕ
 sum [] = 0
 sum (n ∷ ns) = n + sum ns
+
+-- the least of them, and 0 where there is none
+unfoldable pub leastOf : List ℕ → ℕ
+leastOf [] = 0
+leastOf (n ∷ []) = n
+leastOf (n ∷ k ∷ ns) = min n (leastOf (k ∷ ns))
+
+-- the greatest
+unfoldable pub greatestOf : List ℕ → ℕ
+greatestOf [] = 0
+greatestOf (n ∷ ns) = max n (greatestOf ns)

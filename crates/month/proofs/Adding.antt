@@ -23,10 +23,11 @@ use Rattle.totals.specs.Totals.{total, totals}
 use Rattle.totals.proofs.Laws.{totals-length, totals-at, total-most}
 use Rattle.month.specs.declared.Added.{Added}
 use Rattle.month.specs.declared.Added.the-variants.{Done, Refused}
-use Rattle.month.specs.Month.{Row, rowCells, headOf, tableOf, sizeIn, windowIn, mapsIn, rowIn, withMap, addMap, addRefusals, addOf}
-use Rattle.month.specs.Rows.{grown, growRows, AllFit}
+use Rattle.rows.specs.Rows.{Row, rowCells, rowIn, withMap}
+use Rattle.month.specs.Month.{headOf, tableOf, sizeIn, windowIn, mapsIn, addMap, addRefusals, addOf}
+use Rattle.rows.specs.Growing.{grown, growRows, AllFit}
 use Rattle.month.specs.Promises.{Sane}
-use Rattle.month.proofs.Rows.{cells-length}
+use Rattle.rows.proofs.Laws.{cells-length, grow-is}
 
 -- ---- the table
 
@@ -65,14 +66,14 @@ module _ (m : ℕ) (keys classes table : List ℕ) (long : 1030 ≤ length table
 
   pub grown-stored : {counts : List ℕ} → counts ≡ totals m keys classes (windowIn table)
       → growRows (eqb (mapsIn table) 0) counts (set table 5 (mapsIn table + 1)) ≡ overwrite (addMap m keys classes table) table
-  unfolding growRows addMap tableOf
+  unfolding addMap tableOf
   grown-stored {counts} c =
       let rows : map (grown (eqb (mapsIn table) 0) counts stored) (upFrom 0 256) ≡ map more (upFrom 0 256) = map-same (upFrom 0 256) each in
       let cells : take 6 stored ++ rowCells (map (grown (eqb (mapsIn table) 0) counts stored) (upFrom 0 256)) ≡ addMap m keys classes table =
       rw (rows, six-cells table (mapsIn table + 1) (omega arith), same) (append-assoc (headOf m (windowIn table)) ((mapsIn table + 1) ∷ []) (rowCells (map more (upFrom 0 256)))) in
       let n = map-length m keys classes table in
       let beyond : drop (length (addMap m keys classes table)) stored ≡ drop (length (addMap m keys classes table)) table = drop-set-lt (length (addMap m keys classes table)) table 5 (mapsIn table + 1) (omega (arith, n)) in
-      ap (λ (x : List ℕ). overwrite x stored) cells ∙ overwrite-same (addMap m keys classes table) table stored beyond
+      grow-is (eqb (mapsIn table) 0) counts stored ∙ ap (λ (x : List ℕ). overwrite x stored) cells ∙ overwrite-same (addMap m keys classes table) table stored beyond
     where
       each : (class : ℕ) → List·Memᴰ class (upFrom 0 256) → grown (eqb (mapsIn table) 0) counts stored class ≡ more class
       each class l =
@@ -115,6 +116,12 @@ module _ (m : ℕ) (keys classes border table : List ℕ) where
   pub add-by-lengths : addOf m keys classes border table .answer ≡ answer Refused (addRefusals m keys (length classes) (length border) table) (Done (mapsIn table + 1))
   unfolding addOf
   add-by-lengths = answer-part (λ (x : After Added (List ℕ × List ℕ)). x .answer) (λ n p. after (Refused n p) (border, table)) rs _
+
+  -- and for the table
+  pub add-table : addOf m keys classes border table .lent .1
+      ≡ answer (λ (n p : ℕ). table) (addRefusals m keys (length classes) (length border) table) (overwrite (addMap m keys classes table) table)
+  unfolding addOf
+  add-table = answer-part (λ (x : After Added (List ℕ × List ℕ)). x .lent .1) (λ n p. after (Refused n p) (border, table)) rs _
 
   -- a refusal leaves border and table as they were
   pub add-untouched : (verdict (addRefusals m keys (length classes) (length border) table) ≡ verdict-of.Passed → ⊥) → addOf m keys classes border table .lent ≡ (border, table)

@@ -1,3 +1,3 @@
 pub mod Month
-pub mod Rows
+pub mod Narrow
 pub mod Promises

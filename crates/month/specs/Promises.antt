@@ -1,39 +1,24 @@
 -- The words in which it is said what a month is: the table of a list of maps, and what 26 lets pass.
 -- Assumes nothing.
 use mathlib.Core.Path.{_≡_}
-use mathlib.Core.List.{List, [], _∷_, map}
-use Prim.Native.Nat.{ℕ, min, max, _*_, _≤_, _<_}
-use lib.Dec.{ltb}
+use mathlib.Core.List.{List, map}
+use Prim.Native.Nat.{ℕ, _*_, _≤_, _<_}
 use lib.ListN.{length}
-use Rattle.lists.specs.Promises as numbers
-use Rattle.lists.specs.Lists.{howMany}
 use Rattle.window.specs.declared.Window.{Window}
 use Rattle.window.specs.Window.{Inside}
 use Rattle.map.specs.Sound.{SoundMap}
 use Rattle.totals.specs.Totals.{total}
-use Rattle.month.specs.Month.{Row, row, tableOf, sizeIn, windowIn, mapsIn, rowIn}
+use Rattle.rows.specs.Rows.{rowIn}
+use Rattle.rows.specs.Promises.{rowOf}
+use Rattle.month.specs.Month.{tableOf, sizeIn, windowIn, mapsIn}
 
 -- a map by its keys and its classes
 abbrev pub Map : Type 0
 Map = List ℕ × List ℕ
 
--- the least of some numbers, and of none 0
-unfoldable pub leastOf : List ℕ → ℕ
-leastOf [] = 0
-leastOf (n ∷ []) = n
-leastOf (n ∷ k ∷ ns) = min n (leastOf (k ∷ ns))
-
-unfoldable pub greatestOf : List ℕ → ℕ
-greatestOf [] = 0
-greatestOf (n ∷ ns) = max n (greatestOf ns)
-
 -- map by map, how many pixels of the window have the class
 unfoldable pub countsOf : ℕ → Window → List Map → ℕ → List ℕ
 countsOf m W maps class = map (λ (a : Map). total m (a .0) (a .1) W class) maps
-
--- the row of a class, from these numbers
-unfoldable pub rowOf : List ℕ → Row
-rowOf ns = row (leastOf ns) (greatestOf ns) (numbers.sum ns) (howMany (ltb 0) ns)
 
 -- the table of a list of maps
 unfoldable pub monthOf : ℕ → Window → List Map → List ℕ

@@ -2,16 +2,14 @@
 use answers::Verdict;
 use window::Window;
 ghost use mathlib.Core.Path.{_≡_};
-ghost use mathlib.Core.Bool.{cond};
-ghost use Prim.Native.Nat.{min, max, _+_, _≤_, _<_};
 ghost use mathlib.Core.List.{_++_};
-ghost use lib.Dec.{eqb};
+ghost use Prim.Native.Nat.{min, _≤_};
 ghost use lib.ListN.{length, replicate, take};
 ghost use Rattle.answers.specs.Refusals.{verdict};
 ghost use Rattle.answers.specs.Cells.{overwrite};
 ghost use Rattle.answers.specs.After.{after};
-ghost use Rattle.month.specs.Month.{clearOf, withMap, rowIn, windowIn, anyOver, spoiled, tableRefusals, addRefusals, addOf};
-ghost use Rattle.month.specs.Rows.{narrowed, putRow, growRows, Fits, AllFit};
+ghost use Rattle.month.specs.Month.{clearOf, windowIn, spoiled, tableRefusals, addRefusals, addOf};
+ghost use Rattle.month.specs.Narrow.{narrowed};
 
 // What clearing answers.
 pub enum Cleared {
@@ -87,25 +85,6 @@ fn window_in(table: &[u64]) -> Window
     }
 }
 
-// Whether some class has a sum over `most`, or more than so many maps.
-fn any_over(most: u64, maps: u64, table: &[u64]) -> bool
-    requires { ⌜ 1030 ≤ length (now table) ⌝ }
-    ensures { λ r. ⌜ r ≡ anyOver most maps (now (table .entry)) ⌝ }
-{
-    let mut k: usize = 0;
-    while k < 256 {
-        let at = 6 + 4 * k;
-        if most < table[at + 2] {
-            return true;
-        }
-        if maps < table[at + 3] {
-            return true;
-        }
-        k += 1;
-    }
-    false
-}
-
 // Refusal 26.
 fn spoiled(m: u32, table: &[u64]) -> bool
     requires { ⌜ (m ≤ 12) × (1030 ≤ length (now table)) ⌝ }
@@ -120,7 +99,7 @@ fn spoiled(m: u32, table: &[u64]) -> bool
         return true;
     }
     let pixels = (window.h as u64) * (window.w as u64);
-    any_over(maps * pixels, maps, table)
+    rows::any_over(maps * pixels, maps, table)
 }
 
 // Refusals 8, 15, 26 and 16.
@@ -177,60 +156,6 @@ fn addable(m: u32, keys: &[u32], classes: &[u8], cells: usize, table: &[u64]) ->
     Verdict::Passed
 }
 
-// The least number of pixels, with a map more that has n. The first map sets it.
-fn least(first: bool, so_far: u64, n: u64) -> u64
-    ensures { λ r. ⌜ r ≡ cond first n (min «so_far» n) ⌝ }
-{
-    if first {
-        return n;
-    }
-    if n < so_far { n } else { so_far }
-}
-
-fn greatest(first: bool, so_far: u64, n: u64) -> u64
-    ensures { λ r. ⌜ r ≡ cond first n (max «so_far» n) ⌝ }
-{
-    if first {
-        return n;
-    }
-    if so_far < n { n } else { so_far }
-}
-
-// 1 for a map with pixels of the class, 0 for one without.
-fn once(n: u64) -> u64
-    ensures { λ r. ⌜ r ≡ cond (eqb n 0) 0 1 ⌝ }
-{
-    if n == 0 { 0 } else { 1 }
-}
-
-// A map more in the row of class k, of which it has n pixels.
-fn add_row(table: &mut [u64], k: usize, first: bool, n: u64)
-    requires { ⌜ (1030 ≤ length (now table)) × (k < 256) × (n ≤ 16777216) × Fits (rowIn (now table) k) ⌝ }
-    ensures { λ r. ⌜ now (table .exit) ≡ putRow k (withMap first n (rowIn (now (table .entry)) k)) (now (table .entry)) ⌝ }
-{
-    let at = 6 + 4 * k;
-    let fewest = least(first, table[at], n);
-    let most = greatest(first, table[at + 1], n);
-    let sum = table[at + 2] + n;
-    let maps = table[at + 3] + once(n);
-    table[at] = fewest;
-    table[at + 1] = most;
-    table[at + 2] = sum;
-    table[at + 3] = maps;
-}
-
-// A map more in the rows of all classes, by its pixels of each.
-fn add_rows(table: &mut [u64], counts: &[u32; 256], first: bool)
-    requires { ⌜ AllFit (now counts) (now table) ⌝ }
-    ensures { λ r. ⌜ now (table .exit) ≡ growRows first (now (counts .entry)) (now (table .entry)) ⌝ }
-{
-    let mut k: usize = 0;
-    while k < 256 {
-        add_row(table, k, first, counts[k] as u64);
-        k += 1;
-    }
-}
-
 // Adds a map to the table.
 pub fn add(m: u32, keys: &[u32], classes: &[u8], border: &mut [u16], table: &mut [u64]) -> Added
     ensures { λ r. ⌜ after r (now (border .exit), now (table .exit)) ≡ addOf m (now (keys .entry)) (now (classes .entry)) (now (border .entry)) (now (table .entry)) ⌝ }
@@ -243,7 +168,7 @@ pub fn add(m: u32, keys: &[u32], classes: &[u8], border: &mut [u16], table: &mut
     sums::count(m, keys, classes, window_in(table), border, &mut counts);
     let maps = table[5];
     table[5] = maps + 1;
-    add_rows(table, &counts, maps == 0);
+    rows::add_rows(table, &counts, maps == 0);
     Added::Done {
         maps: (maps + 1) as u32,
     }

@@ -1,11 +1,11 @@
--- `month::add_rows` meets its contract.
+-- `rows::add_rows` meets its contract.
 -- Assumes nothing.
 use Prim.Native.Nat.{_-_}
 use native.Mathlib.Omega.{arith}
 use borrow.Author.Needs.{needs}
-use Rattle.month.proofs.Rows.{Growing, growing-first, growing-row, growing-next, growing-last}
-use Rattle.month.proofs.add_rows.Statement.{statement}
-use Rattle.month.proofs.add_rows.Tie as tie
+use Rattle.rows.proofs.Rows.{Growing, growing-first, growing-row, growing-next, growing-last}
+use Rattle.rows.proofs.add_rows.Statement.{statement}
+use Rattle.rows.proofs.add_rows.Tie as tie
 
 abbrev Inv-loop : tie.InvT-loop
 Inv-loop table₀ counts first k₀ table k = Growing first counts table₀ table k

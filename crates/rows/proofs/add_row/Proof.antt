@@ -1,14 +1,14 @@
--- `month::add_row` meets its contract.
+-- `rows::add_row` meets its contract.
 -- Assumes nothing.
 use native.Mathlib.Omega.{arith}
 use lib.ListN.{length-set}
 use borrow.Author.Needs.{needs}
-use Rattle.month.specs.Month.{withMap}
-use Rattle.month.specs.Rows.{putRow}
-use Rattle.month.proofs.Rows.{once-most}
+use Rattle.rows.specs.Rows.{withMap}
+use Rattle.rows.specs.Growing.{putRow}
+use Rattle.rows.proofs.Rows.{once-most}
 use borrow.Author.Needs.{needs}
-use Rattle.month.proofs.add_row.Statement.{statement}
-use Rattle.month.proofs.add_row.Tie as tie
+use Rattle.rows.proofs.add_row.Statement.{statement}
+use Rattle.rows.proofs.add_row.Tie as tie
 
 mul-at : tie.Need-mul-at
 mul-at c = search needs

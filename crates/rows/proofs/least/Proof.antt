@@ -1,8 +1,8 @@
--- `month::least` meets its contract.
+-- `rows::least` meets its contract.
 -- Assumes nothing.
 use native.Mathlib.Omega.{arith}
-use Rattle.month.proofs.least.Statement.{statement}
-use Rattle.month.proofs.least.Tie as tie
+use Rattle.rows.proofs.least.Statement.{statement}
+use Rattle.rows.proofs.least.Tie as tie
 
 returns : tie.Need-returns
 returns c = rw (c .if1 .taken)

@@ -4,17 +4,17 @@ use mathlib.Core.Path.{_≡_, refl, sym, ap, subst, _∙_}
 use mathlib.Core.Bool.{Bool, true, false, cond}
 use mathlib.Core.List.{List, [], _∷_, _++_, map, map-append, append-assoc, append-nil}
 use Prim.Native.Nat.{ℕ, zero, suc, _+_, _*_, _≤_, _<_}
-use native.Mathlib.Nat.{zero-add}
+use native.Mathlib.Nat.{zero-add, add-zero}
 use native.Mathlib.Omega.{arith}
 use lib.Dec.{eqb}
-use lib.ListN.{length, getD, take, drop, length-append, length-map}
+use lib.ListN.{length, getD, take, drop, replicate, length-append, length-map}
 use lib.Seq.{length-take-le, getD-drop}
 use Rattle.lists.specs.Lists.{upFrom}
-use Rattle.lists.proofs.Laws.{up-none, up-one, up-append, up-length}
+use Rattle.lists.proofs.Laws.{up-none, up-next, up-one, up-append, up-length}
 use Rattle.answers.specs.Cells.{overwrite}
 use Rattle.answers.proofs.Laws.{Filling, filling-front, filling-beyond, filling-cell}
-use Rattle.month.specs.Month.{Row, row, rowCells, rowIn, withMap}
-use Rattle.month.specs.Rows.{putRow, grown, growRows, Fits, AllFit}
+use Rattle.rows.specs.Rows.{Row, row, rowCells, rowIn, withMap}
+use Rattle.rows.specs.Growing.{putRow, grown, growRows, Fits, AllFit}
 
 -- ---- rows in their cells
 
@@ -28,9 +28,33 @@ unfolding rowCells
 cells-length [] = refl
 cells-length (x ∷ xs) = omega (arith, cells-length xs)
 
+-- those of one row, and behind them the others'
+pub cells-next : (x : Row) (xs : List Row) → rowCells (x ∷ xs) ≡ x .least ∷ x .greatest ∷ x .sum ∷ x .maps ∷ rowCells xs
+unfolding rowCells
+cells-next x xs = refl
+
 pub cells-one : (x : Row) → rowCells (x ∷ []) ≡ x .least ∷ x .greatest ∷ x .sum ∷ x .maps ∷ []
 unfolding rowCells
 cells-one x = refl
+
+-- behind the cells of k rows stand those of row k
+pub behind-rows : (f : ℕ → Row) (a n k : ℕ) → k < n → (rest : List Row) × (drop (4 * k) (rowCells (map f (upFrom a n))) ≡ rowCells (f (a + k) ∷ rest))
+unfolding rowCells
+behind-rows f a zero k l = absurd (omega arith)
+behind-rows f a (suc n) zero l = (map f (upFrom (suc a) n), rw (up-next a n, add-zero a))
+behind-rows f a (suc n) (suc k) l =
+    let ih = behind-rows f (suc a) n k (omega arith) in
+    let four : 4 * suc k ≡ suc (suc (suc (suc (4 * k)))) = omega arith in
+    let same : a + suc k ≡ suc a + k = omega arith in
+    (ih .0, rw (up-next a n, four, same) (ih .1))
+
+-- rows of zeros
+pub zero-rows : (a n : ℕ) → rowCells (map (λ (class : ℕ). row 0 0 0 0) (upFrom a n)) ≡ replicate (4 * n) 0
+unfolding rowCells
+zero-rows a zero = rw (up-none a)
+zero-rows a (suc n) =
+    let four : 4 * suc n ≡ suc (suc (suc (suc (4 * n)))) = omega arith in
+    rw (up-next a n, four, zero-rows (suc a) n)
 
 -- a map counts at most once
 pub once-most : (n : ℕ) → cond (eqb n 0) 0 1 ≤ 1
@@ -69,6 +93,11 @@ module _ {part table₀ table : List ℕ} (f : Filling part table₀ table) (cla
 pub record Growing (first : Bool) (counts table₀ table : List ℕ) (k : ℕ) : Type 0 where
   pub few : k ≤ 256
   pub cells : Filling (take 6 table₀ ++ rowCells (map (grown first counts table₀) (upFrom 0 k))) table₀ table
+
+pub grow-is : (first : Bool) (counts table : List ℕ)
+    → growRows first counts table ≡ overwrite (take 6 table ++ rowCells (map (grown first counts table) (upFrom 0 256))) table
+unfolding growRows
+grow-is first counts table = refl
 
 module _ (first : Bool) (counts table₀ : List ℕ) where
   abbrev rows : ℕ → List Row

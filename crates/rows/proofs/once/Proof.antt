@@ -1,8 +1,8 @@
--- `month::once` meets its contract.
+-- `rows::once` meets its contract.
 -- Assumes nothing.
 use borrow.Author.Tests.{eq-eqb, ne-eqb}
-use Rattle.month.proofs.once.Statement.{statement}
-use Rattle.month.proofs.once.Tie as tie
+use Rattle.rows.proofs.once.Statement.{statement}
+use Rattle.rows.proofs.once.Tie as tie
 
 returns : tie.Need-returns
 returns c = rw (eq-eqb _ 0 (c .if1 .taken))

@@ -1,8 +1,8 @@
--- `month::greatest` meets its contract.
+-- `rows::greatest` meets its contract.
 -- Assumes nothing.
 use native.Mathlib.Omega.{arith}
-use Rattle.month.proofs.greatest.Statement.{statement}
-use Rattle.month.proofs.greatest.Tie as tie
+use Rattle.rows.proofs.greatest.Statement.{statement}
+use Rattle.rows.proofs.greatest.Tie as tie
 
 returns : tie.Need-returns
 returns c = rw (c .if1 .taken)

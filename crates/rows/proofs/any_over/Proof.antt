@@ -1,12 +1,12 @@
--- `month::any_over` meets its contract.
+-- `rows::any_over` meets its contract.
 -- Assumes nothing.
 use mathlib.Core.Path.{sym}
 use Prim.Native.Nat.{_-_}
 use native.Mathlib.Omega.{arith}
 use borrow.Author.Needs.{needs}
-use Rattle.month.proofs.Sanity.{Looking, over-sum, over-maps, looking-first, looking-found, looking-next, looking-last}
-use Rattle.month.proofs.any_over.Statement.{statement}
-use Rattle.month.proofs.any_over.Tie as tie
+use Rattle.rows.proofs.Over.{Looking, over-sum, over-maps, looking-first, looking-found, looking-next, looking-last}
+use Rattle.rows.proofs.any_over.Statement.{statement}
+use Rattle.rows.proofs.any_over.Tie as tie
 
 abbrev Inv-loop : tie.InvT-loop
 Inv-loop most maps table k₀ k = Looking most maps table k

@@ -3,17 +3,11 @@
 use mathlib.Core.Path.{_≡_}
 use mathlib.Core.Bool.{Bool}
 use mathlib.Core.List.{List, _++_, map}
-use Prim.Native.Nat.{ℕ, min, _+_, _*_, _^_, _≤_, _<_}
+use Prim.Native.Nat.{ℕ, _+_, _*_, _^_, _≤_, _<_}
 use lib.ListN.{length, getD, set, take}
 use Rattle.lists.specs.Lists.{upFrom}
 use Rattle.answers.specs.Cells.{overwrite}
-use Rattle.window.specs.declared.Window.{Window}
-use Rattle.window.specs.Window.{window}
-use Rattle.month.specs.Month.{Row, rowIn, rowCells, withMap}
-
--- the window of four numbers of 16 bits: each that is greater is made the greatest of these
-abbrev pub narrowed : Window → Window
-narrowed W = window (min (W .r0) 65535) (min (W .c0) 65535) (min (W .h) 65535) (min (W .w) 65535)
+use Rattle.rows.specs.Rows.{Row, rowIn, rowCells, withMap}
 
 -- the row of a class is written into its cells
 unfoldable pub putRow : ℕ → Row → List ℕ → List ℕ

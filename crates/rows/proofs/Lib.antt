@@ -1,0 +1,4 @@
+mod Rows
+mod Over
+mod Meaning
+pub mod Laws

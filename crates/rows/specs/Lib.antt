@@ -1,0 +1,3 @@
+pub mod Rows
+pub mod Growing
+pub mod Promises
