@@ -1,7 +1,8 @@
 /*
- * Says what the house files of a month have in one window: for each class that some map has there, the least, the
- * greatest and the mean number of its pixels, and in how many maps it is. The mean is over all maps, to the nearest
- * hundredth of a pixel, halves up. A file that cannot be taken is named on standard error and left out.
+ * Says what the house files of a month, one for each day, have in one window: for each class that some day has there,
+ * the least, the greatest and the mean number of its pixels, and on how many days it is there. The mean is over all
+ * days, to the nearest hundredth of a pixel, halves up. A file that cannot be taken is named on standard error and left
+ * out.
  *
  * The status is 0 where every file was taken, 1 where some were left out, and 2 where there is no month.
  */
@@ -63,12 +64,12 @@ static int take_file(const char *name, const uint16_t window[FIRST_FILE])
 
 static void print_month(unsigned pixels)
 {
-    uint64_t maps = table[MAPS];
-    printf("pixels in the window: %u, maps: %u\n", pixels, (unsigned)maps);
-    printf("class     least  greatest         mean  in maps\n");
+    uint64_t days = table[MAPS];
+    printf("pixels in the window: %u, days: %u\n", pixels, (unsigned)days);
+    printf("class     least  greatest         mean     days\n");
     for (int k = 0; k < CLASSES; k++) {
         const uint64_t *of = table + CLASS_0 + OF_CLASS * k;
-        unsigned hundredths = (unsigned)((100 * of[SUM] + maps / 2) / maps);
+        unsigned hundredths = (unsigned)((100 * of[SUM] + days / 2) / days);
         if (of[PRESENT] > 0)
             printf("%5d  %8u  %8u  %8u.%02u  %7u\n", k, (unsigned)of[LEAST], (unsigned)of[GREATEST], hundredths / 100,
                    hundredths % 100, (unsigned)of[PRESENT]);

@@ -235,8 +235,9 @@ lutniorad_answer lutniorad_month_clear(uint32_t m,
  * of each class are those of the maps before and of this one. The first w cells of `border` are then r0 + h, by the
  * table's window.
  *
- * From lutniorad_month_clear on, after any row of these calls, answered and refused in any order, the table is that of
- * the maps for which `refusal` was 0. Such a table is never refused by 26, and by 16 just when it has 1,000 maps.
+ * From an answered lutniorad_month_clear on, after any row of these calls, answered and refused in any order, the table
+ * is that of the maps for which `refusal` was 0. Such a table is never refused by 26; and by 16 just when it has 1,000
+ * maps and the map that comes is sound and of its m.
  *
  * With the map and the window of lutniorad_report's example alone, the table is 2, 0, 1, 3, 3, 1; then for class 0 four
  * zeros, for class 1 the cells 4, 4, 4, 1, for class 2 the same, for class 3 the cells 1, 1, 1, 1, and zeros.

@@ -1,9 +1,8 @@
 -- Decomposing, in examples.
 -- Assumes nothing.
 use mathlib.Core.Path.{_≡_, refl}
-use mathlib.Core.List.{List, [], _∷_, List·Memᴰ·head, List·Memᴰ·tail}
+use mathlib.Core.List.{List, [], _∷_}
 use Prim.Native.Nat.{ℕ}
-use lib.Dec.{lit<}
 use Rattle.lists.specs.Lists.{keep, greatest}
 use Rattle.answers.specs.Refusals.{answer}
 use Rattle.answers.specs.Sizes.{pictureRefusals}

@@ -1,6 +1,6 @@
 -- The words in which promises about numbers of a list are said.
 -- Assumes nothing.
-use mathlib.Core.List.{List, [], _∷_, List·Memᴰ}
+use mathlib.Core.List.{List, [], _∷_}
 use Prim.Native.Nat.{ℕ, min, max, _+_}
 
 -- numbers, added up

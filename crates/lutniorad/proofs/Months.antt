@@ -1,37 +1,33 @@
 -- What clearing and adding promise, each from the contract of the call alone; and what a row of such calls leaves.
 -- Assumes nothing.
-use mathlib.Core.Path.{_≡_, refl, sym, ap, subst, _∙_}
+use mathlib.Core.Path.{_≡_, refl, sym, ap, _∙_}
 use mathlib.Core.Logic.{_↔_}
-use mathlib.Core.List.{List, [], _∷_, _++_}
-use Prim.Native.Nat.{ℕ, _+_, _*_, _≤_, _<_}
+use mathlib.Core.List.{List, _++_}
+use Prim.Native.Nat.{ℕ, _+_, _≤_}
 use native.Mathlib.Nat.{mul-le-mul}
 use native.Mathlib.Omega.{arith}
-use lib.ListN.{length, drop, replicate, length-append}
-use Rattle.answers.specs.declared.Verdict.{Verdict}
+use lib.ListN.{length, replicate}
 use Rattle.answers.specs.declared.Verdict.the-variants as verdict-of
 use Rattle.answers.specs.Refusals.{Refusal, answer, verdict}
 use Rattle.answers.specs.Cells.{overwrite}
 use Rattle.answers.specs.After.{After, after}
-use Rattle.answers.proofs.Laws.{answer-part, on-passed, on-refused, overwrite-length, drop-overwrite}
+use Rattle.answers.proofs.Laws.{answer-part, on-passed, on-refused, drop-overwrite}
 use Rattle.window.specs.declared.Window.{Window}
 use Rattle.window.specs.Window.{Inside}
 use Rattle.window.specs.Drawn.{drawnRefusals, drawnFor}
 use Rattle.window.proofs.Laws.{inside-12, pixels-most}
-use Rattle.map.specs.Sound.{SoundMap}
 use Rattle.used.specs.Used.{spent}
 use Rattle.month.specs.declared.Cleared.the-variants as cleared-as
 use Rattle.month.specs.declared.Added.{Added}
 use Rattle.month.specs.declared.Added.the-variants as added-as
-use Rattle.rows.specs.Rows.{rowIn}
-use Rattle.month.specs.Month.{headOf, sizeIn, windowIn, mapsIn, addMap, addRefusals}
-use Rattle.month.specs.Promises.{Map, monthOf, Sane, Addable}
+use Rattle.month.specs.Month.{headOf, windowIn, mapsIn, addMap, addRefusals}
+use Rattle.month.specs.Promises.{Addable}
 use Rattle.month.proofs.Laws.{clear-is, empty-length, numbered-add, add-addable, map-length, add-done, add-by-lengths, add-table, add-untouched}
-use Rattle.month.proofs.Laws.{month-none, month-next, month-over, month-length, month-size, month-maps, sane-none, next-size, next-window, next-maps, next-row, sane-next}
+use Rattle.month.proofs.Laws.{month-none, next-size, next-window, next-maps, next-row, sane-next}
 use Rattle.lutniorad.specs.declared.Answer.{Answer}
 use Rattle.lutniorad.specs.Numbers.{values, refused, ofCleared, ofAdded}
 use Rattle.lutniorad.specs.Calls.{MonthClear, MonthAdd}
-use Rattle.lutniorad.specs.Promises as promises
-use Rattle.lutniorad.specs.Promises.{MonthClearPromise, MonthAddPromise, MonthRow, cleared, added}
+use Rattle.lutniorad.specs.Promises.{MonthClearPromise, MonthAddPromise}
 use Rattle.lutniorad.proofs.Drawing.{drawn-crossed, drawn-says, drawn-numbered, drawn-answered, drawn-kept, drawn-done}
 use Rattle.lutniorad.proofs.Told.{told-most, told-when}
 

@@ -1,13 +1,12 @@
 -- Adding: what is answered and left, and the table with a map more.
 -- Assumes nothing.
-use mathlib.Core.Path.{_≡_, refl, sym, ap, _∙_}
-use mathlib.Core.Bool.{Bool}
+use mathlib.Core.Path.{_≡_, refl, ap, _∙_}
 use mathlib.Core.List.{List, [], _∷_, _++_, map, append-assoc, List·Memᴰ}
-use Prim.Native.Nat.{ℕ, suc, _+_, _*_, _≤_, _<_}
+use Prim.Native.Nat.{ℕ, _+_, _*_, _≤_}
 use native.Mathlib.Nat.{mul-le-mul}
 use native.Mathlib.Omega.{arith}
 use lib.Dec.{eqb}
-use lib.ListN.{length, getD, set, take, drop, length-set, length-append, length-map}
+use lib.ListN.{length, getD, set, take, drop, length-set, length-map}
 use lib.Seq.{getD-set-other, drop-set-lt}
 use Rattle.lists.specs.Lists.{upFrom}
 use Rattle.lists.proofs.Laws.{up-in, up-length, map-same}
@@ -71,8 +70,8 @@ module _ (m : ℕ) (keys classes table : List ℕ) (long : 1030 ≤ length table
       let rows : map (grown (eqb (mapsIn table) 0) counts stored) (upFrom 0 256) ≡ map more (upFrom 0 256) = map-same (upFrom 0 256) each in
       let cells : take 6 stored ++ rowCells (map (grown (eqb (mapsIn table) 0) counts stored) (upFrom 0 256)) ≡ addMap m keys classes table =
       rw (rows, six-cells table (mapsIn table + 1) (omega arith), same) (append-assoc (headOf m (windowIn table)) ((mapsIn table + 1) ∷ []) (rowCells (map more (upFrom 0 256)))) in
-      let n = map-length m keys classes table in
-      let beyond : drop (length (addMap m keys classes table)) stored ≡ drop (length (addMap m keys classes table)) table = drop-set-lt (length (addMap m keys classes table)) table 5 (mapsIn table + 1) (omega (arith, n)) in
+      let all : ℕ = length (addMap m keys classes table) in
+      let beyond : drop all stored ≡ drop all table = drop-set-lt all table 5 (mapsIn table + 1) (omega (arith, map-length m keys classes table)) in
       grow-is (eqb (mapsIn table) 0) counts stored ∙ ap (λ (x : List ℕ). overwrite x stored) cells ∙ overwrite-same (addMap m keys classes table) table stored beyond
     where
       each : (class : ℕ) → List·Memᴰ class (upFrom 0 256) → grown (eqb (mapsIn table) 0) counts stored class ≡ more class

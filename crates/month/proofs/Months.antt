@@ -1,8 +1,8 @@
 -- The table of a list of maps: of none, and with one map more; and that 26 lets a table pass to which a map was added.
 -- Assumes nothing.
-use mathlib.Core.Path.{_≡_, refl, sym, ap, _∙_}
+use mathlib.Core.Path.{_≡_, sym, ap, _∙_}
 use mathlib.Core.List.{List, [], _∷_, _++_, map, map-append}
-use Prim.Native.Nat.{ℕ, _+_, _*_, _<_}
+use Prim.Native.Nat.{ℕ, _+_, _*_, _≤_, _<_}
 use native.Mathlib.Nat.{suc-mul}
 use native.Mathlib.Numerals.{add-one}
 use native.Mathlib.Omega.{arith}
@@ -130,6 +130,12 @@ module _ (m : ℕ) where
     unfolding addMap
     next-row class l = row-read m W (mapsIn table + 1) next old class l
 
+    next-sum : (class : ℕ) → class < 256 → rowIn cells class .sum ≡ rowIn table class .sum + total m keys classes W class
+    next-sum class l = ap (λ (x : Row). x .sum) (next-row class l) ∙ with-sum (eqb (mapsIn table) 0) (total m keys classes W class) (rowIn table class)
+
+    next-counts : (class : ℕ) → class < 256 → rowIn cells class .maps ≤ rowIn table class .maps + 1
+    next-counts class l = omega (arith, ap (λ (x : Row). x .maps) (next-row class l), with-maps (eqb (mapsIn table) 0) (total m keys classes W class) (rowIn table class))
+
     pub sane-next : Sane m table → mapsIn table < 1000 → Sane m (overwrite (addMap m keys classes table) old)
     sane-next s few =
         let area : ℕ = W .h * W .w in
@@ -138,6 +144,6 @@ module _ (m : ℕ) where
         record {
           inside = rw next-window (s .inside);
           few = omega (arith, next-maps);
-          sums = λ class l. omega (arith, ap (λ (x : Row). x .sum) (next-row class l), with-sum (eqb (mapsIn table) 0) (total m keys classes W class) (rowIn table class), most, s .sums class l, total-most m keys classes W class);
-          counts = λ class l. omega (arith, ap (λ (x : Row). x .maps) (next-row class l), with-maps (eqb (mapsIn table) 0) (total m keys classes W class) (rowIn table class), next-maps, s .counts class l);
+          sums = λ class l. omega (arith, next-sum class l, most, s .sums class l, total-most m keys classes W class);
+          counts = λ class l. omega (arith, next-counts class l, next-maps, s .counts class l);
         }

@@ -8,13 +8,13 @@ use native.Mathlib.Nat.{zero-add, add-zero}
 use native.Mathlib.Omega.{arith}
 use lib.Dec.{eqb}
 use lib.ListN.{length, getD, take, drop, replicate, length-append, length-map}
-use lib.Seq.{length-take-le, getD-drop}
+use lib.Seq.{length-take-le}
 use Rattle.lists.specs.Lists.{upFrom}
 use Rattle.lists.proofs.Laws.{up-none, up-next, up-one, up-append, up-length}
 use Rattle.answers.specs.Cells.{overwrite}
 use Rattle.answers.proofs.Laws.{Filling, filling-front, filling-beyond, filling-cell}
 use Rattle.rows.specs.Rows.{Row, row, rowCells, rowIn, withMap}
-use Rattle.rows.specs.Growing.{putRow, grown, growRows, Fits, AllFit}
+use Rattle.rows.specs.Growing.{putRow, grown, growRows}
 
 -- ---- rows in their cells
 

@@ -8,22 +8,22 @@ ghost use Rattle.rows.specs.Rows.{withMap, rowIn, anyOver};
 ghost use Rattle.rows.specs.Growing.{putRow, growRows, Fits, AllFit};
 
 // The least number of pixels, with a map more that has n. The first map sets it.
-fn least(first: bool, so_far: u64, n: u64) -> u64
-    ensures { λ r. ⌜ r ≡ cond first n (min «so_far» n) ⌝ }
+fn least(first: bool, old: u64, n: u64) -> u64
+    ensures { λ r. ⌜ r ≡ cond first n (min old n) ⌝ }
 {
     if first {
         return n;
     }
-    if n < so_far { n } else { so_far }
+    if n < old { n } else { old }
 }
 
-fn greatest(first: bool, so_far: u64, n: u64) -> u64
-    ensures { λ r. ⌜ r ≡ cond first n (max «so_far» n) ⌝ }
+fn greatest(first: bool, old: u64, n: u64) -> u64
+    ensures { λ r. ⌜ r ≡ cond first n (max old n) ⌝ }
 {
     if first {
         return n;
     }
-    if so_far < n { n } else { so_far }
+    if old < n { n } else { old }
 }
 
 // 1 for a map with pixels of the class, 0 for one without.

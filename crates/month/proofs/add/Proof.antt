@@ -1,4 +1,4 @@
--- `month::add` meets its contract.
+-- `month::add` meets its contract: what is counted goes into the rows, and `grown-stored` says that this is the table with the map.
 -- Assumes nothing.
 use mathlib.Core.Path.{_≡_, refl, sym, _∙_}
 use mathlib.Core.List.{List}

@@ -1,4 +1,4 @@
--- `month::clear` meets its contract.
+-- `month::clear` meets its contract. Each test decides what its law in `Clearing` says.
 -- Assumes nothing.
 use mathlib.Core.Path.{_≡_, refl, sym, _∙_}
 use mathlib.Core.Bool.{false}
@@ -69,7 +69,10 @@ same-length : tie.Need-same-length
 same-length c = c .before .before .wipe .kept .0 ∙ simp length-set refl
 
 returns-4 : tie.Need-returns-4
-returns-4 c = sym (clear-done _ _ _ (small (c .before .before .before .before .before .before .before .before .before)) (passed (c .before .before .before .before .before .before .before .before .before)) (c .before .before .before .before .before .before .before .before .if3 .left) refl (c .before .before .wipe .ensures))
+returns-4 c =
+    let roomy = c .before .before .before .before .before .before .before .before in
+    let told = roomy .before in
+    sym (clear-done _ _ _ (small told) (passed told) (roomy .if3 .left) refl (c .before .before .wipe .ensures))
 
 pub clear-spec : {M : Type 1} → statement M
 clear-spec =

@@ -1,4 +1,4 @@
--- `month::fit_table` meets its contract.
+-- `month::fit_table` meets its contract. Each test decides what its law in `Tables` says.
 -- Assumes nothing.
 use mathlib.Core.Path.{sym, _∙_}
 use borrow.Author.Needs.{needs}
@@ -25,11 +25,19 @@ returns-3 c = sym (table-spoiled _ _ (c .before .before .before .before .if1 .le
 shared-slice-read-if4 : tie.Need-shared-slice-read-if4
 shared-slice-read-if4 c = search needs
 
+-- where refusals 8, 15 and 26 do not hold
+abbrev sane : tie.After-shared-slice-known3 → tie.Else3
+sane c = c .before
+
 returns-4 : tie.Need-returns-4
-returns-4 c = sym (table-full _ _ (c .before .before .before .before .before .before .if1 .left) (c .before .before .before .before .if2 .left) (sym (c .before .before .before .spoiled .ensures) ∙ c .before .before .if3 .left) (c .if4 .taken))
+returns-4 c =
+    let at = sane (c .before) in
+    sym (table-full _ _ (at .before .before .before .before .if1 .left) (at .before .before .if2 .left) (sym (at .before .spoiled .ensures) ∙ at .if3 .left) (c .if4 .taken))
 
 returns-5 : tie.Need-returns-5
-returns-5 c = sym (table-open _ _ (c .before .before .before .before .before .before .if1 .left) (c .before .before .before .before .if2 .left) (sym (c .before .before .before .spoiled .ensures) ∙ c .before .before .if3 .left) (c .if4 .left))
+returns-5 c =
+    let at = sane (c .before) in
+    sym (table-open _ _ (at .before .before .before .before .if1 .left) (at .before .before .if2 .left) (sym (at .before .spoiled .ensures) ∙ at .if3 .left) (c .if4 .left))
 
 pub fit-table-spec : {M : Type 1} → statement M
 fit-table-spec =

@@ -1,4 +1,4 @@
--- `month::spoiled` meets its contract.
+-- `month::spoiled` meets its contract. Behind each test the numbers are small enough for the next product.
 -- Assumes nothing.
 use mathlib.Core.Path.{_≡_, sym, ap, _∙_}
 use mathlib.Core.Bool.{false}
@@ -10,7 +10,7 @@ use borrow.Author.Needs.{needs}
 use Rattle.window.specs.declared.Window.{Window}
 use Rattle.window.specs.Window.{Inside, outside}
 use Rattle.window.proofs.Laws.{inside, inside-12, pixels-most}
-use Rattle.month.specs.Month.{windowIn, mapsIn}
+use Rattle.month.specs.Month.{windowIn}
 use Rattle.month.proofs.Sanity.{narrowed-inside, narrowed-outside, spoiled-outside, spoiled-many, spoiled-rows}
 use borrow.Author.Needs.{needs}
 use Rattle.month.proofs.spoiled.Statement.{statement}
@@ -22,8 +22,12 @@ window-in-requires c κs = search needs
 outside-requires : tie.Need-outside-requires
 outside-requires c κs = search needs
 
+-- whether 6 would refuse the window of the table is known from that in numbers of 16 bits
+lies : (c : tie.After-outside) → outside (c .before .before .before .args .m) (windowIn (c .before .before .before .args .table .now)) ≡ c .outside .result
+lies c = sym (narrowed-outside _ _ (c .before .before .before .pre .0)) ∙ sym (ap (outside _) (c .before .window-in .ensures)) ∙ sym (c .outside .ensures)
+
 returns : tie.Need-returns
-returns c = sym (spoiled-outside _ _ (sym (narrowed-outside _ _ (c .before .before .before .before .pre .0)) ∙ sym (ap (outside _) (c .before .before .window-in .ensures)) ∙ sym (c .before .outside .ensures) ∙ c .if1 .taken))
+returns c = sym (spoiled-outside _ _ (lies (c .before) ∙ c .if1 .taken))
 
 shared-slice-read-maps : tie.Need-shared-slice-read-maps
 shared-slice-read-maps c = search needs
@@ -37,7 +41,7 @@ module _ (c : tie.Else1) where
   cells = entry .args .table .now
 
   inside-as : outside (entry .args .m) (windowIn cells) ≡ false
-  inside-as = sym (narrowed-outside _ _ (entry .pre .0)) ∙ sym (ap (outside _) (c .before .before .window-in .ensures)) ∙ sym (c .before .outside .ensures) ∙ c .if1 .left
+  inside-as = lies (c .before) ∙ c .if1 .left
 
   abbrev W : Window
   W = c .before .before .window-in .result

@@ -1,4 +1,4 @@
--- `month::wipe` meets its contract.
+-- `month::wipe` meets its contract. The invariant is `Wiping`, the measure how many cells are left.
 -- Assumes nothing.
 use Prim.Native.Nat.{_-_}
 use native.Mathlib.Omega.{arith}

@@ -1,4 +1,4 @@
--- `rows::add_row` meets its contract.
+-- `rows::add_row` meets its contract: four stores are `putRow`, and `Fits` says that no sum overflows.
 -- Assumes nothing.
 use native.Mathlib.Omega.{arith}
 use lib.ListN.{length-set}
@@ -62,7 +62,7 @@ once-requires : tie.Need-once-requires
 once-requires c κs = search needs
 
 add-maps-2 : tie.Need-add-maps-2
-add-maps-2 c = omega (arith, c .once .ensures, once-most (c .before .before .before .before .before .before .before .before .args .n), c .before .before .before .before .before .before .before .before .pre .3 .counts)
+add-maps-2 c = let start = c .before .before .before .before .before .before .before .before in omega (arith, c .once .ensures, once-most (start .args .n), start .pre .3 .counts)
 
 mul-table : tie.Need-mul-table
 mul-table c = search needs

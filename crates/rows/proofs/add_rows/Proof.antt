@@ -1,4 +1,4 @@
--- `rows::add_rows` meets its contract.
+-- `rows::add_rows` meets its contract. The invariant is `Growing`, the measure how many classes are left.
 -- Assumes nothing.
 use Prim.Native.Nat.{_-_}
 use native.Mathlib.Omega.{arith}
@@ -39,7 +39,9 @@ loop-less : tie.Need-loop-less Inv-loop μ-loop
 loop-less c = search needs
 
 loop-again : tie.Need-loop-again Inv-loop μ-loop
-loop-again c = growing-next _ _ _ (c .before .before .before .before .before .before .before .before .pre .long) (c .before .before .before .before .before .before .loop .inv) (c .before .before .before .before .before .loop-test .taken) (c .before .before .add-row .ensures)
+loop-again c =
+    let turn = c .before .before .before .before .before .before in
+    growing-next _ _ _ (turn .before .before .pre .long) (turn .loop .inv) (c .before .before .before .before .before .loop-test .taken) (c .before .before .add-row .ensures)
 
 same-length : tie.Need-same-length Inv-loop μ-loop
 same-length c = c .before .loop .inv .cells .same

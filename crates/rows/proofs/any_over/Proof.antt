@@ -1,8 +1,7 @@
--- `rows::any_over` meets its contract.
+-- `rows::any_over` meets its contract. The invariant is `Looking`, the measure how many classes are left.
 -- Assumes nothing.
 use mathlib.Core.Path.{sym}
 use Prim.Native.Nat.{_-_}
-use native.Mathlib.Omega.{arith}
 use borrow.Author.Needs.{needs}
 use Rattle.rows.proofs.Over.{Looking, over-sum, over-maps, looking-first, looking-found, looking-next, looking-last}
 use Rattle.rows.proofs.any_over.Statement.{statement}
