@@ -30,11 +30,12 @@
  * with a pixel in the window is handed out once, and no other is; and no choice of maximal blocks that meets all of
  * these records has fewer blocks than there are openings.
  *
- * The BORDER is lent for opening a window, and for each question about its classes: a 16-bit cell for each column of
- * the window. It holds how far down the column has been handed out. So in the end each of the first w cells is r0 + h.
+ * The BORDER is lent for opening a window, for each question about its classes and for adding a map to a month: a
+ * 16-bit cell for each column of the window. It holds how far down the column has been handed out. So in the end each
+ * of the first w cells is r0 + h.
  *
- * A MONTH is a table of what the maps of a row have in one window, all of one m: 1,030 cells of 64 bits, which the
- * caller keeps from one call to the next.
+ * A MONTH is a table of what maps of one m, added one after another, have in one window: 1,030 cells of 64 bits, which
+ * the caller keeps from one call to the next.
  *
  *     cell        what stands in it
  *     0           m

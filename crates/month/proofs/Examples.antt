@@ -32,13 +32,7 @@ use Rattle.month.specs.declared.Added.the-variants as added
 use Rattle.rows.specs.Rows.{rowCells, withMap, over, anyOver}
 use Rattle.month.specs.Month.{tableOf, clearOf, addMap, spoiled, tableRefusals, addRefusals, addOf}
 use Rattle.month.specs.Promises.{countsOf, monthOf}
-
--- a month of no map, and one of P1's map
-abbrev empty : List ℕ
-empty = 2 ∷ 0 ∷ 1 ∷ 3 ∷ 3 ∷ replicate 1025 0
-
-abbrev first-day : List ℕ
-first-day = 2 ∷ 0 ∷ 1 ∷ 3 ∷ 3 ∷ 1 ∷ 0 ∷ 0 ∷ 0 ∷ 0 ∷ 4 ∷ 4 ∷ 4 ∷ 1 ∷ 4 ∷ 4 ∷ 4 ∷ 1 ∷ 1 ∷ 1 ∷ 1 ∷ 1 ∷ replicate 1008 0
+use Rattle.month.proofs.P1.{empty, first-day}
 
 -- a table of so many maps, and with so much in the row of class 0
 abbrev other : ℕ → ℕ → ℕ → List ℕ

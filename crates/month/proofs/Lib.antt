@@ -5,5 +5,6 @@ mod Adding
 mod Cells
 mod Months
 mod Outcomes
+pub mod P1
 mod Examples
 pub mod Laws

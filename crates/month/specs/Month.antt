@@ -1,4 +1,4 @@
--- A month: a running table of what the maps of a row have in one window. Its first 1,030 cells are m, r0, c0, h, w, the number of maps, and then four for each class.
+-- A month: a running table of what maps have in one window. Its first 1,030 cells are m, r0, c0, h, w, the number of maps, and then four for each class.
 -- Assumes nothing.
 use mathlib.Core.Bool.{Bool, not, _||_}
 use mathlib.Core.List.{List, [], _∷_, _++_, map}
@@ -31,7 +31,7 @@ headOf m W = m ∷ W .r0 ∷ W .c0 ∷ W .h ∷ W .w ∷ []
 unfoldable pub tableOf : ℕ → Window → ℕ → (ℕ → Row) → List ℕ
 tableOf m W maps rows = headOf m W ++ maps ∷ rowCells (map rows (upFrom 0 256))
 
--- and back, from any cells
+-- and back, from any cells: m, the window, the number of maps. The window's numbers may be any; no picture has one that is over 16 bits
 abbrev pub sizeIn : List ℕ → ℕ
 sizeIn table = getD table 0 0
 

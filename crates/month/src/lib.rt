@@ -1,4 +1,4 @@
-// A month: a running table of what the maps of a row have in one window.
+// A month: a running table of what maps have in one window.
 use answers::Verdict;
 use window::Window;
 ghost use mathlib.Core.Path.{_≡_};
@@ -73,6 +73,7 @@ fn narrow(x: u64) -> u16
     if x < 65535 { x as u16 } else { 65535 }
 }
 
+// The table's window, exact where it lies inside a picture.
 fn window_in(table: &[u64]) -> Window
     requires { ⌜ 1030 ≤ length (now table) ⌝ }
     ensures { λ r. ⌜ r ≡ narrowed (windowIn (now (table .entry))) ⌝ }
