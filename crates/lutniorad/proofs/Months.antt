@@ -1,4 +1,4 @@
--- What clearing and adding promise, each from the contract of the call alone; and what a row of such calls leaves.
+-- What clearing and adding promise, each from the contract of the call alone.
 -- Assumes nothing.
 use mathlib.Core.Path.{_≡_, refl, sym, ap, _∙_}
 use mathlib.Core.Logic.{_↔_}
