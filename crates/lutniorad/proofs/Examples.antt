@@ -1,7 +1,7 @@
 -- P1 and P2 as calls: the contracts hold of these numbers and cells, so what opening and decomposing promise holds of these very cells. And a row of calls of a month.
 -- Assumes nothing.
-use mathlib.Core.Path.{_≡_, refl}
-use mathlib.Core.List.{List, [], _∷_}
+use mathlib.Core.Path.{_≡_, refl, sym}
+use mathlib.Core.List.{List, [], _∷_, _++_}
 use Prim.Native.Nat.{ℕ}
 use native.Mathlib.Omega.{arith}
 use Rattle.lists.specs.Lists.{upFrom, any, keep, before, howMany, greatest}
@@ -29,15 +29,14 @@ use Rattle.border.specs.Openings.{isHanded, made, opening, openFrom, openings, 
 use Rattle.border.specs.Promises.{openingsIn}
 use Rattle.used.specs.Used.{useRefusals, spent, usedFor, borderRefusals}
 use Rattle.open.specs.Open.{openOf}
-use Rattle.totals.specs.Totals.{total}
-use Rattle.rows.specs.Rows.{rowCells, withMap, over, anyOver}
-use Rattle.month.specs.Month.{tableOf, clearOf, addMap, spoiled, tableRefusals, addRefusals, addOf}
 use Rattle.month.specs.Promises.{monthOf}
 use Rattle.month.proofs.P1.{empty, first-day}
+use Rattle.month.proofs.Examples.{examples}
 use Rattle.lutniorad.specs.Numbers.{values, refused}
 use Rattle.lutniorad.specs.Calls.{Decompose, Open, MonthClear, MonthAdd}
 use Rattle.lutniorad.specs.Promises.{DecomposePromise, OpenPromise, MonthRow, cleared, added}
 use Rattle.lutniorad.specs.Promises as promises
+use Rattle.lutniorad.proofs.Crossing.{crossing}
 use Rattle.lutniorad.proofs.Promised.{decompose-promise, open-promise}
 use Rattle.lutniorad.proofs.Row.{month-table}
 
@@ -66,25 +65,14 @@ p1-promise = open-promise 2 keys classes W (old 3) (old 12) (called .p1) refl
 p2-promise : DecomposePromise 2 W (old 6) (values 6 0) blocks
 p2-promise = decompose-promise 2 W (old 6) (called .p2) refl
 
--- a month is cleared, P1's map is taken, and a record that is malformed is refused
-record Month : Type 0 where
-  clears : MonthClear 2 W (old 1030) (values 0 0) empty
-  takes : MonthAdd 2 keys classes (old 3) empty (values 1 0) (3 ∷ 3 ∷ 3 ∷ []) first-day
-  refuses : MonthAdd 2 (1 ∷ []) (3 ∷ []) (old 3) first-day (refused 3 0) (old 3) first-day
-
-month : Month
-unfolding pictureRefusals countRefusals roomRefusals borderRefusals answer wrongCount sizeRefusals overwrite upFrom spreadTo spread place from formOf beyond outside windowRefusals
-    across rows drawnRefusals drawnFor spans.malformed spans.formExponent spans.start spans.end spans.holds late refusalsFrom mapRefusals before howMany any recordOf spent total
-    rowCells withMap over anyOver tableOf clearOf addMap spoiled tableRefusals addRefusals addOf
-month = record {
-  clears = record { answer = refl; cells = refl };
-  takes = record { answer = refl; cells = refl };
-  refuses = record { answer = refl; cells = refl };
-}
+-- a month is cleared, P1's map is taken, and a record that is malformed is refused: from the examples of the operations
+month-row : MonthRow 2 W (old 1031) ((keys, classes) ∷ []) (first-day ++ 99 ∷ [])
+month-row =
+    let clears : MonthClear 2 W (old 1031) (values 0 0) (empty ++ 99 ∷ []) = crossing refl refl (sym (examples .clears)) in
+    let takes : MonthAdd 2 keys classes (old 4) (empty ++ 99 ∷ []) (values 1 0) (3 ∷ 3 ∷ 3 ∷ 99 ∷ []) (first-day ++ 99 ∷ []) = crossing refl refl (sym (examples .adds)) in
+    let refuses : MonthAdd 2 (1 ∷ []) (3 ∷ []) (old 3) (first-day ++ 99 ∷ []) (refused 3 0) (old 3) (first-day ++ 99 ∷ []) = crossing refl refl (sym (examples .refuses)) in
+    promises.refused (added (cleared clears refl) 2 keys classes (old 4) takes refl) 2 (1 ∷ []) (3 ∷ []) (old 3) refuses (λ e. omega (arith, e))
 
 -- so the table is that of the one map
-month-row : MonthRow 2 W (old 1030) ((keys, classes) ∷ []) first-day
-month-row = promises.refused (added (cleared (month .clears) refl) 2 keys classes (old 3) (month .takes) refl) 2 (1 ∷ []) (3 ∷ []) (old 3) (month .refuses) (λ e. omega (arith, e))
-
-month-is : first-day ≡ overwrite (monthOf 2 W ((keys, classes) ∷ [])) (old 1030)
+month-is : first-day ++ 99 ∷ [] ≡ overwrite (monthOf 2 W ((keys, classes) ∷ [])) (old 1031)
 month-is = month-table month-row

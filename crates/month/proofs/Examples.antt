@@ -60,6 +60,7 @@ pub record Examples : Type 0 where
   pub count-over : spoiled 2 (other 1001 0 0) ≡ true
   -- 3 before 8 before 15 before 26, and 26 before 16 before 7
   pub record-first : verdict (addRefusals 2 (1 ∷ []) 1 0 []) ≡ verdict-of.Refused 3 0
+  pub refuses : addOf 2 (1 ∷ []) (3 ∷ []) (old 3) (first-day ++ 99 ∷ []) ≡ after (added.Refused 3 0) (old 3, first-day ++ 99 ∷ [])
   pub short-first : verdict (addRefusals 2 keys 7 0 (old 1029)) ≡ verdict-of.Refused 8 1030
   pub size-first : verdict (addRefusals 2 keys 7 0 (old 1030)) ≡ verdict-of.Refused 15 0
   pub spoiled-first : verdict (addRefusals 2 keys 7 0 (other 1000 9001 0)) ≡ verdict-of.Refused 26 0
@@ -83,6 +84,7 @@ examples = record {
   maps-over = refl;
   count-over = refl;
   record-first = refl;
+  refuses = refl;
   short-first = refl;
   size-first = refl;
   spoiled-first = refl;

@@ -6,5 +6,5 @@ mod Cells
 mod Months
 mod Outcomes
 pub mod P1
-mod Examples
+pub mod Examples
 pub mod Laws
