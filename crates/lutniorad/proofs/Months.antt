@@ -23,7 +23,7 @@ use Rattle.month.specs.declared.Added.the-variants as added-as
 use Rattle.month.specs.Month.{headOf, windowIn, mapsIn, addMap, addRefusals}
 use Rattle.month.specs.Promises.{Addable}
 use Rattle.month.proofs.Laws.{clear-is, empty-length, numbered-add, add-addable, map-length, add-done, add-by-lengths, add-table, add-untouched}
-use Rattle.month.proofs.Laws.{month-none, next-size, next-window, next-maps, next-row, sane-next}
+use Rattle.month.proofs.Laws.{month-none, next-m, next-window, next-maps, next-row, sane-next}
 use Rattle.lutniorad.specs.declared.Answer.{Answer}
 use Rattle.lutniorad.specs.Numbers.{values, refused, ofCleared, ofAdded}
 use Rattle.lutniorad.specs.Calls.{MonthClear, MonthAdd}
@@ -101,7 +101,7 @@ module _ (m : ℕ) (keys classes border table : List ℕ) {border′ table′ : 
         rw month-add-table (record {
           number = month-add-says ∙ on-passed refused rs _ passed;
           maps = next-maps m keys classes table table;
-          size = next-size m keys classes table table ∙ sym (A .ongoing .same);
+          same-m = next-m m keys classes table table ∙ sym (A .ongoing .same);
           window = next-window m keys classes table table;
           rows = next-row m keys classes table table;
           sane = s;

@@ -14,16 +14,16 @@ use Rattle.answers.proofs.Laws.{overwrite-length}
 use Rattle.window.specs.declared.Window.{Window}
 use Rattle.window.specs.Window.{Inside}
 use Rattle.map.specs.Sound.{SoundMap}
-use Rattle.month.specs.Month.{sizeIn, mapsIn, addRefusals}
+use Rattle.month.specs.Month.{mIn, mapsIn, addRefusals}
 use Rattle.month.specs.Promises.{Map, monthOf, Sane}
-use Rattle.month.proofs.Laws.{add-addable, month-next, month-over, month-length, month-size, month-maps, sane-none, sane-next, Outcome, unsound, other, full, narrow, taken, outcome}
+use Rattle.month.proofs.Laws.{add-addable, month-next, month-over, month-length, month-m, month-maps, sane-none, sane-next, Outcome, unsound, other, full, narrow, taken, outcome}
 use Rattle.lutniorad.specs.declared.Answer.{Answer}
 use Rattle.lutniorad.specs.Calls.{MonthAdd}
 use Rattle.lutniorad.specs.Promises.{MonthRow, cleared, added, refused}
 use Rattle.lutniorad.proofs.Months.{month-clear-answered, month-clear-promise, month-add-answered, month-add-kept, month-add-table, month-add-number}
 
 -- a map that is taken has the m of the table
-own : {m : ℕ} (table : List ℕ) → sizeIn table ≡ m → (k : ℕ) (keys classes border : List ℕ) {border′ table′ : List ℕ} {r : Answer}
+own : {m : ℕ} (table : List ℕ) → mIn table ≡ m → (k : ℕ) (keys classes border : List ℕ) {border′ table′ : List ℕ} {r : Answer}
     → MonthAdd k keys classes border table r border′ table′ → r .refusal ≡ 0 → k ≡ m
 own table size k keys classes border call z = sym (month-add-answered k keys classes border table call .0 z .ongoing .same) ∙ size
 
@@ -39,7 +39,7 @@ module _ {m : ℕ} {W : Window} {old : List ℕ} where
   month-table (cleared call z) = month-clear-promise m W old call z .cells
   month-table (added {maps} {table} row k keys classes border call z) =
       let ih = month-table row in
-      let same = own table (ap sizeIn ih ∙ month-size m W maps old) k keys classes border call z in
+      let same = own table (ap mIn ih ∙ month-m m W maps old) k keys classes border call z in
       let next = month-next m W maps old keys classes in
       month-add-table k keys classes border table call z
       ∙ rw (same, ih, next) (month-over m W maps old (maps ++ (keys, classes) ∷ []))
@@ -49,14 +49,14 @@ module _ {m : ℕ} {W : Window} {old : List ℕ} where
   pub month-sane : {maps : List Map} {table : List ℕ} → MonthRow m W old maps table → Sane m table
   month-sane (cleared call z) = rw (month-clear-promise m W old call z .cells) (sane-none m W old (month-clear-answered m W old call .0 z .1))
   month-sane (added {maps} {table} row k keys classes border call z) =
-      let same = own table (ap sizeIn (month-table row) ∙ month-size m W maps old) k keys classes border call z in
+      let same = own table (ap mIn (month-table row) ∙ month-m m W maps old) k keys classes border call z in
       let fewer = month-add-answered k keys classes border table call .0 z .ongoing .fewer in
       rw (month-add-table k keys classes border table call z, same) (sane-next m keys classes table table (month-sane row) fewer)
   month-sane (refused {maps} {table} row k keys classes border call held) = rw (month-add-kept k keys classes border table call held .1) (month-sane row)
 
   module _ {maps : List Map} {table : List ℕ} (row : MonthRow m W old maps table) where
-    size : sizeIn table ≡ m
-    size = ap sizeIn (month-table row) ∙ month-size m W maps old
+    size : mIn table ≡ m
+    size = ap mIn (month-table row) ∙ month-m m W maps old
 
     count : mapsIn table ≡ length maps
     count = ap mapsIn (month-table row) ∙ month-maps m W maps old

@@ -25,7 +25,7 @@ use Rattle.house.specs.File.{fileOf, fileM, fileQ, fileKeys, fileClasses}
 use Rattle.totals.specs.Totals.{total}
 use Rattle.select.specs.Select.{selection}
 use Rattle.rows.specs.Rows.{rowIn, withMap}
-use Rattle.month.specs.Month.{sizeIn, windowIn, mapsIn}
+use Rattle.month.specs.Month.{mIn, windowIn, mapsIn}
 use Rattle.month.specs.Promises.{Map, monthOf, Sane}
 use Rattle.lutniorad.specs.declared.Answer.{Answer}
 use Rattle.lutniorad.specs.Numbers.{values}
@@ -135,7 +135,7 @@ pub record MonthAddPromise (m : ℕ) (keys classes border table : List ℕ) (r :
   pub number : r ≡ values (mapsIn table + 1) 0
   pub maps : mapsIn table′ ≡ mapsIn table + 1
   -- m and the window stay
-  pub size : sizeIn table′ ≡ sizeIn table
+  pub same-m : mIn table′ ≡ mIn table
   pub window : windowIn table′ ≡ windowIn table
   -- each class has a map more, by its pixels in the table's window
   pub rows : (class : ℕ) → class < 256 → rowIn table′ class ≡ withMap (eqb (mapsIn table) 0) (total m keys classes (windowIn table) class) (rowIn table class)

@@ -23,7 +23,7 @@ use Rattle.totals.proofs.Laws.{totals-length, totals-at, total-most}
 use Rattle.month.specs.declared.Added.{Added}
 use Rattle.month.specs.declared.Added.the-variants.{Done, Refused}
 use Rattle.rows.specs.Rows.{Row, rowCells, rowIn, withMap}
-use Rattle.month.specs.Month.{headOf, tableOf, sizeIn, windowIn, mapsIn, addMap, addRefusals, addOf}
+use Rattle.month.specs.Month.{headOf, tableOf, mIn, windowIn, mapsIn, addMap, addRefusals, addOf}
 use Rattle.rows.specs.Growing.{grown, growRows, AllFit}
 use Rattle.month.specs.Promises.{Sane}
 use Rattle.rows.proofs.Laws.{cells-length, grow-is}
@@ -39,7 +39,7 @@ unfolding addMap
 map-length m keys classes table = table-length m (windowIn table) _ _
 
 -- the first six cells, when the number of maps has been stored
-six-cells : (l : List ℕ) (v : ℕ) → 6 ≤ length l → take 6 (set l 5 v) ≡ headOf (sizeIn l) (windowIn l) ++ v ∷ []
+six-cells : (l : List ℕ) (v : ℕ) → 6 ≤ length l → take 6 (set l 5 v) ≡ headOf (mIn l) (windowIn l) ++ v ∷ []
 six-cells [] v h = absurd (omega arith)
 six-cells (a ∷ []) v h = absurd (omega arith)
 six-cells (a ∷ b ∷ []) v h = absurd (omega arith)
@@ -56,7 +56,7 @@ row-apart table v class =
     rw (other at (omega arith), other (at + 1) (omega arith), other (at + 2) (omega arith), other (at + 3) (omega arith))
 
 -- the rows grown from there are those of the table with the map
-module _ (m : ℕ) (keys classes table : List ℕ) (long : 1030 ≤ length table) (same : sizeIn table ≡ m) where
+module _ (m : ℕ) (keys classes table : List ℕ) (long : 1030 ≤ length table) (same : mIn table ≡ m) where
   abbrev stored : List ℕ
   stored = set table 5 (mapsIn table + 1)
 

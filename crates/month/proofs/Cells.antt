@@ -11,7 +11,7 @@ use Rattle.answers.proofs.Laws.{overwrite-at}
 use Rattle.window.specs.declared.Window.{Window}
 use Rattle.rows.specs.Rows.{Row, rowCells, rowIn}
 use Rattle.rows.proofs.Laws.{cells-next, behind-rows}
-use Rattle.month.specs.Month.{tableOf, sizeIn, windowIn, mapsIn}
+use Rattle.month.specs.Month.{tableOf, mIn, windowIn, mapsIn}
 use Rattle.month.proofs.Adding.{table-length}
 
 module _ (m : ℕ) (W : Window) (maps : ℕ) (rows : ℕ → Row) (old : List ℕ) where
@@ -21,9 +21,9 @@ module _ (m : ℕ) (W : Window) (maps : ℕ) (rows : ℕ → Row) (old : List �
   at : (i : ℕ) → i < 1030 → getD cells i 0 ≡ getD (tableOf m W maps rows) i 0
   at i l = overwrite-at (tableOf m W maps rows) old i (omega (arith, table-length m W maps rows))
 
-  pub size-read : sizeIn (overwrite (tableOf m W maps rows) old) ≡ m
+  pub m-read : mIn (overwrite (tableOf m W maps rows) old) ≡ m
   unfolding tableOf
-  size-read = at 0 (omega arith)
+  m-read = at 0 (omega arith)
 
   pub window-read : windowIn (overwrite (tableOf m W maps rows) old) ≡ W
   unfolding tableOf

@@ -19,10 +19,10 @@ use Rattle.totals.proofs.Laws.{total-most}
 use Rattle.rows.specs.Rows.{Row, row, rowCells, rowIn, withMap}
 use Rattle.rows.specs.Promises.{rowOf}
 use Rattle.rows.proofs.Laws.{zero-rows, with-sum, with-maps, row-none, row-next}
-use Rattle.month.specs.Month.{headOf, tableOf, sizeIn, windowIn, mapsIn, addMap}
+use Rattle.month.specs.Month.{headOf, tableOf, mIn, windowIn, mapsIn, addMap}
 use Rattle.month.specs.Promises.{Map, countsOf, monthOf, Sane}
 use Rattle.month.proofs.Adding.{table-length}
-use Rattle.month.proofs.Cells.{size-read, window-read, maps-read, row-read}
+use Rattle.month.proofs.Cells.{m-read, window-read, maps-read, row-read}
 
 -- ---- a table of no map
 
@@ -45,9 +45,9 @@ module _ (m : ℕ) (W : Window) (maps : List Map) (old : List ℕ) where
   unfolding monthOf
   month-maps = maps-read m W _ _ old
 
-  pub month-size : sizeIn (overwrite (monthOf m W maps) old) ≡ m
+  pub month-m : mIn (overwrite (monthOf m W maps) old) ≡ m
   unfolding monthOf
-  month-size = size-read m W _ _ old
+  month-m = m-read m W _ _ old
 
   -- only the cells beyond matter for what is written over a table
   pub month-over : (maps′ : List Map) → overwrite (monthOf m W maps′) (overwrite (monthOf m W maps) old) ≡ overwrite (monthOf m W maps′) old
@@ -113,9 +113,9 @@ module _ (m : ℕ) where
     abbrev cells : List ℕ
     cells = overwrite (addMap m keys classes table) old
 
-    pub next-size : sizeIn (overwrite (addMap m keys classes table) old) ≡ m
+    pub next-m : mIn (overwrite (addMap m keys classes table) old) ≡ m
     unfolding addMap
-    next-size = size-read m W (mapsIn table + 1) next old
+    next-m = m-read m W (mapsIn table + 1) next old
 
     pub next-window : windowIn (overwrite (addMap m keys classes table) old) ≡ windowIn table
     unfolding addMap

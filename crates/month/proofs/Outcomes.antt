@@ -16,15 +16,15 @@ use Rattle.answers.proofs.Laws.{number-most, refused-not-passed}
 use Rattle.map.specs.Check.{mapRefusals}
 use Rattle.map.specs.Sound.{SoundMap}
 use Rattle.map.proofs.Laws.{sound-map, numbered-map}
-use Rattle.month.specs.Month.{sizeIn, windowIn, mapsIn, spoiled, tableRefusals, addRefusals}
+use Rattle.month.specs.Month.{mIn, windowIn, mapsIn, spoiled, tableRefusals, addRefusals}
 use Rattle.month.specs.Promises.{Sane}
 use Rattle.month.proofs.Sanity.{spoiled-sane}
 use Rattle.month.proofs.Tables.{table-other, table-full, table-open, add-unsound, add-unfit, add-narrow, add-passes}
 
 pub data Outcome (m : ℕ) (keys : List ℕ) (classes border : ℕ) (table : List ℕ) : Verdict → Type 0 where
   unsound : {n p : ℕ} → n ≤ 5 → ¬ SoundMap m keys classes → Outcome m keys classes border table (Refused n p)
-  other : ¬ (sizeIn table ≡ m) → Outcome m keys classes border table (Refused 15 0)
-  full : SoundMap m keys classes → sizeIn table ≡ m → mapsIn table ≡ 1000 → Outcome m keys classes border table (Refused 16 0)
+  other : ¬ (mIn table ≡ m) → Outcome m keys classes border table (Refused 15 0)
+  full : SoundMap m keys classes → mIn table ≡ m → mapsIn table ≡ 1000 → Outcome m keys classes border table (Refused 16 0)
   narrow : {p : ℕ} → mapsIn table < 1000 → Outcome m keys classes border table (Refused 7 p)
   taken : mapsIn table < 1000 → Outcome m keys classes border table Passed
 
@@ -32,7 +32,7 @@ numberOf : Verdict → ℕ
 numberOf Passed = 0
 numberOf (Refused n p) = n
 
-module _ (m : ℕ) (keys : List ℕ) (classes border : ℕ) (table : List ℕ) (long : 1030 ≤ length table) (s : Sane (sizeIn table) table) where
+module _ (m : ℕ) (keys : List ℕ) (classes border : ℕ) (table : List ℕ) (long : 1030 ≤ length table) (s : Sane (mIn table) table) where
   abbrev vs : List Refusal
   vs = addRefusals m keys classes border table
 
@@ -42,7 +42,7 @@ module _ (m : ℕ) (keys : List ℕ) (classes border : ℕ) (table : List ℕ) (
     sound = sound-map m keys classes .0 e
 
     -- and of the table's m
-    module _ (same : sizeIn table ≡ m) where
+    module _ (same : mIn table ≡ m) where
       sane : spoiled m table ≡ false
       sane = spoiled-sane m table .1 (subst (λ (k : ℕ). Sane k table) same s)
 
@@ -59,10 +59,10 @@ module _ (m : ℕ) (keys : List ℕ) (classes border : ℕ) (table : List ℕ) (
           let all : mapsIn table ≡ 1000 = omega (arith, h, s .few) in
           rw (add-unfit m keys classes border table e (table-full m table long same sane all)) (full sound same all)
 
-    by-size : (b : Bool) → eqb (sizeIn table) m ≡ b → Outcome m keys classes border table (verdict vs)
-    by-size true d = by-maps (eqb-true (sizeIn table) m d) (decLt (mapsIn table) 1000)
+    by-size : (b : Bool) → eqb (mIn table) m ≡ b → Outcome m keys classes border table (verdict vs)
+    by-size true d = by-maps (eqb-true (mIn table) m d) (decLt (mapsIn table) 1000)
     by-size false d =
-        let differs = eqb-false (sizeIn table) m d in
+        let differs = eqb-false (mIn table) m d in
         rw (add-unfit m keys classes border table e (table-other m table long differs)) (other differs)
 
   pub outcome : Outcome m keys classes border table (verdict (addRefusals m keys classes border table))
@@ -73,5 +73,5 @@ module _ (m : ℕ) (keys : List ℕ) (classes border : ℕ) (table : List ℕ) (
       small e = rw e at (number-most Refused numberOf (λ n p. refl) {a = Passed} (numbered-map {most = 5} (omega arith) m keys classes) refl)
 
       go : (v : Verdict) → verdict (mapRefusals m keys classes) ≡ v → Outcome m keys classes border table (verdict vs)
-      go Passed e = by-size e (eqb (sizeIn table) m) refl
+      go Passed e = by-size e (eqb (mIn table) m) refl
       go (Refused n p) e = rw (add-unsound m keys classes border table e) (unsound (small e) (λ S. refused-not-passed (sym e ∙ sound-map m keys classes .1 S)))

@@ -18,7 +18,7 @@ use Rattle.map.specs.Check.{mapRefusals}
 use Rattle.map.proofs.Laws.{sound-map, numbered-map}
 use Rattle.used.specs.Used.{borderRefusals}
 use Rattle.used.proofs.Laws.{border-passed, border-refused, numbered-border}
-use Rattle.month.specs.Month.{sizeIn, windowIn, mapsIn, spoiled, tableRefusals, addRefusals}
+use Rattle.month.specs.Month.{mIn, windowIn, mapsIn, spoiled, tableRefusals, addRefusals}
 use Rattle.month.specs.Promises.{Ongoing, Addable}
 use Rattle.month.proofs.Sanity.{spoiled-sane}
 
@@ -27,7 +27,7 @@ use Rattle.month.proofs.Sanity.{spoiled-sane}
 module _ (m : ℕ) (table : List ℕ) where
   -- behind 8
   abbrev behind : List Refusal
-  behind = refusal (not (eqb (sizeIn table) m)) 15 0 ∷ refusal (spoiled m table) 26 0 ∷ refusal (eqb (mapsIn table) 1000) 16 0 ∷ []
+  behind = refusal (not (eqb (mIn table) m)) 15 0 ∷ refusal (spoiled m table) 26 0 ∷ refusal (eqb (mapsIn table) 1000) 16 0 ∷ []
 
   pub table-short : length table < 1030 → verdict (tableRefusals m table) ≡ Refused 8 1030
   unfolding tableRefusals
@@ -38,12 +38,12 @@ module _ (m : ℕ) (table : List ℕ) where
     unfolding tableRefusals
     long = append-passed Refused (roomRefusals (length table) 1030) behind _ (room-passed (length table) 1030 .1 l)
 
-    pub table-other : (sizeIn table ≡ m → ⊥) → verdict (tableRefusals m table) ≡ Refused 15 0
-    table-other d = long ∙ refusal-held Refused 15 0 _ _ (rw (ne-eqb (sizeIn table) m d))
+    pub table-other : (mIn table ≡ m → ⊥) → verdict (tableRefusals m table) ≡ Refused 15 0
+    table-other d = long ∙ refusal-held Refused 15 0 _ _ (rw (ne-eqb (mIn table) m d))
 
-    module _ (e : sizeIn table ≡ m) where
-      right : not (eqb (sizeIn table) m) ≡ false
-      right = rw (eq-eqb (sizeIn table) m e)
+    module _ (e : mIn table ≡ m) where
+      right : not (eqb (mIn table) m) ≡ false
+      right = rw (eq-eqb (mIn table) m e)
 
       pub table-spoiled : spoiled m table ≡ true → verdict (tableRefusals m table) ≡ Refused 26 0
       table-spoiled s = long ∙ refusal-clear Refused 15 0 _ _ right ∙ refusal-held Refused 26 0 _ _ s
@@ -74,7 +74,7 @@ module _ (m : ℕ) (table : List ℕ) where
       let full = passed-next _ 16 0 [] .0 (sane .1) in
       let s = spoiled-sane m table .0 (sane .0) in
       let d = eqb-false (mapsIn table) 1000 (full .0) in
-      record { long = room-passed (length table) 1030 .0 (eight .0); same = eqb-true (sizeIn table) m (not-false _ (other .0)); sane = s; fewer = omega (arith, s .few, d) }
+      record { long = room-passed (length table) 1030 .0 (eight .0); same = eqb-true (mIn table) m (not-false _ (other .0)); sane = s; fewer = omega (arith, s .few, d) }
 
 -- ---- all of them
 

@@ -32,8 +32,8 @@ unfoldable pub tableOf : ℕ → Window → ℕ → (ℕ → Row) → List ℕ
 tableOf m W maps rows = headOf m W ++ maps ∷ rowCells (map rows (upFrom 0 256))
 
 -- and back, from any cells: m, the window, the number of maps. The window's numbers may be any; no picture has one that is over 16 bits
-abbrev pub sizeIn : List ℕ → ℕ
-sizeIn table = getD table 0 0
+abbrev pub mIn : List ℕ → ℕ
+mIn table = getD table 0 0
 
 abbrev pub windowIn : List ℕ → Window
 windowIn table = window (getD table 1 0) (getD table 2 0) (getD table 3 0) (getD table 4 0)
@@ -65,7 +65,7 @@ spoiled m table =
 unfoldable pub tableRefusals : ℕ → List ℕ → List Refusal
 tableRefusals m table =
     roomRefusals (length table) 1030
-    ++ refusal (not (eqb (sizeIn table) m)) 15 0 ∷ refusal (spoiled m table) 26 0 ∷ refusal (eqb (mapsIn table) 1000) 16 0 ∷ []
+    ++ refusal (not (eqb (mIn table) m)) 15 0 ∷ refusal (spoiled m table) 26 0 ∷ refusal (eqb (mapsIn table) 1000) 16 0 ∷ []
 
 -- the refusals of adding: those of the map, of the table, and of the border, by the table's window
 unfoldable pub addRefusals : ℕ → List ℕ → ℕ → ℕ → List ℕ → List Refusal

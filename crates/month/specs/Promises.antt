@@ -10,7 +10,7 @@ use Rattle.map.specs.Sound.{SoundMap}
 use Rattle.totals.specs.Totals.{total}
 use Rattle.rows.specs.Rows.{rowIn}
 use Rattle.rows.specs.Promises.{rowOf}
-use Rattle.month.specs.Month.{tableOf, sizeIn, windowIn, mapsIn}
+use Rattle.month.specs.Month.{tableOf, mIn, windowIn, mapsIn}
 
 -- a map by its keys and its classes
 abbrev pub Map : Type 0
@@ -34,7 +34,7 @@ pub record Sane (m : ℕ) (table : List ℕ) : Type 0 where
 -- a table to which a map of this m can be added: a whole one of that m, which 26 lets pass and which has fewer than a thousand maps
 pub record Ongoing (m : ℕ) (table : List ℕ) : Type 0 where
   pub long : 1030 ≤ length table
-  pub same : sizeIn table ≡ m
+  pub same : mIn table ≡ m
   pub sane : Sane m table
   pub fewer : mapsIn table < 1000
 

@@ -104,7 +104,7 @@ fn spoiled(m: u32, table: &[u64]) -> bool
 }
 
 // Refusals 8, 15, 26 and 16.
-fn fit_table(m: u32, table: &[u64]) -> Verdict
+fn ongoing(m: u32, table: &[u64]) -> Verdict
     requires { ⌜ m ≤ 12 ⌝ }
     ensures { λ r. ⌜ r ≡ verdict (tableRefusals m (now (table .entry))) ⌝ }
 {
@@ -143,7 +143,7 @@ fn addable(m: u32, keys: &[u32], classes: &[u8], cells: usize, table: &[u64]) ->
     if let Verdict::Refused { number, place } = sound {
         return Verdict::Refused { number, place };
     }
-    let fits = fit_table(m, table);
+    let fits = ongoing(m, table);
     if let Verdict::Refused { number, place } = fits {
         return Verdict::Refused { number, place };
     }

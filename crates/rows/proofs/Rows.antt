@@ -18,7 +18,7 @@ use Rattle.rows.specs.Growing.{putRow, grown, growRows}
 
 -- ---- rows in their cells
 
-pub cells-append : (xs ys : List Row) → rowCells (xs ++ ys) ≡ rowCells xs ++ rowCells ys
+cells-append : (xs ys : List Row) → rowCells (xs ++ ys) ≡ rowCells xs ++ rowCells ys
 unfolding rowCells
 cells-append [] ys = refl
 cells-append (x ∷ xs) ys = ap (λ (t : List ℕ). x .least ∷ x .greatest ∷ x .sum ∷ x .maps ∷ t) (cells-append xs ys)
@@ -32,10 +32,6 @@ cells-length (x ∷ xs) = omega (arith, cells-length xs)
 pub cells-next : (x : Row) (xs : List Row) → rowCells (x ∷ xs) ≡ x .least ∷ x .greatest ∷ x .sum ∷ x .maps ∷ rowCells xs
 unfolding rowCells
 cells-next x xs = refl
-
-pub cells-one : (x : Row) → rowCells (x ∷ []) ≡ x .least ∷ x .greatest ∷ x .sum ∷ x .maps ∷ []
-unfolding rowCells
-cells-one x = refl
 
 -- behind the cells of k rows stand those of row k
 pub behind-rows : (f : ℕ → Row) (a n k : ℕ) → k < n → (rest : List Row) × (drop (4 * k) (rowCells (map f (upFrom a n))) ≡ rowCells (f (a + k) ∷ rest))
@@ -67,7 +63,7 @@ once-most n = go (eqb n 0)
 -- ---- a row that is written behind what stands already
 
 module _ {part table₀ table : List ℕ} (f : Filling part table₀ table) (class : ℕ) (e : length part ≡ 6 + 4 * class) where
-  pub row-kept : rowIn table class ≡ rowIn table₀ class
+  row-kept : rowIn table class ≡ rowIn table₀ class
   row-kept =
       let at : ℕ = 6 + 4 * class in
       rw (
@@ -77,15 +73,15 @@ module _ {part table₀ table : List ℕ} (f : Filling part table₀ table) (cla
         filling-beyond f (at + 3) (omega (arith, e)),
       )
 
-  pub row-put : (x : Row) → 10 + 4 * class ≤ length table₀ → Filling (part ++ rowCells (x ∷ [])) table₀ (putRow class x table)
-  unfolding putRow
+  row-put : (x : Row) → 10 + 4 * class ≤ length table₀ → Filling (part ++ rowCells (x ∷ [])) table₀ (putRow class x table)
+  unfolding putRow rowCells
   row-put x l =
       let at : ℕ = 6 + 4 * class in
       let one = filling-cell f at e (x .least) (omega arith) in
       let two = filling-cell one (at + 1) (simp length-append (omega (arith, e))) (x .greatest) (omega arith) in
       let three = filling-cell two (at + 2) (simp length-append (omega (arith, e))) (x .sum) (omega arith) in
       let four = filling-cell three (at + 3) (simp length-append (omega (arith, e))) (x .maps) (omega arith) in
-      rw (cells-one x) (rw (append-assoc, append-assoc, append-assoc) at four)
+      rw (append-assoc, append-assoc, append-assoc) at four
 
 -- ---- the loop
 
@@ -106,7 +102,7 @@ module _ (first : Bool) (counts table₀ : List ℕ) where
   many : (k : ℕ) → length (rowCells (rows k)) ≡ 4 * k
   many k = cells-length (rows k) ∙ rw (length-map (upFrom 0 k) (grown first counts table₀), up-length 0 k)
 
-  pub rows-length : 1030 ≤ length table₀ → (k : ℕ) → length (take 6 table₀ ++ rowCells (rows k)) ≡ 6 + 4 * k
+  rows-length : 1030 ≤ length table₀ → (k : ℕ) → length (take 6 table₀ ++ rowCells (rows k)) ≡ 6 + 4 * k
   rows-length l k = length-append (take 6 table₀) (rowCells (rows k)) ∙ rw (many k, length-take-le 6 table₀ (omega arith))
 
   pub growing-first : 1030 ≤ length table₀ → Growing first counts table₀ table₀ 0

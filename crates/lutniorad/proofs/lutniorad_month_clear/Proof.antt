@@ -2,7 +2,6 @@
 -- Assumes nothing.
 use borrow.Author.Needs.{needs}
 use Rattle.lutniorad.proofs.Crossing.{crossing}
-use borrow.Author.Needs.{needs}
 use Rattle.lutniorad.proofs.lutniorad_month_clear.Statement.{statement}
 use Rattle.lutniorad.proofs.lutniorad_month_clear.Tie as tie
 

@@ -17,7 +17,6 @@ use Rattle.month.specs.Promises.{Ongoing, Addable}
 use Rattle.month.proofs.Sanity.{narrowed-inside}
 use Rattle.month.proofs.Tables.{add-addable}
 use Rattle.month.proofs.Adding.{grown-stored, stored-fits, add-refused, add-done}
-use borrow.Author.Needs.{needs}
 use Rattle.month.proofs.add.Statement.{statement}
 use Rattle.month.proofs.add.Tie as tie
 

@@ -14,7 +14,6 @@ use Rattle.month.specs.Month.{windowIn, tableRefusals}
 use Rattle.month.specs.Promises.{Ongoing}
 use Rattle.month.proofs.Sanity.{narrowed-inside}
 use Rattle.month.proofs.Tables.{table-passed, add-unsound, add-unfit, add-narrow, add-passes}
-use borrow.Author.Needs.{needs}
 use Rattle.month.proofs.addable.Statement.{statement}
 use Rattle.month.proofs.addable.Tie as tie
 
@@ -41,14 +40,14 @@ module _ (c : tie.After-enum-told) where
   small : entry .args .m ≤ 12
   small = sound-map _ _ _ .0 passed .sizes .small
 
-fit-table-requires : tie.Need-fit-table-requires
-fit-table-requires c κs = small c
+ongoing-requires : tie.Need-ongoing-requires
+ongoing-requires c κs = small c
 
 enum-known-fits : tie.Need-enum-known-fits
 enum-known-fits c = search needs
 
 returns-2 : tie.Need-returns-2
-returns-2 c = sym (add-unfit _ _ _ _ _ (passed (c .before .before .before .before)) (sym (c .before .before .before .fit-table .ensures) ∙ c .before .fits2 .given .1))
+returns-2 c = sym (add-unfit _ _ _ _ _ (passed (c .before .before .before .before)) (sym (c .before .before .before .ongoing .ensures) ∙ c .before .fits2 .given .1))
 
 enum-told-2 : tie.Need-enum-told-2
 enum-told-2 c = search needs
@@ -62,7 +61,7 @@ module _ (c : tie.After-enum-told2) where
   cells = entry told .args .table .now
 
   fit : verdict (tableRefusals (entry told .args .m) cells) ≡ Passed
-  fit = sym (c .before .before .fit-table .ensures) ∙ c .enum-told2 .given .1
+  fit = sym (c .before .before .ongoing .ensures) ∙ c .enum-told2 .given .1
 
   goes-on : Ongoing (entry told .args .m) cells
   goes-on = table-passed _ _ fit
@@ -99,7 +98,7 @@ addable-spec =
     enum-known-sound
     returns
     enum-told
-    fit-table-requires
+    ongoing-requires
     enum-known-fits
     returns-2
     enum-told-2

@@ -8,7 +8,6 @@ use lib.ListN.{length-set}
 use borrow.Author.Needs.{needs}
 use Rattle.window.specs.Window.{outside}
 use Rattle.month.proofs.Clearing.{clear-over, clear-outside, clear-short, clear-done}
-use borrow.Author.Needs.{needs}
 use Rattle.month.proofs.clear.Statement.{statement}
 use Rattle.month.proofs.clear.Tie as tie
 

@@ -12,7 +12,6 @@ use Rattle.window.specs.Window.{Inside, outside}
 use Rattle.window.proofs.Laws.{inside, inside-12, pixels-most}
 use Rattle.month.specs.Month.{windowIn}
 use Rattle.month.proofs.Sanity.{narrowed-inside, narrowed-outside, spoiled-outside, spoiled-many, spoiled-rows}
-use borrow.Author.Needs.{needs}
 use Rattle.month.proofs.spoiled.Statement.{statement}
 use Rattle.month.proofs.spoiled.Tie as tie
 

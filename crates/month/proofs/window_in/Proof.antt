@@ -1,7 +1,6 @@
 -- `month::window_in` meets its contract.
 -- Assumes nothing.
 use borrow.Author.Needs.{needs}
-use borrow.Author.Needs.{needs}
 use Rattle.month.proofs.window_in.Statement.{statement}
 use Rattle.month.proofs.window_in.Tie as tie
 

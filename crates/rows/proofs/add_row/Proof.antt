@@ -6,7 +6,6 @@ use borrow.Author.Needs.{needs}
 use Rattle.rows.specs.Rows.{withMap}
 use Rattle.rows.specs.Growing.{putRow}
 use Rattle.rows.proofs.Rows.{once-most}
-use borrow.Author.Needs.{needs}
 use Rattle.rows.proofs.add_row.Statement.{statement}
 use Rattle.rows.proofs.add_row.Tie as tie
 

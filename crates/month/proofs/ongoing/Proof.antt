@@ -1,11 +1,10 @@
--- `month::fit_table` meets its contract. Each test decides what its law in `Tables` says.
+-- `month::ongoing` meets its contract. Each test decides what its law in `Tables` says.
 -- Assumes nothing.
 use mathlib.Core.Path.{sym, _∙_}
 use borrow.Author.Needs.{needs}
 use Rattle.month.proofs.Tables.{table-short, table-other, table-spoiled, table-full, table-open}
-use borrow.Author.Needs.{needs}
-use Rattle.month.proofs.fit_table.Statement.{statement}
-use Rattle.month.proofs.fit_table.Tie as tie
+use Rattle.month.proofs.ongoing.Statement.{statement}
+use Rattle.month.proofs.ongoing.Tie as tie
 
 returns : tie.Need-returns
 returns c = sym (table-short _ _ (c .if1 .taken))
@@ -39,8 +38,8 @@ returns-5 c =
     let at = sane (c .before) in
     sym (table-open _ _ (at .before .before .before .before .if1 .left) (at .before .before .if2 .left) (sym (at .before .spoiled .ensures) ∙ at .if3 .left) (c .if4 .left))
 
-pub fit-table-spec : {M : Type 1} → statement M
-fit-table-spec =
+pub ongoing-spec : {M : Type 1} → statement M
+ongoing-spec =
     tie.close
     (tie.spec
     returns
