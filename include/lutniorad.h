@@ -9,7 +9,8 @@
  * the whole picture is key 0 (at m = 0 the only key), and at m = 2 key 5 (digits 1 0) is its north-west quarter and
  * key 7 (digits 1 2) the pixel in row 0, column 1.
  *
- * A CLASS is what was seen in a block, one byte. 255 marks what the camera did not see, and is a class like any other.
+ * A CLASS is what was seen in a block, one byte. 255 marks what the camera did not see. lutniorad_exist knows that, and
+ * says where it cannot tell; for all other calls 255 is a class like any other.
  *
  * A MAP is m and a list of RECORDS, a key and a class each: two slices of the same length Q, from 1 to 65,536. A map is
  * sound when its blocks, in the order of the list, go through all pixels once in the order of their keys: the first
@@ -158,13 +159,30 @@ lutniorad_answer lutniorad_open(uint32_t m,
                                 uint16_t *border, size_t n_border,
                                 uint32_t *out, size_t n_out);
 
+/* What lutniorad_exist answers. */
+enum {
+    LUTNIORAD_NO = 0,         /* no pixel of the window has the class, and all were seen */
+    LUTNIORAD_YES = 1,        /* some pixel of the window has the class */
+    LUTNIORAD_CANNOT_TELL = 2 /* no pixel of the window has the class, but some are of class 255: they may have it */
+};
+
 /*
  * Has this window a pixel of this class?
  *
- * Answers `first` = 1 when some pixel of the window has the class, and 0 when none has; `second` = 0. Either way the
- * first w cells of `border` are then r0 + h. Any byte is a class, also one that no record has.
+ * Answers `first` = LUTNIORAD_NO, LUTNIORAD_YES or LUTNIORAD_CANNOT_TELL, `second` = 0. In each case the first w cells
+ * of `border` are then r0 + h. Any byte is a class, also one that no record has. Of class 255 itself it can always
+ * tell: yes where some pixel was not seen, no where all were.
  *
- * Refuses by 1 to 7, as lutniorad_open does. There is no slice for the answer, and so no 8.
+ * Only LUTNIORAD_NO may be taken as "none there". Where a caller wants more than that of a window it cannot tell about,
+ * lutniorad_report says how many of its pixels were not seen.
+ *
+ * Before there were three answers, what is LUTNIORAD_CANNOT_TELL now was answered 0 as well. So `first == 0` and
+ * `!first` no longer hold where some pixel was not seen: as a test for "none there" they are right now, and need no
+ * change. But what stands behind their `else`, or behind `if (first)` or `first != 0`, is no longer a yes, as 2 comes
+ * there too. A yes is `first == LUTNIORAD_YES`.
+ *
+ * Refuses by 1 to 7, as lutniorad_open does. There is no slice for the answer, and so no 8. A refusal has `first` = 0
+ * too, so look at `refusal` before.
  */
 lutniorad_answer lutniorad_exist(uint32_t m,
                                  const uint32_t *keys, size_t n_keys,

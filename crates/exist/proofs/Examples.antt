@@ -20,7 +20,11 @@ use Rattle.map.specs.Check.{late, refusalsFrom, mapRefusals}
 use Rattle.map.specs.Records.{recordOf}
 use Rattle.used.specs.Used.{useRefusals, spent, borderRefusals}
 use Rattle.exist.specs.declared.Existence.the-variants as existence
-use Rattle.exist.specs.Exist.{exists, existing, existOf}
+use Rattle.exist.specs.Exist.{exists, presence, existing, existOf}
+
+-- P1's classes, but that the last record, the south-east quarter, was not seen
+abbrev pub glare : List ℕ
+glare = 1 ∷ 2 ∷ 2 ∷ 3 ∷ 1 ∷ 1 ∷ 255 ∷ []
 
 -- the four pixels of a picture
 abbrev pixels : List ℕ
@@ -31,13 +35,27 @@ pub record Examples : Type 0 where
   pub no : existOf 2 keys classes W 4 (old 3) ≡ after existence.No (3 ∷ 3 ∷ 3 ∷ [])
   -- the class is in the picture, but not in the window
   pub elsewhere : existOf 1 pixels (7 ∷ 0 ∷ 0 ∷ 0 ∷ []) (window 1 0 1 2) 7 (old 2) ≡ after existence.No (2 ∷ 2 ∷ [])
+  -- none was seen with the class, and one of the last opening was not seen
+  pub cannot-tell : existOf 2 keys glare W 4 (old 4) ≡ after existence.CannotTell (3 ∷ 3 ∷ 3 ∷ 99 ∷ [])
+  -- what has the class is enough
+  pub yes-and-glare : existOf 2 keys glare W 3 (old 3) ≡ after existence.Yes (3 ∷ 3 ∷ 3 ∷ [])
+  -- asked for what was not seen itself
+  pub unseen : existOf 2 keys glare W 255 (old 3) ≡ after existence.Yes (3 ∷ 3 ∷ 3 ∷ [])
+  pub all-seen : existOf 2 keys classes W 255 (old 3) ≡ after existence.No (3 ∷ 3 ∷ 3 ∷ [])
+  -- all of the window was seen, though not all of the picture
+  pub glare-elsewhere : existOf 1 pixels (255 ∷ 0 ∷ 0 ∷ 0 ∷ []) (window 1 0 1 2) 7 (old 2) ≡ after existence.No (2 ∷ 2 ∷ [])
 
 pub examples : Examples
 unfolding pictureRefusals countRefusals borderRefusals answer wrongCount sizeRefusals overwrite upFrom spreadTo spread place from formOf beyond
     outside windowRefusals across rows spans.malformed spans.formExponent spans.start spans.end spans.holds late refusalsFrom mapRefusals before
-    howMany recordOf any useRefusals spent exists existing existOf
+    howMany recordOf any useRefusals spent exists presence existing existOf
 examples = record {
   yes = refl;
   no = refl;
   elsewhere = refl;
+  cannot-tell = refl;
+  yes-and-glare = refl;
+  unseen = refl;
+  all-seen = refl;
+  glare-elsewhere = refl;
 }

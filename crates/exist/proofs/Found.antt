@@ -2,7 +2,7 @@
 -- Assumes nothing.
 use mathlib.Core.Path.{_≡_, refl}
 use mathlib.Core.Logic.{_↔_}
-use mathlib.Core.Bool.{Bool, true, false}
+use mathlib.Core.Bool.{Bool, true, false, _||_}
 use mathlib.Core.List.{List, [], _∷_, _++_, List·Memᴰ·head, Memᴰ·append-right}
 use Prim.Native.Nat.{ℕ, _≤_}
 use lib.ListN.{getD}
@@ -65,8 +65,8 @@ module _ (f : ℕ → Bool) where
   pub any-no-opening : any f (allHands []) ≡ false
   any-no-opening = rw (hands-none, any-none f)
 
-  pub any-opening : (os : List Opening) (o : Opening) → any f (allHands os) ≡ false → any f (hands o) ≡ false → any f (allHands (os ++ (o ∷ []))) ≡ false
-  any-opening os o e d = rw (hands-append os (o ∷ []), hands-one o, any-append f (allHands os) (hands o), e, d)
+  pub any-opening : (os : List Opening) (o : Opening) → any f (allHands (os ++ (o ∷ []))) ≡ any f (allHands os) || any f (hands o)
+  any-opening os o = rw (hands-append os (o ∷ []), hands-one o, any-append f (allHands os) (hands o))
 
   pub opening-any : (os : List Opening) (o : Opening) (os′ : List Opening) → any f (hands o) ≡ true → any f (allHands (os ++ o ∷ os′)) ≡ true
   opening-any os o os′ e =

@@ -1,5 +1,5 @@
 mod Found
 mod Seeking
 mod Tables
-mod Examples
+pub mod Examples
 pub mod Laws

@@ -1,7 +1,7 @@
 -- What exist answers and leaves, by the verdict of its refusals.
 -- Assumes nothing.
 use mathlib.Core.Path.{_≡_, refl, ap}
-use mathlib.Core.Bool.{true, false, cond}
+use mathlib.Core.Bool.{Bool, true, false, cond}
 use mathlib.Core.List.{List}
 use Prim.Native.Nat.{ℕ}
 use lib.ListN.{length}
@@ -10,10 +10,16 @@ use Rattle.answers.specs.Refusals.{verdict, answer}
 use Rattle.answers.specs.After.{After, after}
 use Rattle.answers.proofs.Laws.{answer-kept, on-passed, on-refused, answer-part}
 use Rattle.window.specs.declared.Window.{Window}
+use Rattle.map.specs.Classes.{notSeen}
 use Rattle.used.specs.Used.{useRefusals, spent}
 use Rattle.exist.specs.declared.Existence.{Existence}
 use Rattle.exist.specs.declared.Existence.the-variants as existence
-use Rattle.exist.specs.Exist.{exists, existing, existOf}
+use Rattle.exist.specs.Exist.{exists, presence, existing, existOf}
+
+pub presence-is : (m : ℕ) (keys classes : List ℕ) (W : Window) (class : ℕ)
+    → presence m keys classes W class ≡ cond (exists m keys classes W class) existence.Yes (cond (exists m keys classes W notSeen) existence.CannotTell existence.No)
+unfolding presence
+presence-is m keys classes W class = refl
 
 module _ (m : ℕ) (keys classes : List ℕ) (W : Window) (class : ℕ) (border : List ℕ) where
   pub exist-refused : {n p : ℕ} → verdict (useRefusals m keys (length classes) W (length border)) ≡ verdict-of.Refused n p
@@ -36,18 +42,20 @@ module _ (m : ℕ) (keys classes : List ℕ) (W : Window) (class : ℕ) (border 
   exist-untouched held =
       answer-kept (λ (x : After Existence (List ℕ)). x .lent) (λ n p. after (existence.Refused n p) border) (useRefusals m keys (length classes) W (length border)) _ (λ n p. refl) held
 
+  -- each answer, by what is known of the class and of 255
   pub existing-yes : {left : List ℕ} → exists m keys classes W class ≡ true → left ≡ spent W border → after existence.Yes left ≡ existing m keys classes W class border
-  unfolding existing
+  unfolding presence existing
   existing-yes e d = rw (e, d)
 
-  pub existing-no : {left : List ℕ} → exists m keys classes W class ≡ false → left ≡ spent W border → after existence.No left ≡ existing m keys classes W class border
-  unfolding existing
-  existing-no e d = rw (e, d)
+  pub existing-none : {left : List ℕ} {unseen : Bool} → exists m keys classes W class ≡ false → exists m keys classes W notSeen ≡ unseen → left ≡ spent W border
+      → after (cond unseen existence.CannotTell existence.No) left ≡ existing m keys classes W class border
+  unfolding presence existing
+  existing-none e u d = rw (e, u, d)
 
 -- of the border only the length counts
 pub exist-by-lengths : (m : ℕ) (keys classes : List ℕ) (W : Window) (class : ℕ) (border : List ℕ)
     → existOf m keys classes W class border .answer
-    ≡ answer existence.Refused (useRefusals m keys (length classes) W (length border)) (cond (exists m keys classes W class) existence.Yes existence.No)
+    ≡ answer existence.Refused (useRefusals m keys (length classes) W (length border)) (presence m keys classes W class)
 unfolding existOf existing
 exist-by-lengths m keys classes W class border =
     answer-part (λ (x : After Existence (List ℕ)). x .answer) (λ n p. after (existence.Refused n p) border) (useRefusals m keys (length classes) W (length border)) _

@@ -1,4 +1,4 @@
-// Exist: whether some pixel of a window has a class.
+// Exist: whether some pixel of a window has a class, as far as that was seen.
 use answers::Verdict;
 use border::Found;
 use window::Window;
@@ -9,34 +9,47 @@ ghost use Rattle.lists.specs.Lists.{upFrom, any};
 ghost use Rattle.answers.specs.After.{after};
 ghost use Rattle.key.specs.Spread.{spreads};
 ghost use Rattle.map.specs.Sound.{Follow};
-ghost use Rattle.map.specs.Classes.{classed};
+ghost use Rattle.map.specs.Classes.{classed, notSeen};
 ghost use Rattle.used.specs.Used.{Usable};
 ghost use Rattle.exist.specs.Exist.{existing, existOf};
 
-// What exist answers: whether some pixel has the class, or a refusal.
+// What exist answers: whether some pixel has the class, or a refusal. It cannot tell where none has it and some were not seen.
 pub enum Existence {
     Yes,
     No,
+    CannotTell,
     Refused { number: u32, place: u32 },
 }
 
-// One of the `count` records from the first on has the class.
-fn has_class(classes: &[u8], class: u8, first: u32, count: u32) -> bool
-    requires { ⌜ (first + count ≤ length (now classes)) × (length (now classes) ≤ 65536) ⌝ }
-    ensures { λ r. ⌜ r ≡ any (classed (now (classes .entry)) class) (upFrom first count) ⌝ }
-{
-    let end = first + count;
-    let mut n = first;
-    while n < end {
-        if classes[n as usize] == class {
-            return true;
-        }
-        n += 1;
-    }
-    false
+// The class of what was not seen.
+const NOT_SEEN: u8 = 255;
+
+// Some records, looked through: one has the class, one was not seen.
+struct Looked {
+    has: bool,
+    unseen: bool,
 }
 
-// Goes from opening to opening until a record has the class. In a whole map, that of each pixel is handed out.
+// Looks through the `count` records from the first on, to the last of them: a loop that may end before takes them one by one, this one many at a time.
+fn look(classes: &[u8], class: u8, first: u32, count: u32) -> Looked
+    requires { ⌜ (first + count ≤ length (now classes)) × (length (now classes) ≤ 65536) ⌝ }
+    ensures { λ r. ⌜ (r .has ≡ any (classed (now (classes .entry)) class) (upFrom first count)) × (r .unseen ≡ any (classed (now (classes .entry)) notSeen) (upFrom first count)) ⌝ }
+{
+    let from = first as usize;
+    let count = count as usize;
+    let mut has = false;
+    let mut unseen = false;
+    let mut n = 0;
+    while n < count {
+        let here = classes[from + n];
+        has = has | (here == class);
+        unseen = unseen | (here == NOT_SEEN);
+        n += 1;
+    }
+    Looked { has, unseen }
+}
+
+// Goes from opening to opening until a record has the class, and remembers whether one was not seen. In a whole map, that of each pixel is handed out.
 fn seek(
     table: &[u32; 256],
     m: u32,
@@ -52,6 +65,7 @@ fn seek(
     let w = window.w as usize;
     step::fill(border, 0, w, window.r0);
     let mut at = openings::start(window);
+    let mut unseen = false;
     loop {
         let found = openings::next_opening(table, m, m, keys, window, at, border);
         let Found::Opening {
@@ -61,17 +75,23 @@ fn seek(
             ..
         } = found
         else {
-            return Existence::No;
+            return if unseen {
+                Existence::CannotTell
+            } else {
+                Existence::No
+            };
         };
-        if has_class(classes, class, first, count) {
+        let looked = look(classes, class, first, count);
+        if looked.has {
             step::fill(border, 0, w, window.r0 + window.h);
             return Existence::Yes;
         }
+        unseen = unseen | looked.unseen;
         at = on;
     }
 }
 
-// Whether some pixel of the window has the class.
+// Whether some pixel of the window has the class: yes, no, or it cannot tell.
 pub fn exist(
     m: u32,
     keys: &[u32],

@@ -13,6 +13,7 @@ use Rattle.answers.specs.Sizes.{Sized}
 use Rattle.answers.proofs.Laws.{answer-part, on-passed}
 use Rattle.window.specs.declared.Window.{Window}
 use Rattle.map.specs.declared.Checked.the-variants as checked
+use Rattle.map.specs.Classes.{notSeen}
 use Rattle.map.specs.Check.{mapRefusals}
 use Rattle.map.specs.Sound.{SoundMap}
 use Rattle.map.proofs.Laws.{sound-map, check-is, numbered-map}
@@ -25,8 +26,8 @@ use Rattle.house.specs.File.{readRefusals, writeRefusals, fileM, fileQ}
 use Rattle.house.specs.Promises.{Readable}
 use Rattle.house.proofs.Laws.{numbered-read, read-passed, read-by-lengths, read-untouched, numbered-write, write-passed, write-by-length, write-untouched}
 use Rattle.exist.specs.declared.Existence.the-variants as existence
-use Rattle.exist.specs.Exist.{exists}
-use Rattle.exist.proofs.Laws.{exist-by-lengths, exist-untouched}
+use Rattle.exist.specs.Exist.{exists, presence}
+use Rattle.exist.proofs.Laws.{presence-is, exist-by-lengths, exist-untouched}
 use Rattle.lutniorad.specs.declared.Answer.{Answer}
 use Rattle.lutniorad.specs.Numbers.{values, refused, ofChecked, ofExistence, ofReading, ofWriting}
 use Rattle.lutniorad.specs.Calls.{Check, Exist, Read, Write}
@@ -49,9 +50,9 @@ module _ (m : ℕ) (keys classes : List ℕ) {r : Answer} (call : Check m keys c
 
 -- ---- exist
 
--- yes or no, as a number
+-- yes, no or can't tell, as a number
 abbrev pub sayExists : ℕ → List ℕ → List ℕ → Window → ℕ → Answer
-sayExists m keys classes W class = ofExistence (cond (exists m keys classes W class) existence.Yes existence.No)
+sayExists m keys classes W class = ofExistence (presence m keys classes W class)
 
 module _ (m : ℕ) (keys classes : List ℕ) (W : Window) (class : ℕ) (border : List ℕ) {border′ : List ℕ} {r : Answer} (call : Exist m keys classes W class border r border′) where
   pub exist-says : r ≡ answer refused (useRefusals m keys (length classes) W (length border)) (sayExists m keys classes W class)
@@ -60,13 +61,14 @@ module _ (m : ℕ) (keys classes : List ℕ) (W : Window) (class : ℕ) (border 
       ∙ ap ofExistence (exist-by-lengths m keys classes W class border)
       ∙ answer-part ofExistence existence.Refused (useRefusals m keys (length classes) W (length border)) _
 
-  -- yes and no are no refusals
+  -- none of the three is a refusal
   clear : sayExists m keys classes W class .refusal ≡ 0
-  clear = go (exists m keys classes W class)
+  clear = rw (presence-is m keys classes W class) (go (exists m keys classes W class) (exists m keys classes W notSeen))
     where
-      go : (b : Bool) → ofExistence (cond b existence.Yes existence.No) .refusal ≡ 0
-      go true = refl
-      go false = refl
+      go : (a b : Bool) → ofExistence (cond a existence.Yes (cond b existence.CannotTell existence.No)) .refusal ≡ 0
+      go true b = refl
+      go false true = refl
+      go false false = refl
 
   pub exist-numbered : r .refusal ≤ 7
   exist-numbered = told-most (sayExists m keys classes W class) clear (numbered-use m keys (length classes) W (length border) (omega arith)) exist-says

@@ -2,8 +2,8 @@
 -- Assumes nothing.
 use mathlib.Core.Path.{_≡_, refl, sym, ap, _∙_}
 use mathlib.Core.Logic.{_↔_}
-use mathlib.Core.Bool.{Bool, true, false}
-use mathlib.Core.List.{List, [], _++_}
+use mathlib.Core.Bool.{Bool, true, false, cond}
+use mathlib.Core.List.{List, _++_}
 use Prim.Native.Nat.{ℕ, _+_, _*_, _≤_}
 use native.Mathlib.Omega.{arith}
 use lib.ListN.{length, getD, take}
@@ -16,12 +16,14 @@ use Rattle.answers.specs.After.{after, roomRefusals}
 use Rattle.answers.proofs.Laws.{on-passed, take-overwrite, drop-overwrite}
 use Rattle.window.specs.declared.Window.{Window}
 use Rattle.window.specs.Blocks.{pixels}
+use Rattle.map.specs.Classes.{notSeen}
 use Rattle.map.proofs.Laws.{spaced}
 use Rattle.used.specs.Used.{useRefusals, spent, usedFor}
 use Rattle.used.specs.Promises.{Answerable}
 use Rattle.used.proofs.Laws.{use-answerable}
 use Rattle.exist.specs.Exist.{exists}
-use Rattle.exist.proofs.Laws.{exists-means, exist-leaves}
+use Rattle.exist.specs.declared.Existence.the-variants as existence
+use Rattle.exist.proofs.Laws.{exists-means, presence-is, exist-leaves}
 use Rattle.totals.specs.Totals.{totals}
 use Rattle.totals.proofs.Laws.{totals-length, totals-at, totals-sum}
 use Rattle.report.specs.declared.Reported.the-variants as reported-as
@@ -30,35 +32,56 @@ use Rattle.select.specs.declared.Selected.the-variants as selected-as
 use Rattle.select.specs.Select.{selection}
 use Rattle.select.proofs.Laws.{select-is, selection-pixels, selection-one, selection-once, selection-few}
 use Rattle.lutniorad.specs.declared.Answer.{Answer}
-use Rattle.lutniorad.specs.Numbers.{values, refused, ofReported, ofSelected}
+use Rattle.lutniorad.specs.Numbers.{values, refused, ofExistence, ofReported, ofSelected}
 use Rattle.lutniorad.specs.Calls.{Exist, Report, Select}
-use Rattle.lutniorad.specs.Promises.{RefusalLeaves, SomePixel, ExistPromise, ReportPromise, SelectPromise}
-use Rattle.lutniorad.proofs.Answered.{sayExists, exist-says, exist-answered}
+use Rattle.lutniorad.specs.Promises.{RefusalLeaves, ExistPromise, ReportPromise, SelectPromise}
+use Rattle.lutniorad.proofs.Answered.{exist-says, exist-answered}
 use Rattle.lutniorad.proofs.Using.{used-crossed, used-says, used-numbered, used-answered, used-leaves, used-kept}
 
 -- ---- exist
 
-one-not-zero : values 1 0 ≡ values 0 0 → ⊥
-one-not-zero e = let d : _≡_ {A = ℕ} 1 0 = ap (λ (x : Answer). x .first) e in omega arith
+-- no answer is two numbers
+other : {r : Answer} {i j : ℕ} → r ≡ values i 0 → (i ≡ j → ⊥) → r ≡ values j 0 → ⊥
+other e apart d = apart (ap (λ (x : Answer). x .first) (sym e ∙ d))
+
+-- the three answers, from what is known of the class and of what was not seen
+three : {A B : Type 0} {r : Answer} (a b : Bool) → (a ≡ true) ↔ A → (b ≡ true) ↔ B → r ≡ ofExistence (cond a existence.Yes (cond b existence.CannotTell existence.No))
+    → ((r ≡ values 1 0) ↔ A) × ((r ≡ values 2 0) ↔ ((¬ A) × B)) × ((r ≡ values 0 0) ↔ ((¬ A) × (¬ B))) × ((n : ℕ) × (n ≤ 2) × (r ≡ values n 0))
+three true b is-a is-b e = (
+  (λ d. is-a .0 refl, λ s. e),
+  (λ d. absurd (other e (λ i. omega (arith, i)) d), λ s. absurd (s .0 (is-a .0 refl))),
+  (λ d. absurd (other e (λ i. omega (arith, i)) d), λ s. absurd (s .0 (is-a .0 refl))),
+  (1, omega arith, e),
+)
+three false true is-a is-b e = (
+  (λ d. absurd (other e (λ i. omega (arith, i)) d), λ s. absurd (never (sym (is-a .1 s)))),
+  (λ d. (λ s. never (sym (is-a .1 s)), is-b .0 refl), λ s. e),
+  (λ d. absurd (other e (λ i. omega (arith, i)) d), λ s. absurd (s .1 (is-b .0 refl))),
+  (2, omega arith, e),
+)
+three false false is-a is-b e = (
+  (λ d. absurd (other e (λ i. omega (arith, i)) d), λ s. absurd (never (sym (is-a .1 s)))),
+  (λ d. absurd (other e (λ i. omega (arith, i)) d), λ s. absurd (never (sym (is-b .1 (s .1))))),
+  (λ d. (λ s. never (sym (is-a .1 s)), λ s. never (sym (is-b .1 s))), λ s. e),
+  (0, omega arith, e),
+)
 
 module _ (m : ℕ) (keys classes : List ℕ) (W : Window) (class : ℕ) (border : List ℕ) {border′ : List ℕ} {r : Answer}
     (call : Exist m keys classes W class border r border′) (z : r .refusal ≡ 0) where
   pub exist-promise : ExistPromise m keys classes W class border r border′
   exist-promise =
       let passed = use-answerable m keys (length classes) W (length border) .1 (exist-answered m keys classes W class border call .0 z) in
-      let means = exists-means m keys classes class W in
-      let two = go (exists m keys classes W class) refl means (exist-says m keys classes W class border call ∙ on-passed refused _ _ passed) in
-      record { yes = two .0; no = two .1; border-after = call .cells ∙ exist-leaves m keys classes W class border passed }
-    where
-      go : (b : Bool) → exists m keys classes W class ≡ b → (exists m keys classes W class ≡ true) ↔ SomePixel m keys classes W class → r ≡ sayExists m keys classes W class
-          → ((r ≡ values 1 0) ↔ SomePixel m keys classes W class) × ((r ≡ values 0 0) ↔ (¬ SomePixel m keys classes W class))
-      go true e means d =
-          let one : r ≡ values 1 0 = rw e at d in
-          ((λ h. means .0 e, λ s. one), (λ h. absurd (one-not-zero (sym one ∙ h)), λ n. absurd (n (means .0 e))))
-      go false e means d =
-          let zero : r ≡ values 0 0 = rw e at d in
-          let none : ¬ SomePixel m keys classes W class = λ s. never (sym (means .1 s) ∙ e) in
-          ((λ h. absurd (one-not-zero (sym h ∙ zero)), λ s. absurd (none s)), (λ h. none, λ n. zero))
+      let said = exist-says m keys classes W class border call ∙ on-passed refused _ _ passed ∙ ap ofExistence (presence-is m keys classes W class) in
+      let means = exists-means m keys classes in
+      let t = three (exists m keys classes W class) (exists m keys classes W notSeen) (means class W) (means notSeen W) said in
+      record {
+        yes = t .0;
+        cannot-tell = t .1;
+        no = t .2;
+        one-of = t .3;
+        certain = λ e d. let s = t .1 .0 d in s .0 (rw e (s .1));
+        border-after = call .cells ∙ exist-leaves m keys classes W class border passed;
+      }
 
 -- ---- report
 

@@ -1,4 +1,5 @@
--- P1 and P2 as calls: the contracts hold of these numbers and cells, so what opening and decomposing promise holds of these very cells. And a row of calls of a month.
+-- P1 and P2 as calls: the contracts hold of these numbers and cells, so what opening and decomposing promise holds of these very cells. Exist where it cannot tell. And a row
+-- of calls of a month.
 -- Assumes nothing.
 use mathlib.Core.Path.{_≡_, refl, sym}
 use mathlib.Core.List.{List, [], _∷_, _++_}
@@ -24,6 +25,7 @@ use Rattle.map.specs.Spans as spans
 use Rattle.map.specs.Spans.{within}
 use Rattle.map.specs.Check.{late, refusalsFrom, mapRefusals}
 use Rattle.map.specs.Records.{recordOf, exponentOf}
+use Rattle.map.specs.Classes.{notSeen}
 use Rattle.map.specs.Runs.{runOf}
 use Rattle.border.specs.Openings.{isHanded, made, opening, openFrom, openings, handedCount, cellsOf}
 use Rattle.border.specs.Promises.{openingsIn}
@@ -32,12 +34,15 @@ use Rattle.open.specs.Open.{openOf}
 use Rattle.month.specs.Promises.{monthOf}
 use Rattle.month.proofs.P1.{empty, first-day}
 use Rattle.month.proofs.Examples.{examples}
+use Rattle.exist.proofs.Examples.{glare}
+use Rattle.exist.proofs.Examples as queries
 use Rattle.lutniorad.specs.Numbers.{values, refused}
-use Rattle.lutniorad.specs.Calls.{Decompose, Open, MonthClear, MonthAdd}
-use Rattle.lutniorad.specs.Promises.{DecomposePromise, OpenPromise, MonthRow, cleared, added}
+use Rattle.lutniorad.specs.Calls.{Decompose, Open, Exist, MonthClear, MonthAdd}
+use Rattle.lutniorad.specs.Promises.{DecomposePromise, OpenPromise, SomePixel, MonthRow, cleared, added}
 use Rattle.lutniorad.specs.Promises as promises
 use Rattle.lutniorad.proofs.Crossing.{crossing}
 use Rattle.lutniorad.proofs.Promised.{decompose-promise, open-promise}
+use Rattle.lutniorad.proofs.Asked.{exist-promise}
 use Rattle.lutniorad.proofs.Row.{month-table}
 
 abbrev cells : List ℕ
@@ -64,6 +69,13 @@ p1-promise = open-promise 2 keys classes W (old 3) (old 12) (called .p1) refl
 
 p2-promise : DecomposePromise 2 W (old 6) (values 6 0) blocks
 p2-promise = decompose-promise 2 W (old 6) (called .p2) refl
+
+-- class 4 in P1's window, where a part was not seen: none was seen with it, and some pixel was not seen
+exist-call : Exist 2 keys glare W 4 (old 4) (values 2 0) (3 ∷ 3 ∷ 3 ∷ 99 ∷ [])
+exist-call = crossing refl refl (sym (queries.examples .cannot-tell))
+
+none-seen : (¬ SomePixel 2 keys glare W 4) × SomePixel 2 keys glare W notSeen
+none-seen = exist-promise 2 keys glare W 4 (old 4) exist-call refl .cannot-tell .0 refl
 
 -- a month is cleared, P1's map is taken, and a record that is malformed is refused: from the examples of the operations
 month-row : MonthRow 2 W (old 1031) ((keys, classes) ∷ []) (first-day ++ 99 ∷ [])

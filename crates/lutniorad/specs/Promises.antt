@@ -18,6 +18,7 @@ use Rattle.window.specs.Window.{In}
 use Rattle.window.specs.Promises.{Maximal, Before}
 use Rattle.map.specs.Spans.{holds}
 use Rattle.map.specs.Records.{pixelRecord}
+use Rattle.map.specs.Classes.{notSeen}
 use Rattle.border.specs.Openings.{Opening, openings, cellsOf, allHands}
 use Rattle.border.specs.Promises.{Overlaps, HandedOut, Apart, Enough}
 use Rattle.used.specs.Used.{spent}
@@ -81,9 +82,15 @@ SomePixel m keys classes W class = (p : Px) × In W p × (classAt m keys classes
 
 -- exist
 pub record ExistPromise (m : ℕ) (keys classes : List ℕ) (W : Window) (class : ℕ) (border : List ℕ) (r : Answer) (border′ : List ℕ) : Type 0 where
-  -- `first` is 1 exactly when some pixel of the window has the class, and 0 exactly when none has
+  -- `first` is 1 exactly when some pixel of the window has the class
   pub yes : (r ≡ values 1 0) ↔ SomePixel m keys classes W class
-  pub no : (r ≡ values 0 0) ↔ (¬ SomePixel m keys classes W class)
+  -- 2 exactly when none has it and some were not seen
+  pub cannot-tell : (r ≡ values 2 0) ↔ ((¬ SomePixel m keys classes W class) × SomePixel m keys classes W notSeen)
+  -- and 0 exactly when none has it and all were seen
+  pub no : (r ≡ values 0 0) ↔ ((¬ SomePixel m keys classes W class) × (¬ SomePixel m keys classes W notSeen))
+  -- it is one of the three, and they exclude each other; asked for what was not seen, it is never 2
+  pub one-of : (n : ℕ) × (n ≤ 2) × (r ≡ values n 0)
+  pub certain : class ≡ notSeen → r ≡ values 2 0 → ⊥
   pub border-after : border′ ≡ spent W border
 
 -- report

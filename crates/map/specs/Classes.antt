@@ -15,3 +15,7 @@ classed classes class n = eqb (getD classes n 0) class
 -- a pixel has the class of its record
 abbrev pub hasClass : ℕ → List ℕ → List ℕ → ℕ → Px → Bool
 hasClass m keys classes class p = classed classes class (pixelRecord m keys (p .0) (p .1))
+
+-- the class of what was not seen
+abbrev pub notSeen : ℕ
+notSeen = 255

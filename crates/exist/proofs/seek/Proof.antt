@@ -1,25 +1,29 @@
 -- `exist::seek` meets its contract. The invariant is `Seeking`, the measure the number of openings left.
 -- Assumes nothing.
-use mathlib.Core.Path.{_≡_, sym, _∙_}
+use mathlib.Core.Path.{_≡_, ap, sym, _∙_}
+use mathlib.Core.Bool.{Bool, cond}
 use mathlib.Core.List.{List}
 use Prim.Native.Nat.{ℕ}
 use native.Mathlib.Omega.{arith}
 use lib.ListN.{length}
 use borrow.Author.Needs.{needs}
+use Rattle.answers.specs.After.{after}
 use Rattle.window.proofs.Laws.{inside-12}
 use Rattle.border.specs.Found.{walkMakes, spot}
 use Rattle.border.proofs.Laws.{fresh-same, fresh-usable, fresh-spent, finding-first, finding-usable, finding-spent, finding-last, Opens, finds-opens}
 use Rattle.used.specs.Used.{Usable, spent}
+use Rattle.exist.specs.declared.Existence.the-variants.{CannotTell, No}
+use Rattle.exist.specs.Exist.{existing}
 use Rattle.exist.proofs.Seeking.{Seeking, seeking-first, seeking-next, seeking-found, seeking-last}
-use Rattle.exist.proofs.Tables.{existing-yes, existing-no}
+use Rattle.exist.proofs.Tables.{existing-yes, existing-none}
 use Rattle.exist.proofs.seek.Statement.{statement}
 use Rattle.exist.proofs.seek.Tie as tie
 
 abbrev Inv-loop : tie.InvT-loop
-Inv-loop table m keys classes window class border₀ w at₀ border at = Seeking m keys classes window class border₀ border at
+Inv-loop table m keys classes window class border₀ w at₀ unseen₀ border at unseen = Seeking m keys classes window class border₀ border at unseen
 
 abbrev μ-loop : tie.MeasureT-loop
-μ-loop table m keys classes window class border₀ w at₀ border at = length (walkMakes m m keys window border (spot at))
+μ-loop table m keys classes window class border₀ w at₀ unseen₀ border at unseen = length (walkMakes m m keys window border (spot at))
 
 cast-w : tie.Need-cast-w Inv-loop μ-loop
 cast-w c = search needs
@@ -63,19 +67,31 @@ module _ (c : tie.After-enum-told Inv-loop μ-loop) where
   abbrev last : tie.At-loop Inv-loop μ-loop
   last = asked .before .before
 
+  abbrev left : List ℕ
+  left = asked .next-opening .last .1 .1 .1 .1 .1 .1 .0
+
+  ended : let a = first last .args in
+      (length left ≡ length (a .border .now))
+      × (after (cond (last .loop .unseen) CannotTell No) left ≡ existing (a .m) (a .keys .now) (a .classes .now) (a .window) (a .class) (a .border .now))
+  ended =
+      let p = first last .pre in
+      let end = finding-last (last .loop .inv .finding) (asked .next-opening .ensures) (c .enum-told .given .1) in
+      let known = seeking-last _ _ (p .1) (p .3) (last .loop .inv) (asked .next-opening .ensures) (c .enum-told .given .1) in (
+        end .2 .same ∙ fresh-same _ (p .1) (fresh last .fill .ensures),
+        existing-none _ _ _ _ _ _ (known .0) (known .1) (end .1 ∙ fresh-spent _ (p .1) (fresh last .fill .ensures)),
+      )
+
 same-length : tie.Need-same-length Inv-loop μ-loop
-same-length c =
-    let at = last c in
-    let end = finding-last (at .loop .inv .finding) (asked c .next-opening .ensures) (c .enum-told .given .1) in
-    end .2 .same ∙ fresh-same _ (first at .pre .1) (fresh at .fill .ensures)
+same-length c = ended (c .before) .0
 
 returns : tie.Need-returns Inv-loop μ-loop
-returns c =
-    let at = last c in
-    let end = finding-last (at .loop .inv .finding) (asked c .next-opening .ensures) (c .enum-told .given .1) in
-    existing-no _ _ _ _ _ _
-    (seeking-last _ _ (first at .pre .1) (first at .pre .3) (at .loop .inv) (asked c .next-opening .ensures) (c .enum-told .given .1))
-    (end .1 ∙ fresh-spent _ (first at .pre .1) (fresh at .fill .ensures))
+returns c = ap (λ (u : Bool). after (cond u CannotTell No) (left (c .before))) (sym (c .if1 .taken)) ∙ ended (c .before) .1
+
+same-length-2 : tie.Need-same-length-2 Inv-loop μ-loop
+same-length-2 c = ended (c .before) .0
+
+returns-2 : tie.Need-returns-2 Inv-loop μ-loop
+returns-2 c = ap (λ (u : Bool). after (cond u CannotTell No) (left (c .before))) (sym (c .if1 .left)) ∙ ended (c .before) .1
 
 -- the arm of an opening
 module _ (c : tie.After-known-told Inv-loop μ-loop) where
@@ -88,8 +104,8 @@ module _ (c : tie.After-known-told Inv-loop μ-loop) where
   opens : Opens (turn .loop .inv .finding) (c .before .found .given .1) (answered .next-opening .last .1 .1 .1 .1 .1 .1 .0)
   opens = finds-opens (first turn .pre .1) (turn .loop .inv .finding) (c .before .found .given .1) (answered .next-opening .ensures)
 
-has-class-requires : tie.Need-has-class-requires Inv-loop μ-loop
-has-class-requires c κs =
+look-requires : tie.Need-look-requires Inv-loop μ-loop
+look-requires c κs =
     let p = first (turn c) .pre in
     (omega (arith, opens c .room, p .2), omega (arith, p .1 .few, p .2))
 
@@ -101,35 +117,38 @@ fill-requires-2 c κs = let of = c .before .before .before .before in (omega ari
 
 -- the border, where a record has the class
 module _ (c : tie.After-slice-known4 Inv-loop μ-loop) where
-  abbrev of : tie.After-known-told Inv-loop μ-loop
-  of = c .before .before .before .before .before .before .before
+  abbrev looked : tie.After-look Inv-loop μ-loop
+  looked = c .before .before .before .before .before .before
 
   abbrev at : tie.At-loop Inv-loop μ-loop
-  at = turn of
+  at = turn (looked .before)
 
-  abbrev left : List ℕ
-  left = c .before .before .fill2 .last .0
+  abbrev filled : List ℕ
+  filled = c .before .before .fill2 .last .0
 
-  spent-now : (left ≡ spent (first at .args .window) (fresh at .fill .last .0)) × (length left ≡ length (fresh at .fill .last .0))
-  spent-now = finding-spent (opens of .next) (usable at) (c .before .before .fill2 .ensures)
+  spent-now : (filled ≡ spent (first at .args .window) (fresh at .fill .last .0)) × (length filled ≡ length (fresh at .fill .last .0))
+  spent-now = finding-spent (opens (looked .before) .next) (usable at) (c .before .before .fill2 .ensures)
 
-same-length-2 : tie.Need-same-length-2 Inv-loop μ-loop
-same-length-2 c = spent-now c .1 ∙ fresh-same _ (first (at c) .pre .1) (fresh (at c) .fill .ensures)
+same-length-3 : tie.Need-same-length-3 Inv-loop μ-loop
+same-length-3 c = spent-now c .1 ∙ fresh-same _ (first (at c) .pre .1) (fresh (at c) .fill .ensures)
 
-returns-2 : tie.Need-returns-2 Inv-loop μ-loop
-returns-2 c =
+returns-3 : tie.Need-returns-3 Inv-loop μ-loop
+returns-3 c =
     existing-yes _ _ _ _ _ _
-    (seeking-found _ _ (first (at c) .pre .1) (first (at c) .pre .3) (at c .loop .inv) (opens (of c))
-    (sym (c .before .before .before .before .before .before .has-class .ensures) ∙ c .before .before .before .before .before .if1 .taken))
+    (seeking-found _ _ (first (at c) .pre .1) (first (at c) .pre .3) (at c .loop .inv) (opens (looked c .before))
+    (sym (looked c .look .ensures .0) ∙ c .before .before .before .before .before .if2 .taken))
     (spent-now c .0 ∙ fresh-spent _ (first (at c) .pre .1) (fresh (at c) .fill .ensures))
 
 loop-less : tie.Need-loop-less Inv-loop μ-loop
-loop-less c = opens (c .before .before) .fewer
+loop-less c = opens (c .before .before .before) .fewer
 
 loop-again : tie.Need-loop-again Inv-loop μ-loop
 loop-again c =
-    let of = c .before .before in
-    seeking-next _ _ (first (turn of) .pre .1) (first (turn of) .pre .3) (turn of .loop .inv) (opens of) (sym (c .before .has-class .ensures) ∙ c .if1 .left)
+    let looked = c .before .before in
+    let at = turn (looked .before) in
+    seeking-next _ _ (first at .pre .1) (first at .pre .3) (at .loop .inv) (opens (looked .before))
+    (sym (looked .look .ensures .0) ∙ c .before .if2 .left)
+    (looked .look .ensures .1)
 
 pub seek-spec : {M : Type 1} → statement M
 seek-spec =
@@ -146,10 +165,12 @@ seek-spec =
     enum-told
     same-length
     returns
-    has-class-requires
-    add-fill
-    fill-requires-2
     same-length-2
     returns-2
+    look-requires
+    add-fill
+    fill-requires-2
+    same-length-3
+    returns-3
     loop-less
     loop-again)
