@@ -40,31 +40,34 @@ use Rattle.lutniorad.proofs.Using.{used-crossed, used-says, used-number
 
 -- ---- exist
 
--- no answer is two numbers
-other : {r : Answer} {i j : ℕ} → r ≡ values i 0 → (i ≡ j → ⊥) → r ≡ values j 0 → ⊥
-other e apart d = apart (ap (λ (x : Answer). x .first) (sym e ∙ d))
+-- an answer is one number, and no other
+module _ {r : Answer} {k : ℕ} (e : r ≡ values k 0) where
+  this : {P : Type 0} → P → (r ≡ values k 0) ↔ P
+  this p = (λ d. p, λ s. e)
+
+  number : r .first ≡ k
+  number = ap (λ (x : Answer). x .first) e
+
+  one-number : k ≤ 2 → (r .first ≤ 2) × (r ≡ values (r .first) 0)
+  one-number small = (omega (arith, number), e ∙ ap (λ (n : ℕ). values n 0) (sym number))
+
+  other : (i : ℕ) {P : Type 0} → (k ≡ i → ⊥) → ¬ P → (r ≡ values i 0) ↔ P
+  other i apart none = (λ d. absurd (apart (sym number ∙ ap (λ (x : Answer). x .first) d)), λ s. absurd (none s))
 
 -- the three answers, from what is known of the class and of what was not seen
 three : {A B : Type 0} {r : Answer} (a b : Bool) → (a ≡ true) ↔ A → (b ≡ true) ↔ B → r ≡ ofExistence (cond a existence.Yes (cond b existence.CannotTell existence.No))
-    → ((r ≡ values 1 0) ↔ A) × ((r ≡ values 2 0) ↔ ((¬ A) × B)) × ((r ≡ values 0 0) ↔ ((¬ A) × (¬ B))) × ((n : ℕ) × (n ≤ 2) × (r ≡ values n 0))
-three true b is-a is-b e = (
-  (λ d. is-a .0 refl, λ s. e),
-  (λ d. absurd (other e (λ i. omega (arith, i)) d), λ s. absurd (s .0 (is-a .0 refl))),
-  (λ d. absurd (other e (λ i. omega (arith, i)) d), λ s. absurd (s .0 (is-a .0 refl))),
-  (1, omega arith, e),
-)
-three false true is-a is-b e = (
-  (λ d. absurd (other e (λ i. omega (arith, i)) d), λ s. absurd (never (sym (is-a .1 s)))),
-  (λ d. (λ s. never (sym (is-a .1 s)), is-b .0 refl), λ s. e),
-  (λ d. absurd (other e (λ i. omega (arith, i)) d), λ s. absurd (s .1 (is-b .0 refl))),
-  (2, omega arith, e),
-)
-three false false is-a is-b e = (
-  (λ d. absurd (other e (λ i. omega (arith, i)) d), λ s. absurd (never (sym (is-a .1 s)))),
-  (λ d. absurd (other e (λ i. omega (arith, i)) d), λ s. absurd (never (sym (is-b .1 (s .1))))),
-  (λ d. (λ s. never (sym (is-a .1 s)), λ s. never (sym (is-b .1 s))), λ s. e),
-  (0, omega arith, e),
-)
+    → ((r ≡ values 1 0) ↔ A) × ((r ≡ values 2 0) ↔ ((¬ A) × B)) × ((r ≡ values 0 0) ↔ ((¬ A) × (¬ B))) × ((r .first ≤ 2) × (r ≡ values (r .first) 0))
+three {A} true b is-a is-b e =
+    let has : A = is-a .0 refl in
+    (this e has, other e 2 (λ d. omega (arith, d)) (λ s. s .0 has), other e 0 (λ d. omega (arith, d)) (λ s. s .0 has), one-number e (omega arith))
+three {A} {B} false true is-a is-b e =
+    let none : ¬ A = λ s. never (sym (is-a .1 s)) in
+    let unseen : B = is-b .0 refl in
+    (other e 1 (λ d. omega (arith, d)) none, this e (none, unseen), other e 0 (λ d. omega (arith, d)) (λ s. s .1 unseen), one-number e (omega arith))
+three {A} {B} false false is-a is-b e =
+    let none : ¬ A = λ s. never (sym (is-a .1 s)) in
+    let seen : ¬ B = λ s. never (sym (is-b .1 s)) in
+    (other e 1 (λ d. omega (arith, d)) none, other e 2 (λ d. omega (arith, d)) (λ s. seen (s .1)), this e (none, seen), one-number e (omega arith))
 
 module _ (m : ℕ) (keys classes : List ℕ) (W : Window) (class : ℕ) (border : List ℕ) {border′ : List ℕ} {r : Answer}
     (call : Exist m keys classes W class border r border′) (z : r .refusal ≡ 0) where

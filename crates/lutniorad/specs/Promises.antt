@@ -88,8 +88,9 @@ pub record ExistPromise (m : ℕ) (keys classes : List ℕ) (W : Window) (class 
   pub cannot-tell : (r ≡ values 2 0) ↔ ((¬ SomePixel m keys classes W class) × SomePixel m keys classes W notSeen)
   -- and 0 exactly when none has it and all were seen
   pub no : (r ≡ values 0 0) ↔ ((¬ SomePixel m keys classes W class) × (¬ SomePixel m keys classes W notSeen))
-  -- it is one of the three, and they exclude each other; asked for what was not seen, it is never 2
-  pub one-of : (n : ℕ) × (n ≤ 2) × (r ≡ values n 0)
+  -- it is one of these numbers, so one of the three holds, and no two of them do
+  pub one-of : (r .first ≤ 2) × (r ≡ values (r .first) 0)
+  -- asked for what was not seen itself, it is never 2
   pub certain : class ≡ notSeen → r ≡ values 2 0 → ⊥
   pub border-after : border′ ≡ spent W border
 
