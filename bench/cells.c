@@ -64,6 +64,47 @@ static void hold_against_report(const result *added, int operation, const map *a
         wrong("the month and report leave different borders", where);
 }
 
+/* Exist must answer what report says, and leave the border as report does. */
+static void hold_exist(const program *p, const map *a, rectangle at, uint8_t class, const result *reported,
+                       const char *where)
+{
+    static uint16_t border[CELLS];
+    uint32_t otherwise = reported->out[NOT_SEEN] > 0 ? LUTNIORAD_CANNOT_TELL : LUTNIORAD_NO;
+    lutniorad_answer is, must = {0, 0, reported->out[class] > 0 ? LUTNIORAD_YES : otherwise, 0};
+    memset(border, 0xA5, sizeof border);
+    is = p->exist(a->m, a->keys, a->q, a->classes, a->q, at.r0, at.c0, at.h, at.w, class, border, CELLS);
+    if (memcmp(&is, &must, sizeof is) != 0 || memcmp(border, reported->border, at.w * sizeof *border) != 0) {
+        char why[80];
+        snprintf(why, sizeof why, "with a record not seen, exist of %s is not what report says", p->name);
+        wrong(why, where);
+    }
+}
+
+/*
+ * On no map is a record that was not seen. So one is painted: the first of the map, then here and there in the window
+ * one in the middle or at the end of those that are handed out together.
+ */
+static void hold_unseen(const program *p, const map *a, rectangle at, const char *where)
+{
+    enum { PAINTED = 30 };
+    static map painted;
+    static result opened, r;
+    uint32_t n = call(&library, OPEN, a, at, &opened).first;
+    painted = *a;
+    for (uint32_t i = 0; i <= PAINTED; i++) {
+        const uint32_t *opening = opened.out + 3 * ((n - 1) * i / PAINTED);
+        uint32_t record = i == 0 ? 0 : opening[1] + (i % 2 == 0 ? opening[2] - 1 : opening[2] / 2);
+        painted.classes[record] = NOT_SEEN;
+        call(&library, REPORT, &painted, at, &r);
+        if (i > 0 && r.out[NOT_SEEN] == 0)
+            wrong("report does not tell what was not seen", where);
+        hold_exist(p, &painted, at, NO_CLASS, &r, where);
+        hold_exist(p, &painted, at, SCUM, &r, where);
+        hold_exist(p, &painted, at, NOT_SEEN, &r, where);
+        painted.classes[record] = a->classes[record];
+    }
+}
+
 cell measure_cell(int operation, const map *a, int map_number, int window_number)
 {
     static result r;
@@ -78,6 +119,11 @@ cell measure_cell(int operation, const map *a, int map_number, int window_number
         wrong("the library refuses", where);
     if (adds)
         hold_against_report(&r, operation, a, at, where);
+    if (operation == EXIST) {
+        hold_unseen(&library, a, at, where);
+        hold_unseen(&plain, a, at, where);
+        hold_unseen(&fastest, a, at, where);
+    }
     c.library = r.instructions;
     c.plain = measure_same(&plain, operation, a, at, &r, where);
     c.before = before(&c);

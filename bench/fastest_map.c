@@ -1,14 +1,13 @@
 /*
  * The calls on a map and a window for as few instructions as can be. The map's tree is gone down once, which checks it,
  * and cut at the window. The blocks come in the order of their keys, and are put in that of their rows. The border is
- * not needed, and filled at the end. For machines with the lowest byte first, and with 900 KB of stack.
+ * not needed, and filled at the end. For x86-64, with 900 KB of stack.
  */
 #include "fastest.h"
 #include "programs.h"
 
+#include <emmintrin.h>
 #include <string.h>
-
-typedef uint8_t sixteen_classes __attribute__((vector_size(16), aligned(1), may_alias));
 
 /* ---- Going down the tree ---- */
 
@@ -22,6 +21,12 @@ typedef struct {
     uint16_t rows[MOST_OPENINGS], counts[MOST_ROWS];
 } openings;
 
+/* The classes of the records; and the class that is asked for, 16 times. */
+typedef struct {
+    bool has[256]; /* set for any, but read, and so cleared, for that class and 255 alone */
+    __m128i asked;
+} shown;
+
 /* Work on a map, from a record on, with the four edges of the window; and what is wanted, and known of it. */
 typedef struct {
     const uint32_t *keys;
@@ -31,7 +36,7 @@ typedef struct {
     uint32_t m, north, west, south, east;
     wanted what;
     uint8_t class;
-    bool found;
+    shown *shown;
     uint32_t *totals;
     openings *blocks;
 } work;
@@ -47,18 +52,46 @@ static inline void put_block(work *on, uint32_t row, uint32_t key, record first,
     to->handed += count;
 }
 
-/* Has one of n records the class? 16 of them are looked at together. */
-static bool has_class(const uint8_t *classes, size_t n, uint8_t class)
+/* The classes of 16 records. */
+static inline __m128i sixteen(const uint8_t *classes)
 {
-    sixteen_classes all = (sixteen_classes){0} + class, some = {0};
-    uint64_t halves[2];
-    size_t i = 0;
-    for (; i + 16 <= n; i += 16)
-        some |= (sixteen_classes)(*(const sixteen_classes *)(classes + i) == all);
-    memcpy(halves, &some, sizeof halves);
-    for (; i < n; i++)
-        halves[0] |= classes[i] == class;
-    return (halves[0] | halves[1]) != 0;
+    return _mm_loadu_si128((const __m128i *)classes);
+}
+
+/* Of 4 to 15 records, some of them more than once. */
+static inline __m128i fewer(const uint8_t *classes, size_t n)
+{
+    uint64_t eight, last_eight;
+    uint32_t four, last_four;
+    if (n >= 8) {
+        memcpy(&eight, classes, sizeof eight);
+        memcpy(&last_eight, classes + n - 8, sizeof last_eight);
+        return _mm_set_epi64x((long long)last_eight, (long long)eight);
+    }
+    memcpy(&four, classes, sizeof four);
+    memcpy(&last_four, classes + n - 4, sizeof last_four);
+    return _mm_set_epi32((int)last_four, (int)four, (int)last_four, (int)four);
+}
+
+/*
+ * Of n records, 4 or more: has one the class, and was one not seen? The latter is 255, the greatest. 16 of them are
+ * looked at together, some of the last twice.
+ */
+static void look(shown *to, uint8_t class, const uint8_t *classes, size_t n)
+{
+    __m128i asked = to->asked, most = n < 16 ? fewer(classes, n) : sixteen(classes + n - 16);
+    __m128i same = _mm_cmpeq_epi8(most, asked), unseen;
+#pragma GCC unroll 4
+    for (size_t i = 16; i < n; i += 16) {
+        __m128i these = sixteen(classes + i - 16);
+        most = _mm_max_epu8(most, these);
+        same = _mm_or_si128(same, _mm_cmpeq_epi8(these, asked));
+    }
+    unseen = _mm_cmpeq_epi8(most, _mm_set1_epi8(-1));
+    if (_mm_movemask_epi8(_mm_or_si128(same, unseen)) != 0) {
+        to->has[class] |= _mm_movemask_epi8(same) != 0;
+        to->has[NOT_SEEN] |= _mm_movemask_epi8(unseen) != 0;
+    }
 }
 
 /* All maximal blocks in a part of the window, by stretches of its rows and columns: those of a row from the west on. */
@@ -86,11 +119,8 @@ static void cut_record(work *on, uint32_t row, uint32_t col, uint32_t e)
         put_block(on, north, block_key(on->m, exponent_of(at, on->m, north, west), north, west), on->at, 1);
     } else if (on->what == TOTALS)
         add(on->totals, on->at, (south - north) * (east - west));
-    else if (*on->at.class == on->class) {
-        on->found = true;
-        if (on->what == SELECTION)
-            put_all(on, north, west, south, east);
-    }
+    else if (*on->at.class == on->class)
+        put_all(on, north, west, south, east);
 }
 
 /* A record that is a maximal block. */
@@ -98,13 +128,8 @@ static inline void take_record(work *on, uint32_t row, uint32_t key, uint32_t e)
 {
     if (on->what == TOTALS)
         add(on->totals, on->at, pixels(e));
-    else if (on->what == OPENINGS)
+    else if (on->what == OPENINGS || *on->at.class == on->class)
         put_block(on, row, key, on->at, 1);
-    else if (*on->at.class == on->class) {
-        on->found = true;
-        if (on->what == SELECTION)
-            put_block(on, row, key, on->at, 1);
-    }
 }
 
 /* Those in one; false where they are others. */
@@ -115,7 +140,7 @@ static bool take_records(work *on, uint32_t row, uint32_t key, uint32_t e)
     if (!on->at.key)
         return false;
     if (on->what == EXISTENCE)
-        on->found = on->found || has_class(first.class, (size_t)(on->at.key - first.key), on->class);
+        look(on->shown, on->class, first.class, (size_t)(on->at.key - first.key));
     else if (on->what != TOTALS)
         put_block(on, row, key, first, (uint32_t)(on->at.key - first.key));
     return true;
@@ -144,7 +169,9 @@ static inline bool go_on(work *on, uint32_t row, part rows, uint32_t col, part c
     }
     if (!is_record)
         return rows == ALL && cols == ALL ? take_records(on, row, key, e) : go_down(on, row, col, key, e);
-    if (rows == ALL && cols == ALL)
+    if (on->what == EXISTENCE)
+        on->shown->has[*on->at.class] = true;
+    else if (rows == ALL && cols == ALL)
         take_record(on, row, key, e);
     else
         cut_record(on, row, col, e);
@@ -187,7 +214,7 @@ static lutniorad_answer ready(uint32_t m, const uint32_t *keys, size_t n_keys, c
 static work begin(uint32_t m, const uint32_t *keys, size_t q, const uint8_t *classes, window at, wanted what)
 {
     work on = {keys, classes, q,     {keys, classes}, m,    at.r0, at.c0, at.r0 + at.h, at.c0 + at.w,
-               what, 0,       false, NULL,            NULL};
+               what, 0,       NULL,  NULL,            NULL};
     return on;
 }
 
@@ -248,13 +275,17 @@ lutniorad_answer fastest_exist(uint32_t m, const uint32_t *keys, size_t n_keys, 
     window at = {r0, c0, h, w};
     lutniorad_answer verdict = ready(m, keys, n_keys, classes, n_classes, at, n_border);
     work on = begin(m, keys, n_keys, classes, at, EXISTENCE);
+    shown seen;
     if (verdict.refusal != 0)
         return verdict;
     on.class = class;
+    on.shown = &seen;
+    seen.asked = _mm_set1_epi8((char)class);
+    seen.has[class] = seen.has[NOT_SEEN] = false;
     if (!go(&on))
         return sound_records(m, keys, n_keys, true);
     fill(border, 0, w, on.south);
-    return answered(on.found, 0);
+    return answered(seen.has[class] ? LUTNIORAD_YES : seen.has[NOT_SEEN] ? LUTNIORAD_CANNOT_TELL : LUTNIORAD_NO, 0);
 }
 
 lutniorad_answer fastest_report(uint32_t m, const uint32_t *keys, size_t n_keys, const uint8_t *classes,

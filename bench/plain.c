@@ -79,12 +79,37 @@ lutniorad_answer plain_open(uint32_t m, const uint32_t *keys, size_t n_keys, con
 
 /* ---- Queries ---- */
 
-static bool has_class(const uint8_t *classes, run records, uint8_t class)
+/* Some records, looked through: one has the class, one was not seen. */
+typedef struct {
+    bool has, unseen;
+} looked;
+
+/* Looks through the records to the last, also where one has the class. */
+static looked look(const uint8_t *classes, uint8_t class, run records)
 {
-    for (uint32_t i = records.first; i < records.first + records.count; i++)
-        if (classes[i] == class)
-            return true;
-    return false;
+    looked some = {false, false};
+    for (uint32_t i = records.first; i < records.first + records.count; i++) {
+        some.has |= classes[i] == class;
+        some.unseen |= classes[i] == NOT_SEEN;
+    }
+    return some;
+}
+
+/* Goes from opening to opening until a record has the class. */
+static uint32_t seek(work on, const uint8_t *classes, uint8_t class)
+{
+    place p = begin(on);
+    opening o;
+    bool unseen = false;
+    while (next_opening(on, &p, &o)) {
+        looked some = look(classes, class, o.records);
+        if (some.has) {
+            fill(on.border, 0, on.at.w, on.at.r0 + on.at.h);
+            return LUTNIORAD_YES;
+        }
+        unseen |= some.unseen;
+    }
+    return unseen ? LUTNIORAD_CANNOT_TELL : LUTNIORAD_NO;
 }
 
 lutniorad_answer plain_exist(uint32_t m, const uint32_t *keys, size_t n_keys, const uint8_t *classes, size_t n_classes,
@@ -92,18 +117,10 @@ lutniorad_answer plain_exist(uint32_t m, const uint32_t *keys, size_t n_keys, co
                              size_t n_border)
 {
     work on = {m, keys, n_keys, {r0, c0, h, w}, border};
-    place p;
-    opening o;
     lutniorad_answer verdict = usable(m, keys, n_keys, n_classes, on.at, n_border);
     if (verdict.refusal != 0)
         return verdict;
-    p = begin(on);
-    while (next_opening(on, &p, &o))
-        if (has_class(classes, o.records, class)) {
-            fill(border, 0, w, (uint32_t)r0 + h);
-            return answered(1, 0);
-        }
-    return answered(0, 0);
+    return answered(seek(on, classes, class), 0);
 }
 
 static void report_totals(work on, const uint8_t *classes, uint32_t *out)

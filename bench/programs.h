@@ -10,6 +10,8 @@
 
 #include "lutniorad.h"
 
+enum { NOT_SEEN = 255 }; /* the class of what the camera did not see */
+
 typedef lutniorad_answer check_function(uint32_t m,
                                         const uint32_t *keys, size_t n_keys,
                                         const uint8_t *classes, size_t n_classes);

@@ -360,6 +360,15 @@ void make_map_around(map *a, uint32_t m, window at, uint32_t least)
     paint(a, below(2) == 0 ? RANDOM : FEW);
 }
 
+window random_window_on(map *a, size_t number, size_t most_pixels)
+{
+    window at = random_window(a->m, most_pixels);
+    window other = random_window(a->m, most_pixels);
+    if (number >= 2)
+        make_map_around(a, a->m, number == 2 ? at : other, (uint32_t)below(4));
+    return at;
+}
+
 /* ---- Files ---- */
 
 size_t length_of_file(size_t q)

@@ -107,6 +107,11 @@ window random_window(uint32_t m, size_t most_pixels);
  */
 void make_map_around(map *a, uint32_t m, window at, uint32_t least);
 
+/* A random window by number: two are on the map as it is, the next on one made for it, the last on one for another. */
+enum { WINDOWS_ON_MAPS = 4 };
+
+window random_window_on(map *a, size_t number, size_t most_pixels);
+
 /* ---- Files ---- */
 
 enum { HEADER = 20, ROOM_FOR_FILE = HEADER + 5 * ROOM_FOR_RECORDS };

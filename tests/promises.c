@@ -138,11 +138,22 @@ void require_selected(const map *a, window at, const uint32_t *keys, size_t n)
         require(reference_lies_in(a->m, keys[i], at), "there is a key of no block inside the window");
 }
 
-void require_agreement(uint32_t m, uint32_t total, bool exists, const uint32_t *keys, size_t n)
+void require_agreement(uint32_t existence, uint8_t of_class, const uint32_t *totals)
+{
+    bool is_there = totals[of_class] != 0, all_seen = totals[NOT_SEEN] == 0;
+    require((existence == LUTNIORAD_YES) == is_there,
+            "a class exists and has no pixel, or has pixels and does not exist");
+    require((existence == LUTNIORAD_CANNOT_TELL) == (!is_there && !all_seen),
+            "it does not say that it cannot tell, or says so where it can");
+    require((existence == LUTNIORAD_NO) == (!is_there && all_seen),
+            "it says no where the class is or may be there, or does not say no where it is not");
+    require(of_class != NOT_SEEN || existence != LUTNIORAD_CANNOT_TELL, "it cannot tell whether all was seen");
+}
+
+void require_as_reported(uint32_t m, const uint32_t *keys, size_t n, uint32_t total)
 {
     uint64_t pixels = 0;
     for (size_t i = 0; i < n; i++)
         pixels += (uint64_t)side_of_block(m, keys[i]) * side_of_block(m, keys[i]);
-    require(exists == (total != 0), "a class exists and has no pixel, or has pixels and does not exist");
     require(pixels == total, "the blocks that were selected have other pixels than were reported");
 }

@@ -26,9 +26,13 @@ void require_reported(window at, lutniorad_answer answer, const uint32_t *totals
 void require_selected(const map *a, window at, const uint32_t *keys, size_t n);
 
 /*
- * The three queries about one class of a window: it exists exactly when the total that was reported is not 0, and the
- * blocks of the n keys that were selected have that many pixels.
+ * What exist answered about a class of a window, against the totals that were reported of the same window: yes exactly
+ * when that of the class is not 0; that it cannot tell exactly when that is 0 and that of 255 is not; no exactly when
+ * both are 0. Of 255 itself it can always tell.
  */
-void require_agreement(uint32_t m, uint32_t total, bool exists, const uint32_t *keys, size_t n);
+void require_agreement(uint32_t existence, uint8_t of_class, const uint32_t *totals);
+
+/* The blocks of n keys, selected by a class, have as many pixels as were reported of it. */
+void require_as_reported(uint32_t m, const uint32_t *keys, size_t n, uint32_t total);
 
 #endif

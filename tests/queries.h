@@ -7,4 +7,9 @@
 void group_queries_written_out(void);
 void group_small_queries(void);
 
+/* Exist where some pixels were not seen. */
+void group_small_mixtures(void);
+void group_runs(void);
+void group_random_mixtures(void);
+
 #endif

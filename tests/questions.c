@@ -121,18 +121,41 @@ void require_border(window at, uint16_t stated)
 
 /* ---- Questions together ---- */
 
+/* The totals that are reported of a window, on slices that are long enough. False where they are refused. */
+static bool take_totals(const map *a, window at, uint32_t totals[CLASSES])
+{
+    question report = {&REPORT, a, at, NO_CLASS};
+    if (answer_in_full(report).refusal != 0)
+        return false;
+    memcpy(totals, left(3), CLASSES * sizeof *totals);
+    return true;
+}
+
+static void ask_exist(const map *a, window at, uint8_t of_class, const uint32_t totals[CLASSES])
+{
+    question exist = {&EXIST, a, at, of_class};
+    require_agreement(answer_in_full(exist).first, of_class, totals);
+}
+
+void try_exist(const map *a, window at, const uint8_t *asked, size_t n)
+{
+    uint32_t totals[CLASSES];
+    if (!take_totals(a, at, totals))
+        return;
+    for (size_t i = 0; i < n; i++)
+        ask_exist(a, at, asked[i], totals);
+}
+
 void try_queries(const map *a, window at, const uint8_t *asked, size_t n)
 {
     uint32_t totals[CLASSES];
-    question report = {&REPORT, a, at, NO_CLASS};
-    if (answer_in_full(report).refusal != 0)
+    if (!take_totals(a, at, totals))
         return;
-    memcpy(totals, left(3), sizeof totals);
     for (size_t i = 0; i < n; i++) {
-        question exist = {&EXIST, a, at, asked[i]}, select = {&SELECT, a, at, asked[i]};
-        bool exists = answer_in_full(exist).first == 1;
+        question select = {&SELECT, a, at, asked[i]};
+        ask_exist(a, at, asked[i], totals);
         size_t n_keys = ask_in_full(select);
-        require_agreement(a->m, totals[asked[i]], exists, left(3), n_keys);
+        require_as_reported(a->m, left(3), n_keys, totals[asked[i]]);
     }
 }
 

@@ -41,7 +41,10 @@ size_t too_short(size_t length);
 /* Asks on borders and answer slices that are empty, too short by one, just long enough and longer. */
 void ask_with_every_length(question q);
 
-/* The three queries on slices that are long enough, and about n classes. What they answer must fit together. */
+/* Report, and exist about n classes, on slices that are long enough. What they answer must fit together. */
+void try_exist(const map *a, window at, const uint8_t *asked, size_t n);
+
+/* The same with select, about each of the classes. */
 void try_queries(const map *a, window at, const uint8_t *asked, size_t n);
 
 /* For the answers written out: the reference map, with another m if it is not 2; at m = 0 the map of one pixel. */

@@ -442,6 +442,7 @@ static void count_classes(window at, const uint8_t *classes, uint64_t totals[CLA
         totals[classes[records[i]]]++;
 }
 
+/* 1, yes; or where no pixel has the class: 2, it cannot tell, if some were not seen, and 0, no, if all were. */
 lutniorad_answer reference_exist(uint32_t m,
                                  const uint32_t *keys, size_t n_keys,
                                  const uint8_t *classes, size_t n_classes,
@@ -455,7 +456,9 @@ lutniorad_answer reference_exist(uint32_t m,
     if (begun.refusal != 0)
         return begun;
     count_classes(at, classes, totals);
-    return answered(totals[of_class] > 0, 0);
+    if (totals[of_class] > 0)
+        return answered(1, 0);
+    return answered(totals[NOT_SEEN] > 0 ? 2 : 0, 0);
 }
 
 lutniorad_answer reference_report(uint32_t m,

@@ -72,8 +72,8 @@ lutniorad_answer reference_write(uint32_t m,
                                  const uint8_t *classes, size_t n_classes,
                                  uint8_t *out, size_t n_out);
 
-/* The most pixels that a picture has, and how many classes there are. */
-enum { MOST_PIXELS = 4096 * 4096, CLASSES = 256 };
+/* The most pixels that a picture has, how many classes there are, and the class of what the camera did not see. */
+enum { MOST_PIXELS = 4096 * 4096, CLASSES = 256, NOT_SEEN = 255 };
 
 /* The cells of a month's table, those of each class among them, and the most maps that a month has. */
 enum { TABLE_M, TABLE_R0, TABLE_C0, TABLE_H, TABLE_W, TABLE_MAPS, TABLE_CLASSES };

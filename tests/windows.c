@@ -285,7 +285,7 @@ static void old_contents_of_every_window(void)
 
 void group_old_contents(void)
 {
-    for_small_maps(&sound, old_contents_of_every_window, 1);
+    for_small_maps(&sound, old_contents_of_every_window, PAINTS);
 }
 
 /* ---- Group: windows on damaged maps ---- */
@@ -469,18 +469,11 @@ static void try_window_at_random(window at)
     ask(q, at.w, n);
 }
 
-/* On some map, on one made for the window, and on one made for another window. */
 static void random_windows(void)
 {
-    enum { MOST_RANDOM_PIXELS = 1 << 16 };
     make_random_map(&sound);
-    for (int i = 0; i < 4; i++) {
-        window at = random_window(sound.m, MOST_RANDOM_PIXELS);
-        window other = random_window(sound.m, MOST_RANDOM_PIXELS);
-        if (i >= 2)
-            make_map_around(&sound, sound.m, i == 2 ? at : other, (uint32_t)below(4));
-        try_window_at_random(at);
-    }
+    for (size_t i = 0; i < WINDOWS_ON_MAPS; i++)
+        try_window_at_random(random_window_on(&sound, i, (size_t)1 << 16));
 }
 
 /* Pictures that are small enough for many windows, some of which stick out. */
