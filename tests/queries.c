@@ -181,10 +181,9 @@ void group_small_queries(void)
 
 /* ---- Group: small mixtures ---- */
 
-/* What maps are mixed of, and a class that is nowhere in them. */
-enum { ASKED, OTHER = 254, NOWHERE = 127 };
+/* What maps are mixed of. */
+enum { ASKED, OTHER = 254 };
 static const uint8_t mixed[] = {ASKED, OTHER, NOT_SEEN};
-static const uint8_t asked_of_mixtures[] = {ASKED, OTHER, NOT_SEEN, NOWHERE};
 
 static size_t n_mixtures(size_t q)
 {
@@ -219,7 +218,9 @@ static void try_mixtures(window at)
             mix(&sound, number);
         else
             mix_two(&sound, number % places, number / places);
-        try_exist(&sound, at, asked_of_mixtures, COUNT(asked_of_mixtures));
+        question asked = {&EXIST, &sound, at, ASKED}, not_seen = {&EXIST, &sound, at, NOT_SEEN};
+        ask_in_full(asked);
+        ask_in_full(not_seen);
     }
 }
 
@@ -310,11 +311,13 @@ static void mix_at_random(map *a)
 
 static void random_mixtures(void)
 {
+    enum { NOWHERE = 127 };
+    static const uint8_t asked[] = {ASKED, OTHER, NOT_SEEN, NOWHERE};
     make_random_map(&sound);
     for (size_t i = 0; i < WINDOWS_ON_MAPS; i++) {
         window at = random_window_on(&sound, i, (size_t)1 << 14);
         mix_at_random(&sound);
-        try_exist(&sound, at, asked_of_mixtures, COUNT(asked_of_mixtures));
+        try_exist(&sound, at, asked, COUNT(asked));
     }
 }
 
