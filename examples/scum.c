@@ -1,11 +1,14 @@
-/* Says how many pixels of a window are of one class. House file, window and class are named on the command line. */
+/*
+ * Says how many pixels of a window are of one class, and how many were not seen, as these may be of it too. House file,
+ * window and class are named on the command line.
+ */
 #include <stdio.h>
 #include <stdlib.h>
 
 #include "lutniorad.h"
 
 enum { R0 = 2, C0, H, W, CLASS, ARGUMENTS }; /* behind the program's name and the file's */
-enum { MOST_RECORDS = 65536, LONGEST = 20 + 5 * MOST_RECORDS, WIDEST = 4096, CLASSES = 256 };
+enum { MOST_RECORDS = 65536, LONGEST = 20 + 5 * MOST_RECORDS, WIDEST = 4096, NOT_SEEN = 255, CLASSES = 256 };
 
 static uint8_t file[LONGEST + 1]; /* a byte more, so that what is too long is not taken for a house file */
 static uint32_t keys[MOST_RECORDS];
@@ -44,7 +47,10 @@ int main(int argc, char **argv)
         return 1;
     }
     uint32_t pixels = totals[number[CLASS]];
-    printf("%u of %u pixels, %u per mille\n", (unsigned)pixels, (unsigned)a.first,
+    printf("%u of %u pixels, %u per mille", (unsigned)pixels, (unsigned)a.first,
            (unsigned)((uint64_t)pixels * 1000 / a.first));
+    if (totals[NOT_SEEN] > 0 && number[CLASS] != NOT_SEEN)
+        printf(", %u not seen", (unsigned)totals[NOT_SEEN]);
+    puts("");
     return 0;
 }

@@ -176,10 +176,10 @@ enum {
  * Only LUTNIORAD_NO may be taken as "none there". Where a caller wants more than that of a window it cannot tell about,
  * lutniorad_report says how many of its pixels were not seen.
  *
- * Before there were three answers, what is LUTNIORAD_CANNOT_TELL now was answered 0 as well. So `first == 0` and
- * `!first` no longer hold where some pixel was not seen: as a test for "none there" they are right now, and need no
- * change. But what stands behind their `else`, or behind `if (first)` or `first != 0`, is no longer a yes, as 2 comes
- * there too. A yes is `first == LUTNIORAD_YES`.
+ * Before there were three answers, it was 0 also where it is LUTNIORAD_CANNOT_TELL now. A caller who tests `first == 0`
+ * or `!first` for "none there" no longer gets that where it cannot tell, and has nothing to change. But what stands
+ * behind the `else` of such a test, or behind `if (first)` or `first != 0`, is no longer a yes: 2 comes there too. What
+ * is a yes is `first == LUTNIORAD_YES`.
  *
  * Refuses by 1 to 7, as lutniorad_open does. There is no slice for the answer, and so no 8. A refusal has `first` = 0
  * too, so look at `refusal` before.
