@@ -178,8 +178,8 @@ enum {
  *
  * Before there were three answers, it was 0 also where it is LUTNIORAD_CANNOT_TELL now. A caller who tests `first == 0`
  * or `!first` for "none there" no longer gets that where it cannot tell, and has nothing to change. But what stands
- * behind the `else` of such a test, or behind `if (first)` or `first != 0`, is no longer a yes: 2 comes there too. What
- * is a yes is `first == LUTNIORAD_YES`.
+ * behind the `else` of such a test, or behind `if (first)` or `first != 0`, is no longer a yes: 2 comes there too. Test
+ * for a yes by `first == LUTNIORAD_YES`.
  *
  * Refuses by 1 to 7, as lutniorad_open does. There is no slice for the answer, and so no 8. A refusal has `first` = 0
  * too, so look at `refusal` before.

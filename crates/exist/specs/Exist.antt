@@ -1,4 +1,4 @@
--- Exist: whether some pixel of a window has a class, where all were seen; the answer and every lent cell, on every input.
+-- Exist: whether some pixel of a window has a class, as far as it was seen; the answer and every lent cell, on every input.
 -- Assumes nothing.
 use mathlib.Core.Bool.{Bool, cond}
 use mathlib.Core.List.{List}

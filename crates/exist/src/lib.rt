@@ -1,4 +1,4 @@
-// Exist: whether some pixel of a window has a class, as far as that was seen.
+// Exist: whether some pixel of a window has a class, as far as it was seen.
 use answers::Verdict;
 use border::Found;
 use window::Window;
@@ -49,7 +49,7 @@ fn look(classes: &[u8], class: u8, first: u32, count: u32) -> Looked
     Looked { has, unseen }
 }
 
-// Goes from opening to opening until a record has the class, and remembers whether one was not seen. In a whole map, that of each pixel is handed out.
+// Goes from opening to opening until a record has the class, and remembers whether one was not seen. In a whole map, the record of each pixel is handed out.
 fn seek(
     table: &[u32; 256],
     m: u32,
