@@ -65,14 +65,32 @@
  *   - the pointer is valid for that many cells, and aligned for their type;
  *   - it is not NULL, even where the length is 0: any aligned address will do then;
  *   - a slice that the call writes (a pointer without `const`) overlaps no other slice of the call;
- *   - while the call runs, no other thread writes the slice, nor reads it if the call writes it.
+ *   - while the call runs, nobody else writes the slice, nor reads it if the call writes it.
  * All else is answered or refused: any number may stand in any cell, and any length is taken whole.
  *
- * WHAT THE LIBRARY KEEPS. It takes no heap and remembers nothing from one call to the next, so calls on different
- * memory may run at the same time. Every call ends. A call that refuses writes nothing, but for one: a refusal by 8
- * from lutniorad_open, lutniorad_report or lutniorad_select leaves the border as an answer would. A call that answers
- * writes the cells named with it below, and all others keep their content. What stands at entry in a slice that is
- * written never matters, but for the table of a month, to which lutniorad_month_add adds.
+ * The last of these is meant as it stands. A map that another thread, a signal handler or a camera writes while a call
+ * reads it makes the answer worthless, and the call may read outside its slices. Let the camera write into one buffer
+ * while the calls read another.
+ *
+ * WHAT THE LIBRARY KEEPS. It takes no heap and remembers nothing from one call to the next. Every call ends. A call
+ * that refuses writes nothing, but for one: a refusal by 8 from lutniorad_open, lutniorad_report or lutniorad_select
+ * leaves the border as an answer would. A call that answers writes the cells named with it below, and all others keep
+ * their content. What stands at entry in a slice that is written never matters, but for the table of a month, to which
+ * lutniorad_month_add adds.
+ *
+ * THREADS AND SIGNALS. Calls on different memory may run at the same time, in any number of threads, and in a signal
+ * handler. No call takes a lock, sets errno or waits. The archive asks for memset and for nothing else.
+ *
+ * THE STACK. A call takes at most 3,000 bytes of stack; that is measured, and not proved. Where memset comes from a
+ * shared C library and is bound when it is first called, as many linkers have it unless told otherwise, that one call
+ * also takes what the loader needs: over 6,000 bytes together were seen. Link with `-static`, or with `-Wl,-z,now`,
+ * where stacks are small, as for a signal handler or a thread.
+ *
+ * WHAT A CALL COSTS. Each call that takes a map, but for lutniorad_write, checks the whole of it first, whatever was
+ * checked before: some 21 instructions for each record, 1.4 million for the longest map. Behind that it goes by the
+ * records and blocks of the window and not by its pixels.
+ *
+ * CLASSES are numbers of the caller's own. Which of them is scum the library does not know; 255 alone has a meaning.
  *
  * The archive is made for Linux on x86-64.
  */
@@ -82,36 +100,86 @@
 #include <stddef.h>
 #include <stdint.h>
 
+/* The version of this header and of the library that belongs to it, as numbers and as text. */
+#define LUTNIORAD_VERSION_MAJOR 1 /* rises when a program made for the last one may have to be changed */
+#define LUTNIORAD_VERSION_MINOR 0 /* rises when there are more calls */
+#define LUTNIORAD_VERSION_PATCH 0
+#define LUTNIORAD_VERSION "1.0.0"
+
+/* The limits. */
+#define LUTNIORAD_MOST_M 12
+#define LUTNIORAD_MOST_SIDE 4096          /* rows or columns of a picture: a border of so many cells is always enough */
+#define LUTNIORAD_MOST_RECORDS 65536      /* of a map */
+#define LUTNIORAD_CLASSES 256             /* and so many cells the totals have */
+#define LUTNIORAD_NOT_SEEN 255            /* the class of what the camera did not see */
+#define LUTNIORAD_MOST_FILE_BYTES 327700  /* of a house file */
+#define LUTNIORAD_PROGRAM_FILE_BYTES 5020 /* of one that the window program takes */
+#define LUTNIORAD_MONTH_CELLS 1030        /* of a month's table */
+#define LUTNIORAD_MOST_MAPS 1000          /* in a month */
+
+/*
+ * Cells that are always enough, for a window of h rows and w columns and a map of q records. Where the arguments are
+ * constants so is the number, and it may be the size of an array. Each argument is taken once.
+ */
+#define LUTNIORAD_DECOMPOSE_CELLS(h, w) (4 * ((size_t)(h) + (size_t)(w)))
+#define LUTNIORAD_OPEN_CELLS(h, w) (12 * ((size_t)(h) + (size_t)(w)))
+#define LUTNIORAD_SELECT_CELLS(q, h, w) ((size_t)(q) + 4 * ((size_t)(h) + (size_t)(w)))
+#define LUTNIORAD_FILE_BYTES(q) (20 + 5 * (size_t)(q)) /* just so many */
+
 #ifdef __cplusplus
 extern "C" {
 #endif
 
 /*
  * What every call returns. Where `refusal` is 0 the call was answered: `place` is 0, and `first` and `second` are as
- * said with the call. Otherwise it was refused, `first` and `second` are 0, and the other two numbers say why:
- *
- *     refusal     why                                                                     place
- *     1           m is over 12                                                            0
- *     2           keys and classes differ in length, or Q is 0 or over 65,536             0
- *     3           a record's key is not of the form above, or is 5^m or more              index of the record, from 0
- *     4           a record starts before the last one ended                               index of the record, from 0
- *     5           a record starts after the last one ended (the first: after pixel 0),    index of the record, from 0,
- *                 or the list ends before the picture does                                or Q
- *     6           the window is empty or not inside the picture                           0
- *     7           the border has fewer than w cells                                       w
- *     8           a slice that would be written is too short                              cells needed
- *     9           the layout of the file is wrong                                         offset of the header field
- *     15          the map's m is not the table's                                          0
- *     16          the table has 1,000 maps already                                        0
- *     26          in the table: the window is empty or not inside the picture, or the     0
- *                 count of maps is over 1,000, or a class has more maps than that count,
- *                 or a sum over that count times h * w
- *
- * Each call says which of them it gives, in its order. The first that holds is the answer.
+ * said with the call. Otherwise it was refused, `first` and `second` are 0, and the other two numbers say why.
  */
 typedef struct {
     uint32_t refusal, place, first, second;
 } lutniorad_answer;
+
+/*
+ * The reasons of refusal: a name, the number and a sentence, and behind these what `place` is, where it is not 0.
+ * Each call says which of them it gives, in its order. The first that holds is the answer. 10 is given by the window
+ * program alone, which prints `R`, number and place.
+ */
+#define LUTNIORAD_REFUSALS(REFUSAL) \
+    REFUSAL(LUTNIORAD_BAD_M, 1, "m is over 12") \
+    REFUSAL(LUTNIORAD_BAD_COUNT, 2, "keys and classes differ in number, or there are none or more than 65,536") \
+    REFUSAL(LUTNIORAD_BAD_KEY, 3, "the key of a record names no block") /* index of the record, from 0 */ \
+    REFUSAL(LUTNIORAD_OVERLAP, 4, "a record starts before the last one ended") /* index of the record, from 0 */ \
+    REFUSAL(LUTNIORAD_GAP, 5, "there are pixels that no record covers") /* index of the record behind them, or Q */ \
+    REFUSAL(LUTNIORAD_BAD_WINDOW, 6, "the window is empty or not inside the picture") \
+    REFUSAL(LUTNIORAD_SHORT_BORDER, 7, "the border has fewer cells than the window columns") /* w */ \
+    REFUSAL(LUTNIORAD_SHORT_ROOM, 8, "a slice that would be written is too short") /* cells needed */ \
+    REFUSAL(LUTNIORAD_BAD_LAYOUT, 9, "the layout of the file is wrong") /* offset of the header field */ \
+    REFUSAL(LUTNIORAD_LEFT_OVER, 10, "bytes are left over behind the last window") /* how many */ \
+    REFUSAL(LUTNIORAD_OTHER_M, 15, "the m of the map is not that of the table") \
+    REFUSAL(LUTNIORAD_MONTH_FULL, 16, "the table has 1,000 maps already") \
+    REFUSAL(LUTNIORAD_BAD_TABLE, 26, "no month has such a table: its window, its count of maps or a sum is impossible")
+
+enum {
+#define LUTNIORAD_NAMED(name, number, sentence) name = number,
+    LUTNIORAD_REFUSALS(LUTNIORAD_NAMED)
+#undef LUTNIORAD_NAMED
+    LUTNIORAD_ANSWERED = 0
+};
+
+/* The sentence for a refusal, without a full stop; also for 0, and for a number that no call gives. */
+static inline const char *lutniorad_sentence(uint32_t refusal)
+{
+    switch (refusal) {
+    case LUTNIORAD_ANSWERED:
+        return "answered";
+#define LUTNIORAD_SAID(name, number, sentence) \
+    case number: \
+        return sentence;
+        LUTNIORAD_REFUSALS(LUTNIORAD_SAID)
+#undef LUTNIORAD_SAID
+    default:
+        return "no refusal of this library";
+    }
+}
 
 /*
  * Is this map sound?
@@ -267,7 +335,9 @@ lutniorad_answer lutniorad_month_clear(uint32_t m,
  *
  * Refuses by 1; 2; then record by record 3, 4, 5, and 5 at Q, as lutniorad_check does; 8, with place 1,030, when
  * `table` has fewer cells than that; 15; 26; 16; and 7, with place w, when `border` is shorter than the table's window
- * is wide. A refusal writes nothing, neither table nor border.
+ * is wide. A refusal writes nothing, neither table nor border. The reasons for 26: in the table the window is empty or
+ * not inside the picture, or the count of maps is over 1,000, or a class has more maps than that count, or a sum over
+ * that count times h * w.
  */
 lutniorad_answer lutniorad_month_add(uint32_t m,
                                      const uint32_t *keys, size_t n_keys,
@@ -282,6 +352,9 @@ lutniorad_answer lutniorad_month_add(uint32_t m,
  * Either may be longer than Q, and they may differ in length.
  *
  * Only the layout is looked at. The keys may be any numbers: whether the map is sound is for the calls that use it.
+ *
+ * A file may be longer than the buffer it is read into, and its start may look like a house file. So let the buffer
+ * have LUTNIORAD_MOST_FILE_BYTES + 1 bytes and hand over all that came: if it is full, the file is refused.
  *
  * Refuses by 9 at 0 when there are fewer than 20 bytes or the length field is not `n`; 1 by the field m; 2 by the
  * field Q; 9 at 8 when the length is not 20 + 5Q; 9 at 12 and 9 at 16 when the offset there is not as above; and 8,
