@@ -7,11 +7,17 @@ use Rattle.text.proofs.Laws.{put-within}
 use Rattle.window_program.proofs.answer_next.Statement.{statement}
 use Rattle.window_program.proofs.answer_next.Tie as tie
 
-slice-aggregate-read-full : tie.Need-slice-aggregate-read-full
-slice-aggregate-read-full c = search needs
+slice-aggregate-take : tie.Need-slice-aggregate-take
+slice-aggregate-take c = search needs
 
-read-full-requires : tie.Need-read-full-requires
-read-full-requires c κs = search needs
+take-requires : tie.Need-take-requires
+take-requires c κs = search needs
+
+is-lost-requires : tie.Need-is-lost-requires
+is-lost-requires c κs = search needs
+
+returns : tie.Need-returns
+returns c = search needs
 
 slice-aggregate-put-next : tie.Need-slice-aggregate-put-next
 slice-aggregate-put-next c = search needs
@@ -28,18 +34,24 @@ slice-aggregate-print c = simp length-take (omega (arith, put-within _ _ (c .bef
 print-requires : tie.Need-print-requires
 print-requires c κs = search needs
 
-returns : tie.Need-returns
-returns c = search needs
+returns-2 : tie.Need-returns-2
+returns-2 c = search needs
+
+returns-3 : tie.Need-returns-3
+returns-3 c = search needs
 
 pub answer-next-spec : {M : Type 1} → statement M
 answer-next-spec =
     tie.close
     (tie.spec
-    slice-aggregate-read-full
-    read-full-requires
+    slice-aggregate-take
+    take-requires
+    is-lost-requires
+    returns
     slice-aggregate-put-next
     put-next-requires
     array-share-prefix-text
     slice-aggregate-print
     print-requires
-    returns)
+    returns-2
+    returns-3)

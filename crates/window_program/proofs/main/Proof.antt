@@ -10,8 +10,8 @@ use Rattle.beginning.proofs.Laws.{begun-sound}
 use Rattle.window_program.proofs.main.Statement.{statement}
 use Rattle.window_program.proofs.main.Tie as tie
 
-abbrev start : tie.After-struct-known → tie.After-put-received
-start c = c .before .before .before .before .before .before .before
+abbrev start : tie.After-line2 → tie.After-put-received
+start c = c .before .before .before
 
 -- what was put, and what was read, fits in the arrays
 put : (c : tie.After-put-received) → c .put-received .result .said ≤ length (c .put-received .last .1 .1 .1 .1 .0)
@@ -26,6 +26,12 @@ slice-aggregate-receive c = search needs
 
 receive-requires : tie.Need-receive-requires
 receive-requires c κs = search needs
+
+is-lost-requires : tie.Need-is-lost-requires
+is-lost-requires c κs = search needs
+
+returns : tie.Need-returns
+returns c = search needs
 
 slice-aggregate-put-received : tie.Need-slice-aggregate-put-received
 slice-aggregate-put-received c = search needs
@@ -43,13 +49,16 @@ put-received-requires : tie.Need-put-received-requires
 put-received-requires c κs = search needs
 
 array-share-prefix-line : tie.Need-array-share-prefix-line
-array-share-prefix-line c = put (c .before .before .before)
+array-share-prefix-line c = put (start (c .before))
 
 slice-aggregate-print : tie.Need-slice-aggregate-print
-slice-aggregate-print c = simp length-take (omega (arith, put (c .before .before .before .before)))
+slice-aggregate-print c = simp length-take (omega (arith, put (start (c .before .before))))
 
 print-requires : tie.Need-print-requires
 print-requires c κs = search needs
+
+returns-2 : tie.Need-returns-2
+returns-2 c = search needs
 
 cast-q : tie.Need-cast-q
 cast-q c = search needs
@@ -58,25 +67,22 @@ array-share-prefix-keys : tie.Need-array-share-prefix-keys
 array-share-prefix-keys c = search needs
 
 slice-aggregate-answer-all : tie.Need-slice-aggregate-answer-all
-slice-aggregate-answer-all c = simp length-take (omega (arith, room (start (c .before))))
+slice-aggregate-answer-all c = simp length-take (omega (arith, room (start (c .before .before .before))))
 
 array-share-prefix-classes : tie.Need-array-share-prefix-classes
 array-share-prefix-classes c = search needs
 
 slice-aggregate-answer-all-2 : tie.Need-slice-aggregate-answer-all-2
-slice-aggregate-answer-all-2 c = simp length-take (omega (arith, room (start (c .before .before))))
+slice-aggregate-answer-all-2 c = simp length-take (omega (arith, room (start (c .before .before .before .before))))
 
 answer-all-requires : tie.Need-answer-all-requires
 answer-all-requires c κs =
-    let k = c .before .before in
-    let s = start k in
-    (simp length-take (omega (arith, room s)), begun-sound (s .put-received .ensures) (omega (arith, length-replicate {A = ℕ} 24 0)) (k .before .if1 .taken))
+    let silent = c .before .before .before in
+    let s = start (silent .before) in
+    (simp length-take (omega (arith, room s)), begun-sound (s .put-received .ensures) (omega (arith, length-replicate {A = ℕ} 24 0)) (omega (arith, silent .if2 .left)))
 
-returns : tie.Need-returns
-returns c = search needs
-
-returns-2 : tie.Need-returns-2
-returns-2 c = search needs
+returns-3 : tie.Need-returns-3
+returns-3 c = search needs
 
 pub main-spec : {M : Type 1} → statement M
 main-spec =
@@ -84,6 +90,8 @@ main-spec =
     (tie.spec
     slice-aggregate-receive
     receive-requires
+    is-lost-requires
+    returns
     slice-aggregate-put-received
     slice-aggregate-put-received-2
     slice-aggregate-put-received-3
@@ -92,11 +100,11 @@ main-spec =
     array-share-prefix-line
     slice-aggregate-print
     print-requires
+    returns-2
     cast-q
     array-share-prefix-keys
     slice-aggregate-answer-all
     array-share-prefix-classes
     slice-aggregate-answer-all-2
     answer-all-requires
-    returns
-    returns-2)
+    returns-3)

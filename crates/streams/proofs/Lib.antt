@@ -1,0 +1,3 @@
+mod Pieces
+mod Examples
+pub mod Laws
