@@ -1,32 +1,23 @@
 /* Says of the house file named on the command line whether its map is sound. */
-#include <stdio.h>
+#include "common.h"
 
-#include "lutniorad.h"
-
-enum { MOST_RECORDS = 65536, LONGEST = 20 + 5 * MOST_RECORDS };
-
-static uint8_t file[LONGEST + 1]; /* a byte more than any house file has, so that a longer one is not taken for one */
-static uint32_t keys[MOST_RECORDS];
-static uint8_t classes[MOST_RECORDS];
+static picture lake;
 
 int main(int argc, char **argv)
 {
-    FILE *in = argc == 2 ? fopen(argv[1], "rb") : NULL;
-    if (in == NULL) {
-        fprintf(stderr, "usage: check FILE, a house file that can be opened\n");
+    lutniorad_answer a;
+    if (argc != 2) {
+        fprintf(stderr, "usage: check FILE, a house file\n");
         return 2;
     }
-    size_t length = fread(file, 1, sizeof file, in);
-    fclose(in);
-
-    lutniorad_answer answer = lutniorad_read(file, length, keys, MOST_RECORDS, classes, MOST_RECORDS);
-    uint32_t m = answer.first, q = answer.second;
-    if (answer.refusal == 0)
-        answer = lutniorad_check(m, keys, q, classes, q);
-    if (answer.refusal != 0) {
-        printf("refused %u at %u\n", (unsigned)answer.refusal, (unsigned)answer.place);
-        return 1;
+    if (!read_picture(argv[1], &lake, &a))
+        return 2;
+    if (a.refusal == LUTNIORAD_ANSWERED)
+        a = lutniorad_check(lake.m, lake.keys, lake.q, lake.classes, lake.q);
+    if (a.refusal != LUTNIORAD_ANSWERED) {
+        say_refusal(stdout, a);
+        return end_with("check", 1);
     }
-    printf("sound: m %u, %u records\n", (unsigned)m, (unsigned)q);
-    return 0;
+    printf("sound: m %u, %u records\n", (unsigned)lake.m, (unsigned)lake.q);
+    return end_with("check", 0);
 }

@@ -1,6 +1,6 @@
 # shellcheck shell=sh
 # shellcheck disable=SC2154 # tests/run, which reads this, has the variables
-# The examples, on house files of the reference map and a few like it.
+# The examples, on house files of the reference map and a few like it, and on examples/lake.map.
 
 bytes() { # NUMBER...
     for byte in "$@"; do
@@ -19,67 +19,123 @@ one_record() { # M KEY: a map of one record
     bytes 25 0 0 0 "$1" 0 0 0 1 0 0 0 20 0 0 0 24 0 0 0 "$2" 0 0 0 1
 }
 
+longest() { # ZEROS: the header of a file of 65,536 records, and so many zeros
+    bytes 20 0 5 0 8 0 0 0 0 0 1 0 20 0 0 0 20 0 4 0
+    head -c "$1" /dev/zero
+}
+
+lake_from() { # BYTE...: the lake with these bytes for its first key
+    dd if=examples/lake.map bs=1 count=20 2>/dev/null
+    bytes "$@"
+    dd if=examples/lake.map bs=1 skip=24 2>/dev/null
+}
+
+# shellcheck disable=SC2086 # strict is a list of options
+examples_as_cpp() {
+    for source in examples/*.c; do
+        g++ -x c++ -std=c++17 $strict -Iinclude -fsyntax-only "$source" || return 1
+    done
+}
+
 # Runs where the house files are, so that these are named as here.
-example_says() { # LINES STATUS PROGRAM ARGUMENT...
-    lines=$1 wanted=$2 example=$3
-    shift 3
+example_says() { # LINES ERRORS STATUS PROGRAM ARGUMENT...
+    lines=$1 errors=$2 wanted=$3 example=$4
+    shift 4
     said=$(cd "$files" && run "$example" "$@" 2>errors)
     status=$?
-    [ "$said" = "$lines" ] && [ "$status" = "$wanted" ] && return 0
-    echo "$example $* said '$said' with status $status, and not '$lines' with status $wanted"
-    cat "$files/errors"
+    said_errors=$(cat "$files/errors")
+    [ "$said" = "$lines" ] && [ "$said_errors" = "$errors" ] && [ "$status" = "$wanted" ] && return 0
+    echo "$example $* said '$said' and '$said_errors' with status $status,"
+    echo "and not '$lines' and '$errors' with status $wanted"
     return 1
 }
 
-month_says() { # LINES STATUS ERRORS ARGUMENT...
-    lines=$1 wanted=$2 errors=$3
-    shift 3
-    example_says "$lines" "$wanted" month "$@" || return 1
+# On a full disk, and where standard output is closed.
+sees_failed_output() { # PROGRAM ARGUMENT...
+    (cd "$files" && run "$@" >/dev/full 2>errors)
+    statuses=$?
+    (cd "$files" && run "$@" >&- 2>>errors)
+    statuses="$statuses $?"
     said=$(cat "$files/errors")
-    [ "$said" = "$errors" ] && return 0
-    echo "month $* said '$said' on standard error, and not '$errors'"
+    [ "$statuses" = '2 2' ] && [ "$said" = "$1: cannot write standard output
+$1: cannot write standard output" ] && return 0
+    echo "$* said '$said' with statuses $statuses where it cannot write"
     return 1
 }
+
+bad_layout='refused 9 at 0: the layout of the file is wrong'
+bad_key='refused 3 at 0: the key of a record names no block'
+overlap='refused 4 at 1: a record starts before the last one ended'
+bad_window='refused 6 at 0: the window is empty or not inside the picture'
+
+step 'the examples are C++17' examples_as_cpp
+
+drawn_as_it_is() {
+    run lake >"$files/drawn" && cmp "$files/drawn" examples/lake.map
+}
+
+step 'the example lake is built' build lake examples/lake.c
+step 'lake writes examples/lake.map' drawn_as_it_is
+step 'lake sees that it cannot write' sees_failed_output lake
 
 house_file 5 1 2 2 3 1 1 2 >"$files/sound"
 house_file 1 1 2 2 3 1 1 2 >"$files/unsound"
 house_file 5 1 2 255 2 1 1 2 >"$files/partly"
 dd if="$files/sound" of="$files/short" bs=1 count=54 2>/dev/null
+longest 327680 >"$files/longest"
+longest 327681 >"$files/longer"
+mkdir "$files/folder"
+usage='usage: check FILE, a house file'
 step 'the example check is built' build check examples/check.c
-step 'check takes a sound map' example_says 'sound: m 2, 7 records' 0 check sound
-step 'check refuses a file cut short' example_says 'refused 9 at 0' 1 check short
-step 'check refuses an unsound map' example_says 'refused 3 at 0' 1 check unsound
-step 'check sees that a file is missing' example_says '' 2 check missing
+step 'check takes a sound map' example_says 'sound: m 2, 7 records' '' 0 check sound
+step 'check refuses a file cut short' example_says "$bad_layout" '' 1 check short
+step 'check refuses an unsound map' example_says "$bad_key" '' 1 check unsound
+step 'check reads the longest file' example_says "$overlap" '' 1 check longest
+step 'check refuses a longer one that begins like it' example_says "$bad_layout" '' 1 check longer
+step 'check sees that a file is missing' example_says '' 'missing: cannot be opened' 2 check missing
+step 'check sees that a file cannot be read' example_says '' 'folder: cannot be read' 2 check folder
+step 'check sees that no file is named' example_says '' "$usage" 2 check
+step 'check sees that it cannot write' sees_failed_output check sound
+step 'check sees that it cannot write a refusal' sees_failed_output check short
 
+usage='usage: scum FILE R0 C0 H W CLASS, with a house file'
 step 'the example scum is built' build scum examples/scum.c
-step 'scum counts a class' example_says '4 of 9 pixels, 444 per mille' 0 scum sound 0 1 3 3 1
-step 'scum counts a class that is not there' example_says '0 of 9 pixels, 0 per mille' 0 scum sound 0 1 3 3 255
-step 'scum counts a class that is all there is' example_says '2 of 2 pixels, 1000 per mille' 0 scum sound 2 0 2 1 1
-step 'scum says how many were not seen' example_says '4 of 9 pixels, 444 per mille, 1 not seen' 0 scum partly 0 1 3 3 1
-step 'scum counts what was not seen' example_says '1 of 9 pixels, 111 per mille' 0 scum partly 0 1 3 3 255
-step 'scum refuses a window that sticks out' example_says 'refused 6 at 0' 1 scum sound 2 0 3 1 1
-step 'scum refuses a window wider than its border' example_says 'refused 6 at 0' 1 scum sound 0 0 1 65535 1
-step 'scum refuses a file cut short' example_says 'refused 9 at 0' 1 scum short 0 1 3 3 1
-step 'scum refuses an unsound map' example_says 'refused 3 at 0' 1 scum unsound 0 1 3 3 1
-step 'scum sees that a file is missing' example_says '' 2 scum missing 0 1 3 3 1
-step 'scum sees that a number is too great' example_says '' 2 scum sound 65536 1 3 3 1
-step 'scum sees that a class is too great' example_says '' 2 scum sound 0 1 3 3 256
-step 'scum sees that a number is none' example_says '' 2 scum sound 0 -1 3 3 1
-step 'scum sees that the class is missing' example_says '' 2 scum sound 0 1 3 3
+step 'scum counts a class' example_says '4 of 9 pixels, 444 per mille' '' 0 scum sound 0 1 3 3 1
+step 'scum counts a class that is not there' example_says '0 of 9 pixels, 0 per mille' '' 0 scum sound 0 1 3 3 255
+step 'scum counts a class that is all there is' example_says '2 of 2 pixels, 1000 per mille' '' 0 scum sound 2 0 2 1 1
+step 'scum says how many were not seen' \
+    example_says '4 of 9 pixels, 444 per mille, 1 not seen' '' 0 scum partly 0 1 3 3 1
+step 'scum counts what was not seen' example_says '1 of 9 pixels, 111 per mille' '' 0 scum partly 0 1 3 3 255
+step 'scum refuses a window that sticks out' example_says "$bad_window" '' 1 scum sound 2 0 3 1 1
+step 'scum refuses a window wider than its border' example_says "$bad_window" '' 1 scum sound 0 0 1 65535 1
+step 'scum refuses a file cut short' example_says "$bad_layout" '' 1 scum short 0 1 3 3 1
+step 'scum refuses an unsound map' example_says "$bad_key" '' 1 scum unsound 0 1 3 3 1
+step 'scum sees that a file is missing' example_says '' 'missing: cannot be opened' 2 scum missing 0 1 3 3 1
+step 'scum sees that a file cannot be read' example_says '' 'folder: cannot be read' 2 scum folder 0 1 3 3 1
+step 'scum sees that a number is too great' example_says '' "$usage" 2 scum sound 65536 1 3 3 1
+step 'scum sees that a class is too great' example_says '' "$usage" 2 scum sound 0 1 3 3 256
+step 'scum sees that a number is none' example_says '' "$usage" 2 scum sound 0 -1 3 3 1
+step 'scum sees that the class is missing' example_says '' "$usage" 2 scum sound 0 1 3 3
+step 'scum sees that it cannot write' sees_failed_output scum sound 0 1 3 3 1
+step 'scum sees that it cannot write a refusal' sees_failed_output scum short 0 1 3 3 1
 
+usage='usage: clear FILE CLASS, with a house file'
 step 'the example clear is built' build clear examples/clear.c
-step 'clear says yes' example_says yes 0 clear sound 3
-step 'clear says no' example_says no 0 clear sound 4
-step 'clear says that it cannot tell' example_says "can't tell" 0 clear partly 3
-step 'clear says yes where not all was seen' example_says yes 0 clear partly 2
-step 'clear says no where it is asked for what was not seen' example_says no 0 clear sound 255
-step 'clear says yes where it is asked for what was not seen' example_says yes 0 clear partly 255
-step 'clear refuses a file cut short' example_says 'refused 9 at 0' 1 clear short 3
-step 'clear refuses an unsound map' example_says 'refused 3 at 0' 1 clear unsound 3
-step 'clear sees that a file is missing' example_says '' 2 clear missing 3
-step 'clear sees that a class is too great' example_says '' 2 clear sound 256
-step 'clear sees that a class is none' example_says '' 2 clear sound -1
-step 'clear sees that the class is missing' example_says '' 2 clear sound
+step 'clear says yes' example_says yes '' 0 clear sound 3
+step 'clear says no' example_says no '' 0 clear sound 4
+step 'clear says that it cannot tell' example_says "can't tell" '' 0 clear partly 3
+step 'clear says yes where not all was seen' example_says yes '' 0 clear partly 2
+step 'clear says no where it is asked for what was not seen' example_says no '' 0 clear sound 255
+step 'clear says yes where it is asked for what was not seen' example_says yes '' 0 clear partly 255
+step 'clear refuses a file cut short' example_says "$bad_layout" '' 1 clear short 3
+step 'clear refuses an unsound map' example_says "$bad_key" '' 1 clear unsound 3
+step 'clear sees that a file is missing' example_says '' 'missing: cannot be opened' 2 clear missing 3
+step 'clear sees that a file cannot be read' example_says '' 'folder: cannot be read' 2 clear folder 3
+step 'clear sees that a class is too great' example_says '' "$usage" 2 clear sound 256
+step 'clear sees that a class is none' example_says '' "$usage" 2 clear sound -1
+step 'clear sees that the class is missing' example_says '' "$usage" 2 clear sound
+step 'clear sees that it cannot write' sees_failed_output clear sound 3
+step 'clear sees that it cannot write a refusal' sees_failed_output clear short 3
 
 house_file 5 1 3 3 1 1 1 2 >"$files/second"
 house_file 5 1 2 2 2 1 2 255 >"$files/third"
@@ -100,22 +156,112 @@ class     least  greatest         mean     days
 no_map='month: no map was taken'
 usage='usage: month R0 C0 H W FILE..., the files of a month'
 step 'the example month is built' build month examples/month.c
-step 'month takes three maps' month_says "$three_maps" 0 '' 0 1 3 3 sound second third
-step 'month rounds halves up' month_says "$eight_maps" 0 '' 0 1 3 3 sound third third third third third third third
+step 'month takes three maps' example_says "$three_maps" '' 0 month 0 1 3 3 sound second third
+step 'month rounds halves up' \
+    example_says "$eight_maps" '' 0 month 0 1 3 3 sound third third third third third third third
 step 'month leaves out a file cut short' \
-    month_says "$three_maps" 1 'short: refused 9 at 0' 0 1 3 3 sound short second third
+    example_says "$three_maps" "short: $bad_layout" 1 month 0 1 3 3 sound short second third
 step 'month leaves out an unsound map' \
-    month_says "$three_maps" 1 'unsound: refused 3 at 0' 0 1 3 3 sound second unsound third
+    example_says "$three_maps" "unsound: $bad_key" 1 month 0 1 3 3 sound second unsound third
 step 'month leaves out a map of another m' \
-    month_says "$three_maps" 1 'pixel: refused 15 at 0' 0 1 3 3 sound second third pixel
+    example_says "$three_maps" 'pixel: refused 15 at 0: the m of the map is not that of the table' 1 \
+    month 0 1 3 3 sound second third pixel
 step 'month leaves out a missing file' \
-    month_says "$three_maps" 1 'missing: cannot be opened' 0 1 3 3 missing sound second third
+    example_says "$three_maps" 'missing: cannot be opened' 1 month 0 1 3 3 missing sound second third
+step 'month leaves out a file that cannot be read' \
+    example_says "$three_maps" 'folder: cannot be read' 1 month 0 1 3 3 sound second folder third
 step 'month begins with the first map that it takes' \
-    month_says "$three_maps" 1 'garbled: refused 3 at 0' 0 1 3 3 garbled sound second third
-step 'month refuses a window that sticks out' month_says '' 2 "sound: refused 6 at 0
-$no_map" 2 0 3 1 sound
-step 'month sees that there is no map' month_says '' 2 "missing: cannot be opened
-$no_map" 0 1 3 3 missing
-step 'month sees that a number is too great' month_says '' 2 "$usage" 65536 1 3 3 sound
-step 'month sees that a number is none' month_says '' 2 "$usage" 0 1 +3 3 sound
-step 'month sees that no file is named' month_says '' 2 "$usage" 0 1 3 3
+    example_says "$three_maps" "garbled: $bad_key" 1 month 0 1 3 3 garbled sound second third
+step 'month refuses a window that sticks out' example_says '' "sound: $bad_window
+$no_map" 2 month 2 0 3 1 sound
+step 'month sees that there is no map' example_says '' "missing: cannot be opened
+$no_map" 2 month 0 1 3 3 missing
+step 'month sees that a number is too great' example_says '' "$usage" 2 month 65536 1 3 3 sound
+step 'month sees that a number is none' example_says '' "$usage" 2 month 0 1 +3 3 sound
+step 'month sees that no file is named' example_says '' "$usage" 2 month 0 1 3 3
+step 'month sees that it cannot write' sees_failed_output month 0 1 3 3 sound second third
+
+cp examples/lake.map "$files/lake"
+dd if=examples/lake.map of="$files/cut" bs=1 count=400 2>/dev/null
+one_record 5 0 >"$files/green"
+one_record 6 0 >"$files/larger"
+one_record 13 0 >"$files/vast"
+one_record 5 1 >"$files/keyless"
+bytes 20 0 0 0 5 0 0 0 0 0 0 0 20 0 0 0 20 0 0 0 >"$files/empty"
+lake_from 0 0 0 0 >"$files/twice" # the whole picture, and then its records
+lake_from 226 4 0 0 >"$files/behind" # a record of the north-east quarter, 1,250
+none='inlet: no answer yet
+middle: no answer yet
+intake: no answer yet'
+of_lake='inlet: 50 of 112 pixels are scum, 0 were not seen
+middle: 4 of 160 pixels are scum, 4 were not seen
+intake: 18 of 96 pixels are scum, 0 were not seen'
+of_green='inlet: 112 of 112 pixels are scum, 0 were not seen
+middle: 160 of 160 pixels are scum, 0 were not seen
+intake: 96 of 96 pixels are scum, 0 were not seen'
+cut="cut: $bad_layout
+cut: no house file: was it cut or changed on its way?"
+
+old() { # PICTURES LINES
+    echo "$2" | sed "s/: /: OLD by $1: /"
+}
+
+# The last answers stay, and are old.
+not_taken() { # ERRORS NAME
+    example_says "$of_lake
+$(old 1 "$of_lake")" "$1" 1 acquire lake "$2"
+}
+
+no_house_file() { # REFUSAL NAME
+    not_taken "$2: $1
+$2: no house file: was it cut or changed on its way?" "$2"
+}
+
+broken_map() { # REFUSAL NAME
+    not_taken "$2: $1
+$2: a house file with a broken map: what made it is wrong" "$2"
+}
+
+# The program with something wrong in it ends at the first picture.
+wrong_program() { # REFUSAL RIGHT WRONG
+    sed "s/$2/$3/" examples/acquire.c >"$files/wrong.c"
+    build wrong -Iexamples "$files/wrong.c" || return 1
+    example_says "$none" "lake: $1
+acquire: this program is wrong, and not the picture" 3 wrong lake lake
+}
+
+step 'the example acquire is built' build acquire examples/acquire.c
+step 'acquire takes each picture' example_says "$of_lake
+$of_green" '' 0 acquire lake green
+step 'acquire keeps the last answers where a picture is refused' example_says "$of_lake
+$(old 1 "$of_lake")
+$of_green" "$cut" 1 acquire lake cut green
+step 'acquire counts how old its answers are' example_says "$of_lake
+$of_green
+$(old 1 "$of_green")
+$(old 2 "$of_green")
+$of_lake" "$cut
+$cut" 1 acquire lake green cut cut lake
+step 'acquire has no answer before the first picture that it takes' example_says "$none
+$of_lake" "$cut" 1 acquire cut lake
+step 'acquire knows a wrong layout as no house file' no_house_file "$bad_layout" cut
+step 'acquire knows a wrong m as no house file' no_house_file 'refused 1 at 0: m is over 12' vast
+step 'acquire knows a wrong count as no house file' no_house_file \
+    'refused 2 at 0: keys and classes differ in number, or there are none or more than 65,536' empty
+step 'acquire knows a wrong key as a broken map' broken_map "$bad_key" keyless
+step 'acquire knows an overlap as a broken map' broken_map "$overlap" twice
+step 'acquire knows a gap as a broken map' broken_map 'refused 5 at 0: there are pixels that no record covers' behind
+step 'acquire does not take a smaller picture' \
+    not_taken 'pixel: a picture of m 0, and the windows are drawn for m 5' pixel
+step 'acquire does not take a larger picture, in which its windows lie too' \
+    not_taken 'larger: a picture of m 6, and the windows are drawn for m 5' larger
+step 'acquire sees that a file is missing' not_taken 'missing: cannot be opened' missing
+step 'acquire sees that a file cannot be read' not_taken 'folder: cannot be read' folder
+step 'acquire knows a window that sticks out as its own fault' \
+    wrong_program "$bad_window" '{6, 4, 8, 14}' '{6, 4, 27, 14}'
+step 'acquire knows a short border as its own fault' wrong_program \
+    'refused 7 at 14: the border has fewer cells than the window columns' LUTNIORAD_MOST_SIDE 13
+step 'acquire knows short totals as its own fault' wrong_program \
+    'refused 8 at 256: a slice that would be written is too short' 'totals, LUTNIORAD_CLASSES' 'totals, 255'
+step 'acquire sees that no file is named' example_says '' 'usage: acquire FILE..., house files' 2 acquire
+step 'acquire sees that it cannot write' sees_failed_output acquire lake lake
