@@ -61,7 +61,7 @@ static void print_cell(const cell *c)
     print_ratio(8, c->plain, c->library, MOST_OF_PLAIN);
     print_ratio(9, c->fastest, c->library, 1e9);
     print_ratio(8, c->before, c->library, c->before < FEW ? 1e9 : MOST_OF_BEFORE);
-    if (c->operation > DECOMPOSE) {
+    if (checks_first(c->operation)) {
         printf(" %10" PRId64 " |", c->past_library);
         print_ratio(8, c->past_plain, c->past_library, MOST_OF_PLAIN);
     } else
@@ -76,7 +76,7 @@ static void print_cell(const cell *c)
 
 static void print_rows(int operation)
 {
-    int maps = operation == DECOMPOSE ? SQUARES + 1 : MAPS, windows = operation == CHECK ? 1 : WINDOWS;
+    int maps = operation == DECOMPOSE ? SQUARES + 1 : MAPS, windows = takes_window(operation) ? WINDOWS : 1;
     for (int number = 0; number < maps; number++) {
         make_map(&a, number);
         for (int window = 0; window < windows; window++) {

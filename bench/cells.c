@@ -13,12 +13,12 @@ const char *map_name(const cell *c)
 
 const char *window_name(const cell *c)
 {
-    return c->operation == CHECK ? "" : window_names[c->window];
+    return takes_window(c->operation) ? window_names[c->window] : "";
 }
 
 void name_cell(const cell *c, char name[LONGEST_NAME])
 {
-    snprintf(name, LONGEST_NAME, "%s%s%s", map_name(c), c->operation == CHECK ? "" : " ", window_name(c));
+    snprintf(name, LONGEST_NAME, "%s%s%s", map_name(c), takes_window(c->operation) ? " " : "", window_name(c));
 }
 
 /* ---- What it took before ---- */
@@ -105,6 +105,14 @@ static void hold_unseen(const program *p, const map *a, rectangle at, const char
     }
 }
 
+/* What is read from the file of a map must be that map. */
+static void hold_read(const result *r, const map *a, const char *where)
+{
+    if (r->answer.first != a->m || r->answer.second != a->q || memcmp(r->out, a->keys, a->q * sizeof *a->keys) != 0 ||
+        memcmp(r->bytes, a->classes, a->q) != 0)
+        wrong("another map is read than was written", where);
+}
+
 cell measure_cell(int operation, const map *a, int map_number, int window_number)
 {
     static result r;
@@ -119,6 +127,8 @@ cell measure_cell(int operation, const map *a, int map_number, int window_number
         wrong("the library refuses", where);
     if (adds)
         hold_against_report(&r, operation, a, at, where);
+    if (operation == READ)
+        hold_read(&r, a, where);
     if (operation == EXIST) {
         hold_unseen(&library, a, at, where);
         hold_unseen(&plain, a, at, where);
@@ -130,7 +140,7 @@ cell measure_cell(int operation, const map *a, int map_number, int window_number
     if (adds)
         return c;
     c.fastest = measure_same(&fastest, operation, a, at, &r, where);
-    if (operation > DECOMPOSE) {
+    if (checks_first(operation)) {
         c.past_library = c.library - measure_check(&library, operation, a);
         c.past_plain = c.plain - measure_check(&plain, operation, a);
     }

@@ -7,8 +7,8 @@
 enum { MOST_CELLS = OPERATIONS * MAPS * WINDOWS };
 
 /*
- * Instructions. Those past the check are 0 where a call takes no map or does nothing but check it. Of adding a map to a
- * month there are those of the library and of plain C, and those before only if the file has them; the others are 0.
+ * Instructions. Those past the check are 0 where a call checks no map or does nothing else. Of adding a map to a month
+ * there are those of the library and of plain C, and those before only if the file has them; the others are 0.
  */
 typedef struct {
     int operation, map, window;
@@ -26,7 +26,7 @@ cell measure_cell(int operation, const map *a, int map_number, int window_number
 /* One that was measured. */
 const cell *find_cell(const cell *cells, int n, int operation, int map_number, int window_number);
 
-/* Decomposing takes no map: of it, there is m. Checking takes no window. */
+/* Decomposing takes no map: of it, there is m. Some calls take no window. */
 const char *map_name(const cell *c);
 const char *window_name(const cell *c);
 

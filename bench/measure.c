@@ -12,28 +12,43 @@
 #include <unistd.h>
 
 const program library = {
-    "library",       lutniorad_check,  lutniorad_decompose, lutniorad_open,
-    lutniorad_exist, lutniorad_report, lutniorad_select,    lutniorad_month_add,
+    "library",        lutniorad_check,  lutniorad_decompose, lutniorad_open,  lutniorad_exist,
+    lutniorad_report, lutniorad_select, lutniorad_read,      lutniorad_write, lutniorad_month_add,
 };
 const program plain = {
-    "plain C", plain_check, plain_decompose, plain_open, plain_exist, plain_report, plain_select, plain_month_add,
+    "plain C",    plain_check,  plain_decompose, plain_open,  plain_exist,
+    plain_report, plain_select, plain_read,      plain_write, plain_month_add,
 };
 const program fastest = {
-    "fastest C",   fastest_check,  fastest_decompose, fastest_open,
-    fastest_exist, fastest_report, fastest_select,    NULL,
+    "fastest C",    fastest_check,  fastest_decompose, fastest_open,  fastest_exist,
+    fastest_report, fastest_select, fastest_read,      fastest_write, NULL,
 };
-const program growing = {"growing list", NULL, NULL, growing_open, NULL, NULL, NULL, NULL};
-const program every = {"every block", NULL, NULL, every_open, NULL, NULL, NULL, NULL};
+const program growing = {"growing list", NULL, NULL, growing_open, NULL, NULL, NULL, NULL, NULL, NULL};
+const program every = {"every block", NULL, NULL, every_open, NULL, NULL, NULL, NULL, NULL, NULL};
 
 const char *const operation_names[OPERATIONS] = {
-    "check", "decompose", "open", "exist", "report", "select", "month_add, first map", "month_add, next map",
+    "check",  "decompose", "open",  "exist",                "report",
+    "select", "read",      "write", "month_add, first map", "month_add, next map",
 };
+
+bool takes_window(int operation)
+{
+    return operation != CHECK && operation != READ && operation != WRITE;
+}
+
+bool checks_first(int operation)
+{
+    return OPEN <= operation && operation <= SELECT;
+}
 
 void wrong(const char *why, const char *where)
 {
     printf("WRONG: %s (%s)\n", why, where);
     exit(1);
 }
+
+/* The file of a map. */
+static uint8_t map_file[LUTNIORAD_MOST_FILE_BYTES];
 
 lutniorad_answer call(const program *p, int operation, const map *a, rectangle at, result *r)
 {
@@ -53,6 +68,10 @@ lutniorad_answer call(const program *p, int operation, const map *a, rectangle a
     case SELECT:
         return p->select(a->m, a->keys, a->q, a->classes, a->q, at.r0, at.c0, at.h, at.w, SCUM, r->border, CELLS,
                          r->out, ROOM);
+    case READ:
+        return p->read(map_file, LUTNIORAD_FILE_BYTES(a->q), r->out, ROOM, r->bytes, sizeof r->bytes);
+    case WRITE:
+        return p->write(a->m, a->keys, a->q, a->classes, a->q, r->bytes, sizeof r->bytes);
     case ADD_FIRST:
     case ADD_NEXT:
         return p->month_add(a->m, a->keys, a->q, a->classes, a->q, r->border, CELLS, r->table, MONTH_CELLS);
@@ -101,6 +120,8 @@ void measure(const program *p, int operation, const map *a, rectangle at, result
         around = marked(p, NOTHING, a, at, r);
     memset(r->border, 0xA5, sizeof r->border);
     memset(r->out, 0xA5, sizeof r->out);
+    memset(r->bytes, 0xA5, sizeof r->bytes);
+    lutniorad_write(a->m, a->keys, a->q, a->classes, a->q, map_file, sizeof map_file);
     make_month(r->table, a->m, at, operation == ADD_NEXT);
     r->instructions = marked(p, operation, a, at, r) - around;
 }
@@ -109,7 +130,7 @@ static bool same_answers(const result *x, const result *y)
 {
     return memcmp(&x->answer, &y->answer, sizeof x->answer) == 0 &&
            memcmp(x->border, y->border, sizeof x->border) == 0 && memcmp(x->out, y->out, sizeof x->out) == 0 &&
-           memcmp(x->table, y->table, sizeof x->table) == 0;
+           memcmp(x->table, y->table, sizeof x->table) == 0 && memcmp(x->bytes, y->bytes, sizeof x->bytes) == 0;
 }
 
 static result other;

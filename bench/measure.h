@@ -14,13 +14,20 @@ typedef struct {
     exist_function *exist;
     report_function *report;
     select_function *select;
+    read_function *read;
+    write_function *write;
     month_add_function *month_add;
 } program;
 
 extern const program library, plain, fastest, growing, every; /* fastest adds no map, and the last two only open */
 
-enum { CHECK, DECOMPOSE, OPEN, EXIST, REPORT, SELECT, ADD_FIRST, ADD_NEXT, OPERATIONS, NOTHING };
+enum { CHECK, DECOMPOSE, OPEN, EXIST, REPORT, SELECT, READ, WRITE, ADD_FIRST, ADD_NEXT, OPERATIONS, NOTHING };
 extern const char *const operation_names[OPERATIONS];
+
+bool takes_window(int operation);
+
+/* Does it check a map, and then something more? */
+bool checks_first(int operation);
 
 /* The widest border, and out cells enough for one pass of opening and for every key that a select can list. */
 enum { CELLS = 4096, ROOM = 12 * (4096 + 4096) };
@@ -31,6 +38,7 @@ typedef struct {
     uint16_t border[CELLS];
     uint32_t out[ROOM];
     uint64_t table[MONTH_CELLS];
+    uint8_t bytes[LUTNIORAD_MOST_FILE_BYTES]; /* a file that was written, or the classes that were read */
 } result;
 
 /* Opens the file in which the plugin leaves its counts. */
@@ -38,8 +46,8 @@ void begin_measuring(const char *counts);
 
 /*
  * One call. Exist asks for a class that is nowhere, so it has to look everywhere; select asks for scum; a map is added
- * to a month of no map, and to one of a map that is all scum. Counted are the instructions from the first that hands
- * over an argument to the return.
+ * to a month of no map, and to one of a map that is all scum; what is read is the file of the map. Counted are the
+ * instructions from the first that hands over an argument to the return.
  */
 void measure(const program *p, int operation, const map *a, rectangle at, result *r);
 

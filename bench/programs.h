@@ -48,12 +48,23 @@ typedef lutniorad_answer month_add_function(uint32_t m,
                                             uint16_t *border, size_t n_border,
                                             uint64_t *table, size_t n_table);
 
+typedef lutniorad_answer read_function(const uint8_t *file, size_t n,
+                                       uint32_t *keys, size_t n_keys,
+                                       uint8_t *classes, size_t n_classes);
+
+typedef lutniorad_answer write_function(uint32_t m,
+                                        const uint32_t *keys, size_t n_keys,
+                                        const uint8_t *classes, size_t n_classes,
+                                        uint8_t *out, size_t n_out);
+
 check_function plain_check, fastest_check;
 decompose_function plain_decompose, fastest_decompose;
 open_function plain_open, fastest_open, growing_open, every_open;
 exist_function plain_exist, fastest_exist;
 report_function plain_report, fastest_report;
 select_function plain_select, fastest_select;
+read_function plain_read, fastest_read;
+write_function plain_write, fastest_write;
 month_add_function plain_month_add;
 
 #endif

@@ -79,16 +79,16 @@
  * lutniorad_month_add adds.
  *
  * THREADS AND SIGNALS. Calls on different memory may run at the same time, in any number of threads, and in a signal
- * handler. No call takes a lock, sets errno or waits. The archive asks for memset and for nothing else.
+ * handler. No call takes a lock, sets errno or waits. The archive asks for memset and memcpy, and for nothing else.
  *
- * THE STACK. A call takes at most 3,000 bytes of stack; that is measured, and not proved. Where memset comes from a
- * shared C library and is bound when it is first called, as many linkers have it unless told otherwise, that one call
- * also takes what the loader needs: over 6,000 bytes together were seen. Link with `-static`, or with `-Wl,-z,now`,
- * where stacks are small, as for a signal handler or a thread.
+ * THE STACK. A call takes at most 3,000 bytes of stack; that is measured, and not proved. Where memset and memcpy come
+ * from a shared C library and are bound when they are first called, as many linkers have it unless told otherwise, that
+ * one call takes what the loader needs besides: up to 6,504 bytes together were seen, and elsewhere it may be more.
+ * Link with `-static`, or with `-Wl,-z,now`, where stacks are small, as for a signal handler or a thread.
  *
  * WHAT A CALL COSTS. Each call that takes a map, but for lutniorad_write, checks the whole of it first, whatever was
- * checked before: some 21 instructions for each record, 1.4 million for the longest map. Behind that it goes by the
- * records and blocks of the window and not by its pixels.
+ * checked before: some 21 instructions for each record, 1.4 million for the longest map, which take a fraction of a
+ * millisecond. Behind that it goes by the records and blocks of the window and not by its pixels.
  *
  * CLASSES are numbers of the caller's own. Which of them is scum the library does not know; 255 alone has a meaning.
  *

@@ -129,8 +129,8 @@ static const struct {
     {"file-length-56", {56, 2, 7, 20, 48}},
     {"file-length-63", {63, 2, 7, 20, 48}}, /* the window counts to the file */
     {"file-length-64", {64, 2, 7, 20, 48}}, /* the input ends inside the file */
-    {"file-length-5020", {5020, 2, 7, 20, 48}},
-    {"file-length-5021", {5021, 2, 7, 20, 48}},
+    {"file-length-5020", {LUTNIORAD_PROGRAM_FILE_BYTES, 2, 7, 20, 48}},
+    {"file-length-5021", {LUTNIORAD_PROGRAM_FILE_BYTES + 1, 2, 7, 20, 48}},
     {"file-length-65591", {65591, 2, 7, 20, 48}}, /* 55 in its lower bytes */
     {"file-length-turned-round", {55u << 24, 2, 7, 20, 48}},
     {"file-length-most", {UINT32_MAX, 2, 7, 20, 48}},
@@ -231,15 +231,15 @@ static void write_damages(void)
     put_refused_map();
 }
 
-/* ---- Maps of 1,000 records, and more ---- */
+/* ---- Maps of 1,000 records, as many as the program takes, and more ---- */
 
-enum { CUTS = 333 }; /* that make 1,000 records */
+enum { THOUSAND = (LUTNIORAD_PROGRAM_FILE_BYTES - HEADER) / 5, CUTS = (THOUSAND - 1) / 3 };
 
 static void write_damaged_thousand(void)
 {
     begin("thousand-3-last");
     make_map(&the_map, 5, EVEN, CUTS);
-    the_map.keys[999] = 5;
+    the_map.keys[THOUSAND - 1] = 5;
     put_refused_map();
     begin("thousand-4-middle");
     make_map(&the_map, 12, RAGGED, CUTS);
@@ -247,7 +247,7 @@ static void write_damaged_thousand(void)
     put_refused_map();
     begin("thousand-5-end");
     make_map(&the_map, 5, EVEN, CUTS + 1);
-    the_map.q = 1000;
+    the_map.q = THOUSAND;
     put_refused_map();
 }
 
@@ -255,7 +255,7 @@ static void write_too_long(void)
 {
     begin("file-of-5025-bytes");
     make_map(&the_map, 5, EVEN, CUTS + 1);
-    the_map.q = 1001;
+    the_map.q = THOUSAND + 1;
     put_refused_map();
     begin("file-of-5035-bytes"); /* of a sound map */
     make_map(&the_map, 5, EVEN, CUTS + 1);

@@ -50,7 +50,10 @@ static lutniorad_answer compare_read(size_t n, size_t n_keys, size_t n_classes)
 static lutniorad_answer compare_write(const map *a, size_t n_keys, size_t n_classes, size_t n_out)
 {
     call c = {&WRITE, a->m, NO_WINDOW, NO_CLASS, {{a->keys, n_keys}, {a->classes, n_classes}, {NULL, n_out}}};
-    return compare(c);
+    lutniorad_answer answer = compare(c);
+    if (answer.refusal == 0)
+        require(answer.first == length_of_file(n_keys), "the file has another length than the header says");
+    return answer;
 }
 
 /* After a file of n bytes was read: the map so got, written, is the same file. */

@@ -2,6 +2,8 @@
 
 #include "harness.h"
 
+#include "painted.h"
+
 #include <inttypes.h>
 #include <setjmp.h>
 #include <signal.h>
@@ -10,7 +12,6 @@
 #include <stdlib.h>
 #include <string.h>
 #include <sys/mman.h>
-#include <ucontext.h>
 
 /* ---- Random numbers ---- */
 
@@ -264,7 +265,7 @@ void require_numbers(lutniorad_answer got, uint32_t refusal, uint32_t place, uin
  * no reason to touch more than its first cells, and these are what is laid out and compared.
  */
 enum { LIBRARY, REFERENCE, SIDES };
-enum { ROUNDS = 2, GUARD = 17, ROOM = 1 << 20, FENCE = 1 << 16, WIDEST_CELL = 8 };
+enum { ROUNDS = 2, GUARD = 17, ROOM = PAINTED /* the garbage paints stacks too */, FENCE = 1 << 16, WIDEST_CELL = 8 };
 
 static unsigned char *rooms[SIDES][MOST_SLICES];
 static unsigned char *vast_rooms[MOST_SLICES];
@@ -326,12 +327,10 @@ static stand lay_out(const call *c, size_t i, int round, slice slices[SIDES][MOS
 /* ---- The stack ---- */
 
 static bool watching;
-static unsigned char painted_stack[ROOM];
 static size_t deepest[COUNT(operations)];
 
-/* The call that runs on the painted stack, and where it is called from. */
+/* The call that runs on the painted stack. */
 static struct {
-    ucontext_t here, there;
     const call *call;
     const slice *slices;
     lutniorad_answer answer;
@@ -358,34 +357,18 @@ static void run_watched(void)
     watched.answer = watched.call->operation->run(&library, watched.call, watched.slices);
 }
 
-/* A stack grows downwards: the first byte of it that is not as it was painted is the deepest. */
-static void look_at_stack(const operation *o, const unsigned char *paint)
+static lutniorad_answer run_on_painted_stack(const call *c, const slice *slices, int round)
 {
-    size_t i = 0, which = 0;
-    while (painted_stack[i] == paint[i])
-        i++;
-    while (operations[which] != o)
+    size_t which = 0;
+    watched.call = c;
+    watched.slices = slices;
+    size_t depth = run_painted(run_watched, garbage[round]);
+    while (operations[which] != c->operation)
         which++;
-    size_t depth = sizeof painted_stack - i;
     if (depth > deepest[which])
         deepest[which] = depth;
     if (depth > MOST_STACK)
         fail("the call takes %zu bytes of stack, more than %d", depth, MOST_STACK);
-}
-
-static lutniorad_answer run_on_painted_stack(const call *c, const slice *slices, int round)
-{
-    memcpy(painted_stack, garbage[round], sizeof painted_stack);
-    watched.call = c;
-    watched.slices = slices;
-    getcontext(&watched.there);
-    watched.there.uc_stack.ss_sp = painted_stack;
-    watched.there.uc_stack.ss_size = sizeof painted_stack;
-    watched.there.uc_link = &watched.here;
-    makecontext(&watched.there, run_watched, 0);
-    if (swapcontext(&watched.here, &watched.there) != 0)
-        fail("the painted stack cannot be used");
-    look_at_stack(c->operation, garbage[round]);
     return watched.answer;
 }
 

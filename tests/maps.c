@@ -373,7 +373,7 @@ window random_window_on(map *a, size_t number, size_t most_pixels)
 
 size_t length_of_file(size_t q)
 {
-    return HEADER + 5 * q;
+    return LUTNIORAD_FILE_BYTES(q);
 }
 
 size_t make_file(uint8_t file[ROOM_FOR_FILE], const map *a)

@@ -11,7 +11,7 @@
 
 /* ---- Maps ---- */
 
-enum { MOST_RECORDS = 65536, ROOM_FOR_RECORDS = MOST_RECORDS + 8 };
+enum { MOST_RECORDS = LUTNIORAD_MOST_RECORDS, ROOM_FOR_RECORDS = MOST_RECORDS + 8 };
 
 typedef struct {
     uint32_t m;
@@ -114,7 +114,7 @@ window random_window_on(map *a, size_t number, size_t most_pixels);
 
 /* ---- Files ---- */
 
-enum { HEADER = 20, ROOM_FOR_FILE = HEADER + 5 * ROOM_FOR_RECORDS };
+enum { HEADER = 20, ROOM_FOR_FILE = LUTNIORAD_FILE_BYTES(ROOM_FOR_RECORDS) };
 
 size_t length_of_file(size_t q);
 

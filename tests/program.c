@@ -94,6 +94,6 @@ int main(void)
         answer_window(m, q, at);
     }
     if (n > 0)
-        printf("R 10 %u\n", (unsigned)n);
+        printf("R %u %u\n", (unsigned)LUTNIORAD_LEFT_OVER, (unsigned)n);
     return 0;
 }

@@ -7,7 +7,7 @@ static uint32_t raster[MOST_PIXELS];
 /* Fewer than 4(w + h) keys, `apart` cells from one to the next, and each that of a maximal block. */
 static void require_maximal(uint32_t m, window at, const uint32_t *keys, size_t apart, size_t n)
 {
-    require(n < 4 * ((size_t)at.w + at.h), "there are not fewer than 4(w + h) of them");
+    require(n < LUTNIORAD_DECOMPOSE_CELLS(at.h, at.w), "there are not fewer than 4(w + h) of them");
     for (size_t i = 0; i < n; i++)
         require(reference_maximal(m, keys[apart * i], at), "there is a key of no maximal block");
 }
@@ -133,7 +133,7 @@ void require_reported(window at, lutniorad_answer answer, const uint32_t *totals
 
 void require_selected(const map *a, window at, const uint32_t *keys, size_t n)
 {
-    require(n < a->q + 4 * ((size_t)at.w + at.h), "there are not fewer than Q + 4(w + h) keys");
+    require(n < LUTNIORAD_SELECT_CELLS(a->q, at.h, at.w), "there are not fewer than Q + 4(w + h) keys");
     for (size_t i = 0; i < n; i++)
         require(reference_lies_in(a->m, keys[i], at), "there is a key of no block inside the window");
 }

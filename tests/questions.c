@@ -4,10 +4,17 @@
 
 #include <string.h>
 
+/* A slice of as many cells as the header calls enough is never too short. */
+static void require_room(lutniorad_answer answer, size_t n_out, size_t enough_cells)
+{
+    require(n_out < enough_cells || answer.refusal != LUTNIORAD_SHORT_ROOM, "what is always enough is not enough");
+}
+
 lutniorad_answer compare_decompose(uint32_t m, window at, size_t n_out)
 {
     call c = {&DECOMPOSE, m, at, NO_CLASS, {{NULL, n_out}}};
     lutniorad_answer answer = compare(c);
+    require_room(answer, n_out, enough(at));
     if (answer.refusal == 0)
         require_decomposed(m, at, left(0), answer.first);
     return answer;
@@ -21,6 +28,7 @@ static lutniorad_answer compare_question(question q, given keys, given classes, 
 {
     call c = {q.operation, q.map->m, q.at, q.of_class, {keys, classes, border, out}};
     lutniorad_answer answer = compare(c);
+    require_room(answer, out.length, enough_for(q));
     if (answer.refusal == 0 && q.operation == &OPEN)
         require_opened(q.map, q.at, answer, left(3));
     if (answer.refusal == 0 && q.operation == &REPORT)
@@ -44,14 +52,14 @@ lutniorad_answer ask(question q, size_t n_border, size_t n_out)
 
 size_t enough(window at)
 {
-    return 4 * ((size_t)at.w + at.h);
+    return LUTNIORAD_DECOMPOSE_CELLS(at.h, at.w);
 }
 
 size_t enough_for(question q)
 {
-    return q.operation == &OPEN     ? 3 * enough(q.at)
-           : q.operation == &REPORT ? CLASSES
-           : q.operation == &SELECT ? q.map->q + enough(q.at)
+    return q.operation == &OPEN     ? LUTNIORAD_OPEN_CELLS(q.at.h, q.at.w)
+           : q.operation == &REPORT ? LUTNIORAD_CLASSES
+           : q.operation == &SELECT ? LUTNIORAD_SELECT_CELLS(q.map->q, q.at.h, q.at.w)
                                     : 0;
 }
 

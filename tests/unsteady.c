@@ -2,8 +2,8 @@
  * A shared object to be loaded before the C library: read from standard input and write to standard output, made
  * unsteady. UNSTEADY_READ and UNSTEADY_WRITE say what becomes of one call after the other, over and over, a letter for
  * each: 'i' it is interrupted, 'a' it is to be made again, 'p' only a part is passed on, '.' it is passed on. After
- * UNSTEADY_READ_END and UNSTEADY_WRITE_END bytes a call fails. What the program may not do ends it: a call after that by
- * status 3, and a write that is not of whole lines, or of more than a pipe takes at once, by status 4.
+ * UNSTEADY_READ_END and UNSTEADY_WRITE_END bytes a call fails. What the program may not do ends it: a call after that
+ * by status 3, and a write that is not of whole lines, or of more than a pipe takes at once, by status 4.
  */
 #define _DEFAULT_SOURCE /* beyond C99, syscall */
 

@@ -15,7 +15,7 @@ void group_vast_windows(void);
 void group_large_windows(void);
 void group_random_windows(void);
 
-/* Windows as large as the largest picture, or nearly so, decomposed. How the work grows with them is counted in bench/. */
+/* Windows as large as the largest picture, or nearly so, decomposed. bench/ counts how the work grows with them. */
 void group_largest_windows(void);
 
 /* Calls of all operations, on large maps and windows, while the stack is watched. */

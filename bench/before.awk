@@ -1,0 +1,14 @@
+# From the figures of bench/README.md: a line "operation | map | window | instructions of the library" for each cell of
+# the first two tables.
+function cell(operation, map, window, count) { print operation " | " map " | " window " | " count }
+
+BEGIN { FS = "|" }
+
+{ for (i = 1; i <= NF; i++) { sub(/^ +/, "", $i); sub(/ +$/, "", $i) } }
+
+$2 == "operation" { table = 1; next }
+$2 == "map" { table = 2; next }
+NF < 2 { table = 0 }
+$2 ~ /^:-/ { next }
+table == 1 { cell($2, $3, $4, $5) }
+table == 2 { cell("month_add, first map", $2, $3, $5); cell("month_add, next map", $2, $3, $10) }

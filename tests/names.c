@@ -1,0 +1,356 @@
+/*
+ * Holds what the header names against the library: each refusal against a call that is refused by it, the sentences,
+ * the limits, and the room that is always enough. Says each thing that is not so; the status is 0 where all is.
+ */
+#include "even.h"
+
+#include <stdbool.h>
+#include <stdio.h>
+#include <stdlib.h>
+#include <string.h>
+
+#define COUNT(array) (sizeof(array) / sizeof *(array))
+
+enum { ENOUGH = 20 }; /* to see what is wrong */
+static int wrong;
+
+static void hold(bool holds, const char *name, const char *otherwise)
+{
+    if (holds)
+        return;
+    printf("%s: %s\n", name, otherwise);
+    if (++wrong == ENOUGH)
+        exit(1);
+}
+
+static void hold_answer(lutniorad_answer got, uint32_t refusal, uint32_t place, uint32_t first, const char *name)
+{
+    char otherwise[200];
+    snprintf(otherwise, sizeof otherwise, "refusal %u, place %u, first %u, and it should be %u, %u, %u",
+             (unsigned)got.refusal, (unsigned)got.place, (unsigned)got.first, (unsigned)refusal, (unsigned)place,
+             (unsigned)first);
+    hold(got.refusal == refusal && got.place == place && got.first == first, name, otherwise);
+}
+
+/* ---- Refusals ---- */
+
+/* What a call is handed. As it is begun, each call is answered; each refusal comes from one thing that is spoiled. */
+enum { Q = 7, WIDTH = 3 };
+static uint32_t m, keys[Q], totals[LUTNIORAD_CLASSES];
+static uint16_t r0, border[WIDTH];
+static uint8_t classes[Q], file[LUTNIORAD_FILE_BYTES(Q)];
+static uint64_t table[LUTNIORAD_MONTH_CELLS];
+static size_t n_keys, n_classes, n_border, n_totals;
+
+static void begin(void)
+{
+    static const uint32_t some_keys[Q] = {5, 11, 12, 13, 14, 15, 20};
+    static const uint8_t some_classes[Q] = {1, 2, 2, 3, 1, 1, 2};
+    m = 2;
+    r0 = 0;
+    memcpy(keys, some_keys, sizeof keys);
+    memcpy(classes, some_classes, sizeof classes);
+    n_keys = n_classes = Q;
+    n_border = WIDTH;
+    n_totals = LUTNIORAD_CLASSES;
+    lutniorad_write(m, keys, Q, classes, Q, file, sizeof file);
+    lutniorad_month_clear(m, r0, 1, 3, WIDTH, table, COUNT(table));
+}
+
+static lutniorad_answer report(void)
+{
+    return lutniorad_report(m, keys, n_keys, classes, n_classes, r0, 1, 3, WIDTH, border, n_border, totals, n_totals);
+}
+
+static lutniorad_answer read_file(void)
+{
+    return lutniorad_read(file, sizeof file, keys, n_keys, classes, n_classes);
+}
+
+static lutniorad_answer add(void)
+{
+    return lutniorad_month_add(m, keys, n_keys, classes, n_classes, border, n_border, table, COUNT(table));
+}
+
+static void no_such_m(void)
+{
+    m = LUTNIORAD_MOST_M + 1;
+}
+
+static void fewer_classes(void)
+{
+    n_classes = Q - 1;
+}
+
+static void key_of_no_block(void)
+{
+    keys[1] = 1;
+}
+
+static void block_twice(void)
+{
+    keys[2] = keys[1];
+}
+
+static void last_removed(void)
+{
+    n_keys = n_classes = Q - 1;
+}
+
+static void sticks_out(void)
+{
+    r0 = 2;
+}
+
+static void short_border(void)
+{
+    n_border = WIDTH - 1;
+}
+
+static void short_totals(void)
+{
+    n_totals = LUTNIORAD_CLASSES - 1;
+}
+
+static void keys_elsewhere(void)
+{
+    file[12]++;
+}
+
+static void table_of_another_m(void)
+{
+    lutniorad_month_clear(m + 1, r0, 1, 3, WIDTH, table, COUNT(table));
+}
+
+static void full_table(void)
+{
+    table[5] = LUTNIORAD_MOST_MAPS;
+}
+
+static void sum_of_no_map(void)
+{
+    table[8] = 1;
+}
+
+static const struct {
+    uint32_t refusal, place;
+    void (*spoil)(void);
+    lutniorad_answer (*call)(void);
+} refused[] = {
+    {LUTNIORAD_BAD_M, 0, no_such_m, report},
+    {LUTNIORAD_BAD_COUNT, 0, fewer_classes, report},
+    {LUTNIORAD_BAD_KEY, 1, key_of_no_block, report},
+    {LUTNIORAD_OVERLAP, 2, block_twice, report},
+    {LUTNIORAD_GAP, Q - 1, last_removed, report},
+    {LUTNIORAD_BAD_WINDOW, 0, sticks_out, report},
+    {LUTNIORAD_SHORT_BORDER, WIDTH, short_border, report},
+    {LUTNIORAD_SHORT_ROOM, LUTNIORAD_CLASSES, short_totals, report},
+    {LUTNIORAD_BAD_LAYOUT, 12, keys_elsewhere, read_file},
+    {LUTNIORAD_OTHER_M, 0, table_of_another_m, add},
+    {LUTNIORAD_MONTH_FULL, 0, full_table, add},
+    {LUTNIORAD_BAD_TABLE, 0, sum_of_no_map, add},
+};
+
+#define NAMED(name, number, sentence) {#name, number, sentence},
+static const struct {
+    const char *name;
+    uint32_t number;
+    const char *sentence;
+} named[] = {LUTNIORAD_REFUSALS(NAMED)};
+
+/* What the window program alone gives is held by its cases: tests/program.c takes its number from the header. */
+static void hold_refusal(size_t i)
+{
+    bool has_call = named[i].number == LUTNIORAD_LEFT_OVER;
+    for (size_t k = 0; k < COUNT(refused); k++)
+        if (refused[k].refusal == named[i].number) {
+            begin();
+            hold(refused[k].call().refusal == LUTNIORAD_ANSWERED, named[i].name, "the call is refused unspoiled");
+            begin();
+            refused[k].spoil();
+            hold_answer(refused[k].call(), named[i].number, refused[k].place, 0, named[i].name);
+            has_call = true;
+        }
+    hold(has_call, named[i].name, "no call here is refused by it");
+}
+
+static void hold_sentence(size_t i)
+{
+    const char *name = named[i].name, *sentence = named[i].sentence;
+    hold(strcmp(sentence, lutniorad_sentence(named[i].number)) == 0, name, "it is said by another sentence");
+    hold(sentence[0] != '\0' && sentence[strlen(sentence) - 1] != '.', name, "its sentence is empty or ends in a stop");
+    hold(strcmp(sentence, lutniorad_sentence(LUTNIORAD_ANSWERED)) != 0, name, "it has the sentence of 0");
+    for (size_t k = 0; k < i; k++)
+        hold(strcmp(sentence, named[k].sentence) != 0, name, "another has its sentence");
+}
+
+static bool is_named(uint32_t number)
+{
+    for (size_t i = 0; i < COUNT(named); i++)
+        if (named[i].number == number)
+            return true;
+    return number == LUTNIORAD_ANSWERED;
+}
+
+static void hold_refusals(void)
+{
+    const char *none = lutniorad_sentence(UINT32_MAX);
+    for (size_t i = 0; i < COUNT(named); i++) {
+        hold_refusal(i);
+        hold_sentence(i);
+    }
+    for (uint32_t number = 0; number <= 300; number++)
+        hold((strcmp(lutniorad_sentence(number), none) == 0) != is_named(number), "lutniorad_sentence",
+             "a number without a name has a sentence of its own, or one with a name has none");
+}
+
+/* ---- Limits ---- */
+
+static even_map a;
+static uint16_t wide[LUTNIORAD_MOST_SIDE];
+static uint8_t bytes[LUTNIORAD_MOST_FILE_BYTES + 1];
+
+static lutniorad_answer check(uint32_t of_m, size_t q)
+{
+    return lutniorad_check(of_m, a.keys, q, a.classes, q);
+}
+
+static lutniorad_answer decompose(uint16_t h, uint16_t w)
+{
+    static uint32_t one[1];
+    return lutniorad_decompose(LUTNIORAD_MOST_M, 0, 0, h, w, one, 1);
+}
+
+static void hold_sizes(void)
+{
+    const uint16_t side = LUTNIORAD_MOST_SIDE;
+    make_even_map(&a, LUTNIORAD_MOST_M, 0, 1);
+    hold_answer(check(LUTNIORAD_MOST_M, 1), 0, 0, 1, "LUTNIORAD_MOST_M");
+    hold_answer(check(LUTNIORAD_MOST_M + 1, 1), LUTNIORAD_BAD_M, 0, 0, "LUTNIORAD_MOST_M");
+    hold_answer(decompose(side, side), 0, 0, 1, "LUTNIORAD_MOST_SIDE");
+    hold_answer(decompose(side + 1, 1), LUTNIORAD_BAD_WINDOW, 0, 0, "LUTNIORAD_MOST_SIDE");
+    hold_answer(decompose(1, side + 1), LUTNIORAD_BAD_WINDOW, 0, 0, "LUTNIORAD_MOST_SIDE");
+    hold_answer(lutniorad_exist(a.m, a.keys, 1, a.classes, 1, 0, 0, side, side, 1, wide, LUTNIORAD_MOST_SIDE), 0, 0,
+                LUTNIORAD_YES, "LUTNIORAD_MOST_SIDE");
+    begin();
+    hold_answer(lutniorad_month_clear(2, 0, 1, 3, 3, table, LUTNIORAD_MONTH_CELLS - 1), LUTNIORAD_SHORT_ROOM,
+                LUTNIORAD_MONTH_CELLS, 0, "LUTNIORAD_MONTH_CELLS");
+    for (uint32_t maps = 1; maps <= LUTNIORAD_MOST_MAPS; maps++)
+        hold_answer(add(), 0, 0, maps, "LUTNIORAD_MOST_MAPS");
+    hold_answer(add(), LUTNIORAD_MONTH_FULL, 0, 0, "LUTNIORAD_MOST_MAPS");
+}
+
+/* The longest map there is, as a map and as a file; and a buffer of a byte more, whatever its length field says. */
+static void hold_longest(void)
+{
+    const uint32_t q = LUTNIORAD_MOST_RECORDS, n = LUTNIORAD_MOST_FILE_BYTES;
+    make_even_map(&a, 8, 8, 1);
+    hold_answer(check(a.m, q), 0, 0, q, "LUTNIORAD_MOST_RECORDS");
+    hold_answer(check(a.m, (size_t)q + 1), LUTNIORAD_BAD_COUNT, 0, 0, "LUTNIORAD_MOST_RECORDS");
+    hold_answer(lutniorad_write(a.m, a.keys, q, a.classes, q, bytes, sizeof bytes), 0, 0, n,
+                "LUTNIORAD_MOST_FILE_BYTES");
+    hold_answer(lutniorad_read(bytes, n, a.keys, q, a.classes, q), 0, 0, a.m, "LUTNIORAD_MOST_FILE_BYTES");
+    hold_answer(lutniorad_read(bytes, sizeof bytes, a.keys, q, a.classes, q), LUTNIORAD_BAD_LAYOUT, 0, 0,
+                "LUTNIORAD_MOST_FILE_BYTES + 1");
+    bytes[0]++;
+    hold_answer(lutniorad_read(bytes, sizeof bytes, a.keys, q, a.classes, q), LUTNIORAD_BAD_LAYOUT, 8, 0,
+                "LUTNIORAD_MOST_FILE_BYTES + 1");
+}
+
+/* Of a picture of each class alone, asked for another that is seen. */
+static void hold_not_seen(void)
+{
+    for (int class = 0; class < LUTNIORAD_CLASSES; class++) {
+        make_even_map(&a, 0, 0, (uint8_t)class);
+        hold_answer(lutniorad_exist(0, a.keys, 1, a.classes, 1, 0, 0, 1, 1, class == 1 ? 2 : 1, wide, 1), 0, 0,
+                    class == LUTNIORAD_NOT_SEEN ? LUTNIORAD_CANNOT_TELL : LUTNIORAD_NO, "LUTNIORAD_NOT_SEEN");
+    }
+}
+
+static void hold_version(void)
+{
+    char version[40];
+    snprintf(version, sizeof version, "%d.%d.%d", LUTNIORAD_VERSION_MAJOR, LUTNIORAD_VERSION_MINOR,
+             LUTNIORAD_VERSION_PATCH);
+    hold(strcmp(version, LUTNIORAD_VERSION) == 0, "LUTNIORAD_VERSION", "it is not the three numbers");
+}
+
+/* ---- Room ---- */
+
+/* The size of an array each, so each is a constant where its arguments are. The largest picture fits. */
+enum { SIDE = LUTNIORAD_MOST_SIDE };
+static uint32_t blocks[LUTNIORAD_DECOMPOSE_CELLS(SIDE, SIDE)];
+static uint32_t openings[LUTNIORAD_OPEN_CELLS(SIDE, SIDE)];
+static uint32_t selected[LUTNIORAD_SELECT_CELLS(LUTNIORAD_MOST_RECORDS, SIDE, SIDE)];
+
+static void hold_arguments(void)
+{
+    int q = 1, h = 2, w = 3;
+    hold(2 * LUTNIORAD_DECOMPOSE_CELLS(h++, w++) == 40, "LUTNIORAD_DECOMPOSE_CELLS", "of 2 and 3 it is not 20");
+    hold(2 * LUTNIORAD_OPEN_CELLS(h++, w++) == 168, "LUTNIORAD_OPEN_CELLS", "of 3 and 4 it is not 84");
+    hold(2 * LUTNIORAD_SELECT_CELLS(q++, h++, w++) == 74, "LUTNIORAD_SELECT_CELLS", "of 1, 4 and 5 it is not 37");
+    hold(2 * LUTNIORAD_FILE_BYTES(q++) == 60, "LUTNIORAD_FILE_BYTES", "of 2 it is not 30");
+    hold(q == 3 && h == 5 && w == 6, "room", "an argument is not taken once");
+}
+
+/*
+ * On a map of pixels each maximal block is an opening, and each pixel of the window is selected; on one of a single
+ * record each maximal block is selected.
+ */
+static void hold_room(uint16_t row, uint16_t col, uint16_t h, uint16_t w)
+{
+    size_t most = LUTNIORAD_DECOMPOSE_CELLS(h, w);
+    lutniorad_answer cut = lutniorad_decompose(a.m, row, col, h, w, blocks, most);
+    lutniorad_answer opened = lutniorad_open(a.m, a.keys, a.q, a.classes, a.q, row, col, h, w, wide, w, openings,
+                                             LUTNIORAD_OPEN_CELLS(h, w));
+    lutniorad_answer listed = lutniorad_select(a.m, a.keys, a.q, a.classes, a.q, row, col, h, w, 1, wide, w, selected,
+                                               LUTNIORAD_SELECT_CELLS(a.q, h, w));
+    hold(cut.refusal == 0 && cut.first < most, "LUTNIORAD_DECOMPOSE_CELLS", "it is not enough");
+    hold(opened.refusal == 0 && 3 * opened.first < LUTNIORAD_OPEN_CELLS(h, w), "LUTNIORAD_OPEN_CELLS",
+         "it is not enough");
+    hold(listed.refusal == 0 && listed.first < LUTNIORAD_SELECT_CELLS(a.q, h, w), "LUTNIORAD_SELECT_CELLS",
+         "it is not enough");
+}
+
+static void hold_room_of_every_window(uint32_t of_m, uint32_t level)
+{
+    uint16_t side = (uint16_t)(1 << of_m);
+    make_even_map(&a, of_m, level, 1);
+    hold_answer(lutniorad_write(a.m, a.keys, a.q, a.classes, a.q, bytes, LUTNIORAD_FILE_BYTES(a.q)), 0, 0,
+                (uint32_t)LUTNIORAD_FILE_BYTES(a.q), "LUTNIORAD_FILE_BYTES");
+    for (uint16_t row = 0; row < side; row++)
+        for (uint16_t col = 0; col < side; col++)
+            for (uint16_t h = 1; row + h <= side; h++)
+                for (uint16_t w = 1; col + w <= side; w++)
+                    hold_room(row, col, h, w);
+}
+
+/* Strips about the middle of a large picture, and all of it but its edge, have nearly as many blocks as can be. */
+static void hold_room_of_large_windows(uint32_t of_m, uint32_t level)
+{
+    uint16_t side = (uint16_t)(1 << of_m), most = (uint16_t)(side - 2);
+    make_even_map(&a, of_m, level, 1);
+    for (uint16_t half = 1; half <= 16; half++) {
+        uint16_t from = (uint16_t)(side / 2 - half), twice = (uint16_t)(2 * half);
+        hold_room(from, 1, twice, most);
+        hold_room(1, from, most, twice);
+        hold_room(half, half, (uint16_t)(side - twice), (uint16_t)(side - twice));
+    }
+}
+
+int main(void)
+{
+    hold_refusals();
+    hold_sizes();
+    hold_longest();
+    hold_not_seen();
+    hold_version();
+    hold_arguments();
+    for (uint32_t of_m = 0; of_m <= 4; of_m++)
+        for (uint32_t level = 0; level <= of_m; level++)
+            hold_room_of_every_window(of_m, level);
+    hold_room_of_large_windows(8, 8);
+    hold_room_of_large_windows(LUTNIORAD_MOST_M, 0);
+    hold_room_of_large_windows(LUTNIORAD_MOST_M, 8);
+    return wrong > 0;
+}

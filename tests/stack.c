@@ -1,0 +1,178 @@
+/*
+ * How deep the stack grows in the first call of a process, and in the next, of every operation.
+ *
+ *     stack         no call may take more than MOST_STACK bytes
+ *     stack lazy    the first may take MOST_BOUND
+ *
+ * The library calls memset and memcpy. Where they come from a shared C library and are bound late, the loader does that
+ * inside the first call that needs them, on its stack. So each call that is looked at has a process of its own, and
+ * nothing here calls the two before: tests/parts/stack.sh sees to that.
+ */
+#define _DEFAULT_SOURCE /* beyond C99, memory from mmap without a file */
+
+#include "even.h"
+#include "harness.h"
+#include "painted.h"
+
+#include <stdio.h>
+#include <string.h>
+#include <sys/mman.h>
+#include <sys/wait.h>
+#include <unistd.h>
+
+/* What the loader needs hangs on its version and on how many registers the processor has, which it keeps meanwhile. */
+enum { MOST_BOUND = 20000 };
+
+/* ---- The calls ---- */
+
+static even_map a;
+static window at;
+static lutniorad_answer answer;
+
+static uint16_t border[LUTNIORAD_MOST_SIDE];
+static uint32_t out[LUTNIORAD_OPEN_CELLS(LUTNIORAD_MOST_SIDE, LUTNIORAD_MOST_SIDE)];
+static uint64_t table[LUTNIORAD_MONTH_CELLS];
+static uint8_t file[LUTNIORAD_MOST_FILE_BYTES];
+static const uint8_t file_of_one[] = {25, 0, 0, 0, 2, 0, 0, 0, 1, 0, 0, 0, 20, 0, 0, 0, 24, 0, 0, 0, 0, 0, 0, 0, 1};
+
+static void run_check(void)
+{
+    answer = lutniorad_check(a.m, a.keys, a.q, a.classes, a.q);
+}
+
+static void run_decompose(void)
+{
+    answer = lutniorad_decompose(a.m, at.r0, at.c0, at.h, at.w, out, COUNT(out));
+}
+
+static void run_open(void)
+{
+    answer = lutniorad_open(a.m, a.keys, a.q, a.classes, a.q, at.r0, at.c0, at.h, at.w, border, COUNT(border), out,
+                            COUNT(out));
+}
+
+static void run_exist(void)
+{
+    answer = lutniorad_exist(a.m, a.keys, a.q, a.classes, a.q, at.r0, at.c0, at.h, at.w, 2, border, COUNT(border));
+}
+
+static void run_report(void)
+{
+    answer = lutniorad_report(a.m, a.keys, a.q, a.classes, a.q, at.r0, at.c0, at.h, at.w, border, COUNT(border), out,
+                              COUNT(out));
+}
+
+static void run_select(void)
+{
+    answer = lutniorad_select(a.m, a.keys, a.q, a.classes, a.q, at.r0, at.c0, at.h, at.w, 1, border, COUNT(border),
+                              out, COUNT(out));
+}
+
+static void run_month_clear(void)
+{
+    answer = lutniorad_month_clear(a.m, at.r0, at.c0, at.h, at.w, table, COUNT(table));
+}
+
+static void run_month_add(void)
+{
+    answer = lutniorad_month_add(a.m, a.keys, a.q, a.classes, a.q, border, COUNT(border), table, COUNT(table));
+}
+
+static void run_read(void)
+{
+    answer = lutniorad_read(file_of_one, sizeof file_of_one, a.keys, COUNT(a.keys), a.classes, COUNT(a.classes));
+}
+
+static void run_write(void)
+{
+    answer = lutniorad_write(a.m, a.keys, a.q, a.classes, a.q, file, sizeof file);
+}
+
+static const struct {
+    const char *name;
+    void (*run)(void);
+} calls[] = {
+    {"check", run_check},
+    {"decompose", run_decompose},
+    {"open", run_open},
+    {"exist", run_exist},
+    {"report", run_report},
+    {"select", run_select},
+    {"month_clear", run_month_clear},
+    {"month_add", run_month_add},
+    {"read", run_read},
+    {"write", run_write},
+};
+
+/* ---- The depths ---- */
+
+/* Of the last process: how deep its two calls went. */
+static struct {
+    size_t first, next;
+} *seen;
+
+/* A byte that is left as the paint is, by chance, is not so with the other paint. */
+static void call_twice(void (*run)(void), int color)
+{
+    static unsigned char paint[PAINTED];
+    for (size_t i = 0; i < PAINTED; i++)
+        paint[i] = (unsigned char)color;
+    seen->first = run_painted(run, paint);
+    seen->next = answer.refusal == 0 ? run_painted(run, paint) : PAINTED;
+}
+
+static void look(void (*run)(void), size_t *first, size_t *next)
+{
+    static const int colors[] = {0x5A, 0xA5};
+    for (size_t i = 0; i < COUNT(colors); i++) {
+        int status = 1;
+        pid_t child = fork();
+        if (child == 0) {
+            call_twice(run, colors[i]);
+            _exit(0);
+        }
+        if (waitpid(child, &status, 0) != child || status != 0)
+            seen->first = PAINTED;
+        *first = seen->first > *first ? seen->first : *first;
+        *next = seen->next > *next ? seen->next : *next;
+    }
+}
+
+/* A month of no map, made without a call. */
+static void begin_month(void)
+{
+    table[TABLE_M] = a.m;
+    table[TABLE_R0] = at.r0;
+    table[TABLE_C0] = at.c0;
+    table[TABLE_H] = at.h;
+    table[TABLE_W] = at.w;
+}
+
+/* On the longest maps and on one record, a strip across the middle of the picture and all of it but its edge. */
+static bool hold_depth(size_t i, size_t most_of_first)
+{
+    size_t first = 0, next = 0;
+    for (uint32_t kind = 0; kind < 3; kind++) {
+        make_even_map(&a, kind == 0 ? 8 : 12, kind == 1 ? 0 : 8, 1);
+        uint16_t side = (uint16_t)(1 << a.m), most = (uint16_t)(side - 2);
+        const window windows[] = {{(uint16_t)(side / 2 - 7), 1, 14, most}, {1, 1, most, most}};
+        for (size_t k = 0; k < COUNT(windows); k++) {
+            at = windows[k];
+            begin_month();
+            look(calls[i].run, &first, &next);
+        }
+    }
+    printf("stack of %s: at most %zu bytes in the first call, %zu in the next\n", calls[i].name, first, next);
+    return first <= most_of_first && next <= MOST_STACK;
+}
+
+int main(int argc, char **argv)
+{
+    bool lazy = argc == 2 && strcmp(argv[1], "lazy") == 0, holds = true;
+    seen = mmap(NULL, sizeof *seen, PROT_READ | PROT_WRITE, MAP_SHARED | MAP_ANONYMOUS, -1, 0);
+    if (seen == MAP_FAILED)
+        return 2;
+    for (size_t i = 0; i < COUNT(calls); i++)
+        holds = hold_depth(i, lazy ? MOST_BOUND : MOST_STACK) && holds;
+    return !holds;
+}
