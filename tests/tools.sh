@@ -1,5 +1,6 @@
 # shellcheck shell=sh disable=SC2034 # the variables are for those that read this
-# What tests/run, tests/program/make, bench/run and 'make demo' have in common. They read it in the root of the repository.
+# What tests/run, tests/program/make, bench/run and the Makefile have in common. They read it in the root of the
+# repository.
 
 built=target/tests
 strict='-Wall -Wextra -pedantic -Werror'
@@ -7,11 +8,11 @@ strict='-Wall -Wextra -pedantic -Werror'
 # The library and the window program are for x86-64. On another machine a cross compiler builds what the library is
 # linked to, and an emulator runs that and the program. The program has no C library in it and takes the compiler's.
 if [ "$(uname -m)" = x86_64 ]; then
-    cc=gcc nm=nm emulator=
+    cc=gcc cxx=g++ nm=nm emulator=
     to_build=nm:binutils to_run=
 else
     libraries=/usr/x86_64-linux-gnu
-    cc=x86_64-linux-gnu-gcc nm=x86_64-linux-gnu-nm emulator="qemu-x86_64 -L $libraries"
+    cc=x86_64-linux-gnu-gcc cxx=x86_64-linux-gnu-g++ nm=x86_64-linux-gnu-nm emulator="qemu-x86_64 -L $libraries"
     to_build="$cc:gcc-x86-64-linux-gnu,libc6-dev-amd64-cross $nm:binutils-x86-64-linux-gnu"
     to_run="qemu-x86_64:qemu-user $libraries/lib/ld-linux-x86-64.so.2:libc6-amd64-cross"
 fi
@@ -30,6 +31,21 @@ need() {
         && return 0
     printf '%s\ncannot install%s\n' "$said" "$missing" >&2
     return 1
+}
+
+# Runs rt, and says of each crate when it is proved. All that rt says is in target/rt.out, and shown where rt fails.
+proving() { # RT-ARGUMENT...
+    echo "rt $* (what is proved already is not proved again)"
+    mkdir -p target && echo 1 >target/rt.status || return 1 # stays where rt is killed
+    { rt "$@" 2>&1; echo $? >target/rt.status; } | tee target/rt.out | while IFS= read -r line; do
+        case $line in
+        *'(unchanged since it was last proved)') ;;
+        'rt: '*' proved ('*) printf '%s\n' "${line#rt: }" ;;
+        esac
+    done
+    ended=$(cat target/rt.status)
+    [ "$ended" = 0 ] || cat target/rt.out >&2
+    return "$ended"
 }
 
 # For this machine, without the library. Of brute force on large windows speed counts.
@@ -54,7 +70,7 @@ window_program=target/bin/window_program
 
 build_window_program() {
     [ -x "$window_program" ] || rm -f target/stamp/window_program # else rt, which proved it, does not link it again
-    rt check window_program && return 0
+    proving check window_program && return 0
     rm -f "$window_program" # so that no older one is run
     return 1
 }
