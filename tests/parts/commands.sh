@@ -6,6 +6,8 @@
 # block, are what it prints, on both outputs. The commands of a block go to one shell, in the root of the repository.
 # Each ends with status 0, or 'echo $?' follows and says with which. What make prints is not looked at.
 
+need pkg-config:pkg-config || exit 2
+
 # The commands that are not run, and why.
 cat >"$files/not-run" <<'END'
 make lib: tests/run has just done that
@@ -14,6 +16,7 @@ make bench: it takes minutes
 make check: it may take minutes
 make format: it may change the repository
 make statement: it may change the repository
+make clean: it removes what is run here
 END
 
 # What stands before the commands of each block. What they build is for x86-64 on every machine.
