@@ -13,4 +13,11 @@ stands_alone() {
     return 1
 }
 
+# It remembers nothing from one call to the next: no part of it can be written.
+keeps_nothing() {
+    readelf -S -W "$archive" >"$files/sections" && grep -q ' AX ' "$files/sections" || return 1
+    ! grep -E ' WAX? ' "$files/sections"
+}
+
 step 'the archive asks for memcpy and memset and nothing else' stands_alone
+step 'the archive has no memory of its own' keeps_nothing
