@@ -139,24 +139,24 @@ typedef struct {
 } lutniorad_answer;
 
 /*
- * The reasons of refusal: a name, the number and a sentence, and behind these what `place` is, where it is not 0.
- * Each call says which of them it gives, in its order. The first that holds is the answer. 10 is given by the window
- * program alone, which prints `R`, number and place.
+ * The reasons of refusal: a name, the number and a sentence, and behind these what `place` is, where it is not 0; an
+ * index is that of the record. Each call says which of them it gives, in its order. The first that holds is the answer.
+ * 10 is given by the window program alone, which prints `R`, number and place.
  */
 #define LUTNIORAD_REFUSALS(REFUSAL) \
     REFUSAL(LUTNIORAD_BAD_M, 1, "m is over 12") \
     REFUSAL(LUTNIORAD_BAD_COUNT, 2, "keys and classes differ in number, or there are none or more than 65,536") \
-    REFUSAL(LUTNIORAD_BAD_KEY, 3, "the key of a record names no block") /* index of the record, from 0 */ \
-    REFUSAL(LUTNIORAD_OVERLAP, 4, "a record starts before the last one ended") /* index of the record, from 0 */ \
-    REFUSAL(LUTNIORAD_GAP, 5, "there are pixels that no record covers") /* index of the record behind them, or Q */ \
+    REFUSAL(LUTNIORAD_BAD_KEY, 3, "the key of a record names no block") /* index, from 0 */ \
+    REFUSAL(LUTNIORAD_OVERLAP, 4, "a record starts before the last one ended") /* index, from 0 */ \
+    REFUSAL(LUTNIORAD_GAP, 5, "a record starts after the last one ended, or the list ends early") /* index, or Q */ \
     REFUSAL(LUTNIORAD_BAD_WINDOW, 6, "the window is empty or not inside the picture") \
-    REFUSAL(LUTNIORAD_SHORT_BORDER, 7, "the border has fewer cells than the window columns") /* w */ \
+    REFUSAL(LUTNIORAD_SHORT_BORDER, 7, "the border has fewer cells than the window has columns") /* w */ \
     REFUSAL(LUTNIORAD_SHORT_ROOM, 8, "a slice that would be written is too short") /* cells needed */ \
     REFUSAL(LUTNIORAD_BAD_LAYOUT, 9, "the layout of the file is wrong") /* offset of the header field */ \
     REFUSAL(LUTNIORAD_LEFT_OVER, 10, "bytes are left over behind the last window") /* how many */ \
     REFUSAL(LUTNIORAD_OTHER_M, 15, "the m of the map is not that of the table") \
     REFUSAL(LUTNIORAD_MONTH_FULL, 16, "the table has 1,000 maps already") \
-    REFUSAL(LUTNIORAD_BAD_TABLE, 26, "no month has such a table: its window, its count of maps or a sum is impossible")
+    REFUSAL(LUTNIORAD_BAD_TABLE, 26, "the table is no month's: its window, count of maps or a class cannot be")
 
 enum {
 #define LUTNIORAD_NAMED(name, number, sentence) name = number,

@@ -250,7 +250,8 @@ step 'acquire knows a wrong count as no house file' no_house_file \
     'refused 2 at 0: keys and classes differ in number, or there are none or more than 65,536' empty
 step 'acquire knows a wrong key as a broken map' broken_map "$bad_key" keyless
 step 'acquire knows an overlap as a broken map' broken_map "$overlap" twice
-step 'acquire knows a gap as a broken map' broken_map 'refused 5 at 0: there are pixels that no record covers' behind
+step 'acquire knows a gap as a broken map' \
+    broken_map 'refused 5 at 0: a record starts after the last one ended, or the list ends early' behind
 step 'acquire does not take a smaller picture' \
     not_taken 'pixel: a picture of m 0, and the windows are drawn for m 5' pixel
 step 'acquire does not take a larger picture, in which its windows lie too' \
@@ -260,7 +261,7 @@ step 'acquire sees that a file cannot be read' not_taken 'folder: cannot be read
 step 'acquire knows a window that sticks out as its own fault' \
     wrong_program "$bad_window" '{6, 4, 8, 14}' '{6, 4, 27, 14}'
 step 'acquire knows a short border as its own fault' wrong_program \
-    'refused 7 at 14: the border has fewer cells than the window columns' LUTNIORAD_MOST_SIDE 13
+    'refused 7 at 14: the border has fewer cells than the window has columns' LUTNIORAD_MOST_SIDE 13
 step 'acquire knows short totals as its own fault' wrong_program \
     'refused 8 at 256: a slice that would be written is too short' 'totals, LUTNIORAD_CLASSES' 'totals, 255'
 step 'acquire sees that no file is named' example_says '' 'usage: acquire FILE..., house files' 2 acquire
