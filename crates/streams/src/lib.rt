@@ -6,7 +6,7 @@ ghost use Rattle.io.specs.Counts.{Counts};
 ghost use Rattle.streams.specs.Streams.{passing, linesIn, pieceOf};
 
 // How often a call is made again: some seconds, where the descriptor does not wait by itself.
-const PATIENCE: u32 = 10000000;
+const PATIENCE: u32 = 10_000_000;
 
 // So many bytes or fewer, written at once, a pipe takes all together or not at all.
 const PIPE_BUF: usize = 4096;
