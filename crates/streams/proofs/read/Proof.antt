@@ -1,4 +1,4 @@
--- `streams::read` meets its contract.
+-- `streams::read` meets its contract. The measure is how often the call may still be made.
 -- Assumes nothing.
 use mathlib.Core.Path.{_≡_}
 use lib.ListN.{length}

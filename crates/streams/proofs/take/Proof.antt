@@ -1,13 +1,13 @@
--- `streams::take` meets its contract.
+-- `streams::take` meets its contract: each read fills some of what is left of the slice.
 -- Assumes nothing.
 use mathlib.Core.Path.{_≡_, refl, sym, _∙_}
 use mathlib.Core.List.{List}
 use Prim.Native.Nat.{ℕ, _+_, _-_, _≤_}
 use native.Mathlib.Omega.{arith}
-use lib.ListN.{length, take, drop}
+use lib.ListN.{length}
 use lib.Seq.{length-take-le}
 use borrow.Author.Needs.{needs}
-use borrow.Rule.Slice.PartMut.{midOf, putMid, same-len-mid, mid-len}
+use borrow.Rule.Slice.PartMut.{putMid, same-len-mid, mid-len}
 use Rattle.io.specs.Counts.{Counts}
 use Rattle.streams.proofs.take.Statement.{statement}
 use Rattle.streams.proofs.take.Tie as tie

@@ -1,9 +1,8 @@
--- `streams::whole_lines` meets its contract.
+-- `streams::whole_lines` meets its contract: behind the byte it has come to there is no end of a line.
 -- Assumes nothing.
 use mathlib.Core.Path.{_≡_, refl, sym, _∙_}
-use Prim.Native.Nat.{ℕ, zero, suc, _-_, _≤_}
+use Prim.Native.Nat.{_≤_}
 use native.Mathlib.Omega.{arith}
-use lib.ListN.{length, getD}
 use borrow.Author.Needs.{needs}
 use Rattle.streams.specs.Streams.{linesIn}
 use Rattle.streams.proofs.Pieces.{lines-none, lines-ended, lines-before}

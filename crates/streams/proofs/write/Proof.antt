@@ -1,4 +1,4 @@
--- `streams::write` meets its contract.
+-- `streams::write` meets its contract. The measure is how often the call may still be made.
 -- Assumes nothing.
 use borrow.Author.Needs.{needs}
 use Rattle.streams.proofs.write.Statement.{statement}
