@@ -1,5 +1,5 @@
 # From the figures of bench/README.md: a line "operation | map | window | instructions of the library" for each cell of
-# the first two tables.
+# the first two tables; and of the third, two such lines for each key, with the instructions and with the divisions.
 function cell(operation, map, window, count) { print operation " | " map " | " window " | " count }
 
 BEGIN { FS = "|" }
@@ -8,7 +8,9 @@ BEGIN { FS = "|" }
 
 $2 == "operation" { table = 1; next }
 $2 == "map" { table = 2; next }
+$2 == "key" { table = 3; next }
 NF < 2 { table = 0 }
 $2 ~ /^:-/ { next }
 table == 1 { cell($2, $3, $4, $5) }
 table == 2 { cell("month_add, first map", $2, $3, $5); cell("month_add, next map", $2, $3, $10) }
+table == 3 { cell("check, a key is read", $2, "", $3); cell("divisions, a key is read", $2, "", $8) }

@@ -1,12 +1,14 @@
 /*
  * The instructions of the library's operations, beside those of the programs in programs.h: tables over maps and
- * windows, what they say in short, how the operations grow, and the experiment with random windows.
+ * windows, what reading a key takes, what they say in short, how the operations grow, and the experiment with random
+ * windows.
  *
  *     bench FILE-OF-COUNTS FILE-OF-BEFORE PLOT
  */
 #include "cells.h"
 #include "experiment.h"
 #include "growth.h"
+#include "reading.h"
 #include "summary.h"
 
 #include <inttypes.h>
@@ -144,6 +146,7 @@ int main(int argc, char **argv)
     read_before(argv[2]);
     print_table();
     print_months();
+    print_reading();
     print_summaries(cells, n_cells);
     print_against_before(cells, n_cells);
     print_wanted(cells, n_cells);

@@ -23,8 +23,8 @@ void name_cell(const cell *c, char name[LONGEST_NAME])
 
 /* ---- What it took before ---- */
 
-enum { LONGEST_LINE = 100 };
-static char lines[MOST_CELLS][LONGEST_LINE];
+enum { LONGEST_LINE = 100, MOST_LINES = MOST_CELLS + 100 };
+static char lines[MOST_LINES][LONGEST_LINE];
 static int n_lines;
 
 void read_before(const char *file)
@@ -32,22 +32,28 @@ void read_before(const char *file)
     FILE *from = fopen(file, "r");
     if (from == NULL)
         wrong("it cannot be read what the cells took before", file);
-    while (n_lines < MOST_CELLS && fgets(lines[n_lines], LONGEST_LINE, from) != NULL)
+    while (n_lines < MOST_LINES && fgets(lines[n_lines], LONGEST_LINE, from) != NULL)
         n_lines++;
     fclose(from);
 }
 
-static int64_t before(const cell *c)
+int64_t told_before(const char *operation, const char *on, const char *window)
 {
     char start[LONGEST_LINE];
     int64_t count;
-    snprintf(start, sizeof start, "%s | %s | %s | ", operation_names[c->operation], map_name(c), window_name(c));
+    snprintf(start, sizeof start, "%s | %s | %s | ", operation, on, window);
     for (int i = 0; i < n_lines; i++)
         if (strncmp(lines[i], start, strlen(start)) == 0 && sscanf(lines[i] + strlen(start), "%" SCNd64, &count) == 1)
             return count;
-    if (c->operation < ADD_FIRST)
-        wrong("it is not told what a cell took before", start);
-    return 0;
+    return -1;
+}
+
+static int64_t before(const cell *c, const char *where)
+{
+    int64_t count = told_before(operation_names[c->operation], map_name(c), window_name(c));
+    if (count < 0 && c->operation < ADD_FIRST)
+        wrong("it is not told what a cell took before", where);
+    return count < 0 ? 0 : count;
 }
 
 /* ---- What it takes ---- */
@@ -136,7 +142,7 @@ cell measure_cell(int operation, const map *a, int map_number, int window_number
     }
     c.library = r.instructions;
     c.plain = measure_same(&plain, operation, a, at, &r, where);
-    c.before = before(&c);
+    c.before = before(&c, where);
     if (adds)
         return c;
     c.fastest = measure_same(&fastest, operation, a, at, &r, where);

@@ -17,8 +17,12 @@ typedef struct {
     int64_t past_library, past_plain;
 } cell;
 
-/* Reads what each cell took before: a file with a line "operation | map | window | instructions" for each. */
+/* Reads what each cell took before: a file with a line "operation | map | window | instructions" for each. In lines of
+ * the same form it has what reading a key took. */
 void read_before(const char *file);
+
+/* What such a line says; -1 where there is none. */
+int64_t told_before(const char *operation, const char *on, const char *window);
 
 /* The map is that of the number. */
 cell measure_cell(int operation, const map *a, int map_number, int window_number);

@@ -89,41 +89,52 @@ void begin_measuring(const char *file)
         wrong("there are no counts: run this under the plugin", file);
 }
 
-static int64_t next_count(void)
+static counted next_counts(void)
 {
-    int64_t count;
-    if (read(counts, &count, sizeof count) != (ssize_t)sizeof count)
-        wrong("the plugin leaves no count", "measure");
-    return count;
+    counted so_far;
+    if (read(counts, &so_far, sizeof so_far) != (ssize_t)sizeof so_far)
+        wrong("the plugin leaves no counts", "measure");
+    return so_far;
+}
+
+static counted minus(counted x, counted y)
+{
+    counted difference = {x.instructions - y.instructions, x.divisions - y.divisions};
+    return difference;
 }
 
 /*
  * The counts are read after the second mark, so that nothing but the call stands between the two. The anchor holds the
  * stack at a multiple of 64 bytes: what copying takes, from and to the stack, would else hang on the environment.
+ * Inlined, so that with NOTHING the marks stand alone.
  */
-static int64_t marked(const program *p, int operation, const map *a, rectangle at, result *r)
+__attribute__((always_inline)) static inline counted marked(const program *p, int operation, const map *a, rectangle at,
+                                                            result *r)
 {
     char anchor[64] __attribute__((aligned(64)));
-    int64_t before;
+    counted before;
     __asm__ volatile("" : : "r"(anchor) : "memory");
     syscall(MARK);
     r->answer = call(p, operation, a, at, r);
     syscall(MARK);
-    before = next_count();
-    return next_count() - before;
+    before = next_counts();
+    return minus(next_counts(), before);
 }
 
 void measure(const program *p, int operation, const map *a, rectangle at, result *r)
 {
-    static int64_t around; /* the marks, and the way to the call */
-    if (around == 0)
+    static counted around; /* the marks */
+    counted took;
+    if (around.instructions == 0)
         around = marked(p, NOTHING, a, at, r);
     memset(r->border, 0xA5, sizeof r->border);
     memset(r->out, 0xA5, sizeof r->out);
     memset(r->bytes, 0xA5, sizeof r->bytes);
     lutniorad_write(a->m, a->keys, a->q, a->classes, a->q, map_file, sizeof map_file);
     make_month(r->table, a->m, at, operation == ADD_NEXT);
-    r->instructions = marked(p, operation, a, at, r) - around;
+    took = minus(marked(p, operation, a, at, r), around);
+    r->instructions = took.instructions;
+    r->divisions = took.divisions;
 }
 
 static bool same_answers(const result *x, const result *y)

@@ -1,4 +1,4 @@
-/* Calls of the programs, with the instructions that they take. */
+/* Calls of the programs, with the instructions that they take, and the divisions among them. */
 #ifndef MEASURE_H
 #define MEASURE_H
 
@@ -33,7 +33,7 @@ bool checks_first(int operation);
 enum { CELLS = 4096, ROOM = 12 * (4096 + 4096) };
 
 typedef struct {
-    int64_t instructions;
+    int64_t instructions, divisions;
     lutniorad_answer answer;
     uint16_t border[CELLS];
     uint32_t out[ROOM];

@@ -103,23 +103,90 @@ static inline uint32_t pixels(uint32_t exponent)
     return (uint32_t)1 << 2 * exponent;
 }
 
+/* A key without the zeros that it ends in, and how many they are. */
+typedef struct {
+    uint32_t rest, zeros;
+} stripped;
+
+/* Does a power of 5 divide a key? If so, that is the key without as many zeros. */
+static inline bool strip(uint32_t key, uint32_t power, uint32_t *rest)
+{
+    *rest = key / power;
+    return *rest * power == key;
+}
+
+/* Without all its zeros but at most two. The key is not 0 and has at most 12 digits. */
+static inline stripped strip_most(uint32_t key)
+{
+    uint32_t rest;
+    if (strip(key, 48828125, &rest))
+        return (stripped){rest, 11};
+    if (strip(key, 390625, &rest))
+        return (stripped){rest, 8};
+    if (strip(key, 3125, &rest))
+        return (stripped){rest, 5};
+    if (strip(key, 25, &rest))
+        return (stripped){rest, 2};
+    return (stripped){key, 0};
+}
+
+/* Without all of them. */
+static inline stripped strip_zeros(uint32_t key)
+{
+    stripped most = strip_most(key);
+    uint32_t rest;
+    if (most.rest < 5)
+        return most;
+    if (strip(most.rest, 25, &rest))
+        return (stripped){rest, most.zeros + 2};
+    if (strip(most.rest, 5, &rest))
+        return (stripped){rest, most.zeros + 1};
+    return most;
+}
+
+/* What two digits a and b from 1 to 4 are worth, at 5a + b: 4(a - 1) + b - 1. At all other places: none. */
+enum { NO_PAIR = 16 };
+static const uint8_t pairs[25] = {
+    16, 16, 16, 16, 16, /* a = 0 */
+    16, 0,  1,  2,  3,  /* a = 1 */
+    16, 4,  5,  6,  7,  /* a = 2 */
+    16, 8,  9,  10, 11, /* a = 3 */
+    16, 12, 13, 14, 15, /* a = 4 */
+};
+
+/* The start of a key that is not 0; false where it has not m digits, those before its zeros from 1 to 4. */
+static inline bool read_digits(uint32_t m, stripped bare, uint32_t *start)
+{
+    uint32_t rest = bare.rest, k = bare.zeros, sum = 0;
+    while (rest >= 25) {
+        uint32_t pair = pairs[rest % 25];
+        if (pair == NO_PAIR)
+            return false;
+        sum += pair << 2 * k;
+        rest /= 25;
+        k += 2;
+    }
+    if (rest < 5) {
+        *start = sum + ((rest - 1) << 2 * k);
+        return k + 1 == m;
+    }
+    *start = sum + ((uint32_t)pairs[rest] << 2 * k);
+    return pairs[rest] != NO_PAIR && k + 2 == m;
+}
+
 /* Exponent and start of a key; false where it is malformed. */
 static inline bool read_key(uint32_t m, uint32_t key, uint32_t *exponent, uint32_t *start)
 {
-    uint32_t p = pow5(m), k = m, rest = key, sum = 0;
-    if (key >= p)
+    stripped bare;
+    *exponent = m;
+    *start = 0;
+    if (key == 0)
+        return true;
+    if (key >= 244140625)
         return false;
-    while (rest != 0) {
-        k--;
-        p /= 5;
-        if (rest < p)
-            return false;
-        sum += (rest / p - 1) * pixels(k);
-        rest %= p;
-    }
-    *exponent = k;
-    *start = sum;
-    return true;
+    bare = strip_zeros(key);
+    *exponent = bare.zeros;
+    return read_digits(m, bare, start);
 }
 
 static inline uint32_t alignment(uint32_t m, uint32_t x)

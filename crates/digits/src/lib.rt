@@ -1,59 +1,180 @@
 // The digits of keys: reading one, and how far a block reaches around another. As in the crate `blocks`, m is at most 12.
 use key::Form;
+use key::Stripped;
 ghost use mathlib.Core.Path.{_≡_};
-ghost use Prim.Native.Nat.{_≤_};
+ghost use mathlib.Core.Bool.{cond};
+ghost use Prim.Native.Nat.{_*_, _^_, _≤_, _<_};
+ghost use lib.Dec.{eqb};
 ghost use Rattle.key.specs.Spread.{spreads};
+ghost use Rattle.key.specs.declared.Form.the-variants.{Block, Malformed};
 ghost use Rattle.key.specs.Form.{formOf};
+ghost use Rattle.key.specs.Reading.{Strips, placeOr16, pairsTable};
 ghost use Rattle.key.specs.Blocks.{BelowBlock, Reaches};
-ghost use Rattle.key.specs.Power.{Power};
 
-// The powers of 5 up to 5^12.
-const FIVES: [u32; 13] = [
+// Two digits, for each number below 25: the place of the pixel of that key among 16, or 16 where one of them is 0.
+const PAIRS: [u8; 25] = [
+    16,
+    16,
+    16,
+    16,
+    16,
+    16,
+    0,
     1,
+    2,
+    3,
+    16,
+    4,
     5,
-    25,
-    125,
-    625,
-    3125,
-    15625,
-    78125,
-    390625,
-    1953125,
-    9765625,
-    48828125,
-    244140625,
+    6,
+    7,
+    16,
+    8,
+    9,
+    10,
+    11,
+    16,
+    12,
+    13,
+    14,
+    15,
 ];
 
-// The number behind the last key, 5^m. Whoever reads one key has no table of E.
-fn end_of_keys(m: u32) -> u32
-    requires { ⌜ m ≤ 12 ⌝ }
-    ensures { λ r. ⌜ Power 5 m r ⌝ }
+fn pairs_table() -> [u8; 25]
+    ensures { λ r. ⌜ r ≡ pairsTable ⌝ }
 {
-    FIVES[m as usize]
+    PAIRS
 }
 
-// Reads the digits from the most significant on. k digits are left, as `rest`, below p = 5^k; the block lies in the 4^k places from `start` on.
+// A number without most of the zeros that it ends in, by 5^11, 5^8, 5^5 or 5^2: at most two are left.
+fn strip_most(key: u32) -> Stripped
+    requires { ⌜ (1 ≤ key) × (key < 5 ^ 12) ⌝ }
+    ensures { λ r. ⌜ Strips 3 key (r .zeros) (r .rest) ⌝ }
+{
+    let eleven = key / 48828125;
+    if eleven * 48828125 == key {
+        return Stripped {
+            rest: eleven,
+            zeros: 11,
+        };
+    }
+    let eight = key / 390625;
+    if eight * 390625 == key {
+        return Stripped {
+            rest: eight,
+            zeros: 8,
+        };
+    }
+    let five = key / 3125;
+    if five * 3125 == key {
+        return Stripped {
+            rest: five,
+            zeros: 5,
+        };
+    }
+    let two = key / 25;
+    if two * 25 == key {
+        return Stripped {
+            rest: two,
+            zeros: 2,
+        };
+    }
+    Stripped {
+        rest: key,
+        zeros: 0,
+    }
+}
+
+// A number without the zeros that it ends in.
+fn strip_zeros(key: u32) -> Stripped
+    requires { ⌜ (1 ≤ key) × (key < 5 ^ 12) ⌝ }
+    ensures { λ r. ⌜ Strips 1 key (r .zeros) (r .rest) ⌝ }
+{
+    let most = strip_most(key);
+    let rest = most.rest;
+    if rest < 5 {
+        return most;
+    }
+    let two = rest / 25;
+    if two * 25 == rest {
+        return Stripped {
+            rest: two,
+            zeros: most.zeros + 2,
+        };
+    }
+    let one = rest / 5;
+    if one * 5 == rest {
+        return Stripped {
+            rest: one,
+            zeros: most.zeros + 1,
+        };
+    }
+    most
+}
+
+// Two digits, by the table.
+fn pair_place(pairs: &[u8; 25], two: u32) -> u32
+    requires { ⌜ (now pairs ≡ pairsTable) × (two < 25) ⌝ }
+    ensures { λ r. ⌜ r ≡ placeOr16 (formOf 2 two) ⌝ }
+{
+    pairs[two as usize] as u32
+}
+
+// What a key is whose digits are read: malformed, unless it has m of them.
+fn form_of_digits(m: u32, digits: u32, exponent: u32, start: u32) -> Form
+    ensures { λ r. ⌜ r ≡ cond (eqb digits m) (Block exponent start) Malformed ⌝ }
+{
+    if digits != m {
+        return Form::Malformed;
+    }
+    Form::Block { exponent, start }
+}
+
+// Reads a number without the zeros that were taken off, two digits at a time from the small end. k digits are read, with the zeros: they are the key of a block in a picture of side
+// 2^k, at place `start` there. `rest` stands above them.
+fn read_digits(pairs: &[u8; 25], m: u32, low: Stripped) -> Form
+    requires { ⌜ (now pairs ≡ pairsTable) × Strips 1 (low .rest * 5 ^ low .zeros) (low .zeros) (low .rest) × (low .rest * 5 ^ low .zeros < 5 ^ 12) ⌝ }
+    ensures { λ r. ⌜ r ≡ formOf m (low .rest * 5 ^ low .zeros) ⌝ }
+{
+    let zeros = low.zeros;
+    let mut rest = low.rest;
+    let mut k = zeros;
+    let mut start: u32 = 0;
+    while rest >= 25 {
+        let place = pair_place(pairs, rest % 25);
+        if place == 16 {
+            return Form::Malformed;
+        }
+        start = place * blocks::pow4(k) + start;
+        rest = rest / 25;
+        k += 2;
+    }
+    if rest < 5 {
+        return form_of_digits(m, k + 1, zeros, (rest - 1) * blocks::pow4(k) + start);
+    }
+    let place = pair_place(pairs, rest);
+    if place == 16 {
+        return Form::Malformed;
+    }
+    form_of_digits(m, k + 2, zeros, place * blocks::pow4(k) + start)
+}
+
+// Takes the zeros off that the key ends in, in big steps, and reads the other digits from the small end. From 5^12 on a number has more digits than any key.
 pub fn read_key(m: u32, key: u32) -> Form
     requires { ⌜ m ≤ 12 ⌝ }
     ensures { λ r. ⌜ r ≡ formOf m key ⌝ }
 {
-    let mut p = end_of_keys(m);
-    if key >= p {
+    if key == 0 {
+        return Form::Block {
+            exponent: m,
+            start: 0,
+        };
+    }
+    if key >= 244140625 {
         return Form::Malformed;
     }
-    let mut k = m;
-    let mut rest = key;
-    let mut start: u32 = 0;
-    while rest != 0 {
-        k -= 1;
-        p = p / 5;
-        if rest < p {
-            return Form::Malformed;
-        }
-        start += (rest / p - 1) * blocks::pow4(k);
-        rest = rest % p;
-    }
-    Form::Block { exponent: k, start }
+    let pairs = pairs_table();
+    read_digits(&pairs, m, strip_zeros(key))
 }
 
 // How far the block of a key reaches around the block of a larger key and its exponent i: its own exponent where it contains it, otherwise i. Where it does, it is as many digits

@@ -46,7 +46,7 @@ pub key-least : {m k i s : ℕ} → Names m k i s → i < m → 5 ^ (m - 1) ≤ 
 key-least {m} {k} n = least-at (form-at m k (n .is))
 
 -- powers are in the order of their exponents
-fives : (a b : ℕ) → 5 ^ a < 5 ^ b → a < b
+pub fives : (a b : ℕ) → 5 ^ a < 5 ^ b → a < b
 fives a b h = elim (decLt a b) [ yes l ↦ l | no n ↦ absurd (omega (arith, pow-le-pow-right {n = 5} (zero-lt-suc 4) {i = b} {j = a} (omega arith))) ]
 
 -- ---- the loop: p is 5 ^ e, and e is no more than the first exponent from i on whose power is over what the one key has over the other

@@ -4,6 +4,7 @@ mod Bits
 mod Powers
 mod Digits
 mod Blocks
+mod Joined
 mod Levels
 mod Pixels
 mod Zeros
@@ -11,6 +12,8 @@ mod Corners
 mod Ends
 mod Places
 mod Around
+mod Strips
+mod Reading
 mod Along
 mod Here
 mod Examples

@@ -1,6 +1,9 @@
 -- What the functions of `blocks`, `digits` and `spots` go by: the state of their loops, and the tests that they make.
 -- Assumes nothing.
-pub use Rattle.key.proofs.Digits.{form-big, Reading, Left, reading-first, reading-last, reading-left, reading-gap, reading-next}
+pub use Rattle.key.proofs.Digits.{form-whole, form-big}
+pub use Rattle.key.proofs.Strips.{strips-few, strips-off}
+pub use Rattle.key.proofs.Reading.{pairs-listed, pairs-entry, place-most, pixel-told, digit-told}
+pub use Rattle.key.proofs.Reading.{Reading, reading-first, reading-few, reading-small, reading-gap, reading-next, reading-room, reading-last}
 pub use Rattle.key.proofs.Corners.{pixel-key-ones, ones-pow, ones-entry, ones-listed, corner-pixel, corner-key, spread-is-ones, ones-most}
 pub use Rattle.key.proofs.Around.{Grown, grown-first, grown-next, below-room, grown-most, reached, unreached, reached-all}
 pub use Rattle.key.proofs.Along.{pixel-room, fits-start, first-stands, next-room, next-stands, not-behind, Less, Told, told, fits-behind, fits-largest, fits-unlike, fits-large, fits-here}

@@ -2,6 +2,7 @@ pub mod Spread
 pub mod Picture
 pub mod Key
 pub mod Form
+pub mod Reading
 pub mod Blocks
 pub mod Along
 pub mod Places

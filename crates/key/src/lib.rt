@@ -6,6 +6,12 @@ pub enum Form {
     Malformed,
 }
 
+// A number without zeros that it ends in, and how many were taken off.
+pub struct Stripped {
+    pub rest: u32,
+    pub zeros: u32,
+}
+
 // Where a walk along the keys stands: a place, and the largest block that starts there, by its key and its exponent. Behind the last place only the place counts.
 pub struct Spot {
     pub place: u32,

@@ -1,0 +1,154 @@
+/*
+ * The check of a map reads a key whose block does not start where the last record ended. So maps are checked of which
+ * the last key is such a one, and refused once it is read. What the call takes besides has no division.
+ */
+#include "reading.h"
+
+#include "cells.h"
+#include "mark.h"
+
+#include <inttypes.h>
+#include <stdio.h>
+
+/* Wanted: at most so many times the instructions of before, and fewer divisions than before at these exponents. */
+#define MOST_TIMES 1.2
+enum { FEWER_FROM = 4, FEWER_TO = 11 };
+
+enum { M = 12, P9 = 1953125, P10 = 5 * P9, P11 = 5 * P10, P12 = 5 * P11 };
+
+/* Keys, and how a map is refused that has one: those of exponents 0 to 12, in this order, then malformed ones. */
+static const struct {
+    const char *name;
+    uint32_t key, refusal, place;
+} readings[] = {
+    {"exponent 0", P12 - 1, 5, 0},
+    {"exponent 1", P12 - 5, 5, 0},
+    {"exponent 2", P12 - 25, 5, 0},
+    {"exponent 3", P12 - 125, 5, 0},
+    {"exponent 4", P12 - 625, 5, 0},
+    {"exponent 5", P12 - 3125, 5, 0},
+    {"exponent 6", P12 - 15625, 5, 0},
+    {"exponent 7", P12 - 78125, 5, 0},
+    {"exponent 8", P12 - 390625, 5, 0},
+    {"exponent 9", P12 - P9, 5, 0},
+    {"exponent 10", P12 - P10, 5, 0},
+    {"exponent 11", P12 - P11, 5, 0},
+    {"exponent 12", 0, 4, 1},
+    {"044444444444", P11 - 1, 3, 0},
+    {"404444444444", P12 - 1 - 4 * P10, 3, 0},
+    {"444444444404", P12 - 1 - 4 * 5, 3, 0},
+    {"5^12", P12, 3, 0},
+};
+enum { READINGS = sizeof readings / sizeof *readings };
+
+typedef struct {
+    counted library, before, plain;
+} costs;
+
+static map a;
+
+static void begin_map(void)
+{
+    a.m = M;
+    a.q = 0;
+}
+
+static void add_record(uint32_t key)
+{
+    a.keys[a.q] = key;
+    a.classes[a.q++] = CLEAR;
+}
+
+static counted measure_map(const program *p, uint32_t refusal, uint32_t place, const char *where)
+{
+    static result r;
+    counted took;
+    measure(p, CHECK, &a, make_window(M, TINY), &r);
+    if (r.answer.refusal != refusal || r.answer.place != place)
+        wrong("a check that reads a key gives another answer", where);
+    took.instructions = r.instructions;
+    took.divisions = r.divisions;
+    return took;
+}
+
+/* Key 0 starts where any map does, so it stands behind the north-west quadrant. */
+static counted measure_reading(const program *p, int i)
+{
+    begin_map();
+    if (readings[i].key == 0)
+        add_record(P11);
+    add_record(readings[i].key);
+    return measure_map(p, readings[i].refusal, readings[i].place, readings[i].name);
+}
+
+static void hold_without_reading(const program *p)
+{
+    begin_map();
+    add_record(0);
+    if (measure_map(p, 0, 0, "key 0 alone").divisions != 0)
+        wrong("a check that reads no key divides", p->name);
+}
+
+static counted taken_before(int i)
+{
+    counted before = {told_before("check, a key is read", readings[i].name, ""),
+                      told_before("divisions, a key is read", readings[i].name, "")};
+    if (before.instructions < 0 || before.divisions < 0)
+        wrong("it is not told what reading a key took before", readings[i].name);
+    return before;
+}
+
+static double ratio(counted x, counted y)
+{
+    return (double)x.instructions / (double)y.instructions;
+}
+
+static void print_costs(const char *name, costs c)
+{
+    double times = ratio(c.library, c.before);
+    printf("| %-12s | %7" PRId64 " | %6" PRId64 " | %5.2f%s | %7" PRId64 " | %6.2f | %9" PRId64 " | %6" PRId64
+           " | %7" PRId64 " |\n",
+           name, c.library.instructions, c.before.instructions, times, times > MOST_TIMES ? "*" : " ",
+           c.plain.instructions, ratio(c.library, c.plain), c.library.divisions, c.before.divisions, c.plain.divisions);
+}
+
+/* Of some, that with the greatest ratio. */
+static int find_worst(const costs *all, int from, int to)
+{
+    int worst = from;
+    for (int i = from; i < to; i++)
+        if (ratio(all[i].library, all[i].before) > ratio(all[worst].library, all[worst].before))
+            worst = i;
+    return worst;
+}
+
+static void print_short(const costs *all)
+{
+    int block = find_worst(all, 0, M + 1), malformed = find_worst(all, M + 1, READINGS), as_many = 0;
+    for (int i = FEWER_FROM; i <= FEWER_TO; i++)
+        as_many += all[i].library.divisions >= all[i].before.divisions;
+    printf("\nInstructions: at most %.2f times before, at %s; of malformed keys %.2f times, at %s. Divisions: fewer "
+           "than before at each exponent from %d to %d: %s.\n",
+           ratio(all[block].library, all[block].before), readings[block].name,
+           ratio(all[malformed].library, all[malformed].before), readings[malformed].name, FEWER_FROM, FEWER_TO,
+           as_many == 0 ? "yes" : "no");
+}
+
+void print_reading(void)
+{
+    costs all[READINGS];
+    hold_without_reading(&library);
+    hold_without_reading(&plain);
+    printf("\nReading a key, at m = %d: a check that is refused once the key is read. The last keys are malformed. * "
+           "marks what is over %.1f times before.\n\n"
+           "| key          | library | before |  ratio | plain C |  ratio | divisions | before | plain C |\n"
+           "| :----------- | ------: | -----: | -----: | ------: | -----: | --------: | -----: | ------: |\n",
+           M, MOST_TIMES);
+    for (int i = 0; i < READINGS; i++) {
+        all[i].library = measure_reading(&library, i);
+        all[i].before = taken_before(i);
+        all[i].plain = measure_reading(&plain, i);
+        print_costs(readings[i].name, all[i]);
+    }
+    print_short(all);
+}
