@@ -9,6 +9,7 @@
  * The status is 0 when all calls agree. The first that does not is shown, with the command that runs its case again.
  */
 #include "harness.h"
+#include "keys.h"
 #include "maps.h"
 #include "months.h"
 #include "queries.h"
@@ -574,6 +575,8 @@ static const group groups[] = {
     {"full months", group_full_months, false},
     {"largest sums", group_largest_sums, false},
     {"random months", group_random_months, true},
+    {"every number", group_every_number, false},
+    {"digits", group_digits, true},
 };
 
 int main(int argc, char **argv)

@@ -13,7 +13,8 @@ use lib.Dec.{eqb}
 use lib.Pow.{pow-add}
 use Rattle.key.specs.declared.Form.{Form}
 use Rattle.key.specs.declared.Form.the-variants.{Block, Malformed}
-use Rattle.key.specs.Form.{formOf, from, joined, formUp}
+use Rattle.key.specs.Form.{formOf, from}
+use Rattle.key.specs.Promises.{joined, formUp}
 use Rattle.key.proofs.Powers.{pow-least}
 use Rattle.key.proofs.Digits.{form-whole, form-gap, form-big, form-digit}
 use Rattle.key.proofs.Blocks.{lies, form-at}

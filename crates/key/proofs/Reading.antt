@@ -13,7 +13,8 @@ use lib.ListN.{getD}
 use Rattle.lists.proofs.Laws.{table-written, table-entry}
 use Rattle.key.specs.declared.Form.{Form}
 use Rattle.key.specs.declared.Form.the-variants.{Block, Malformed}
-use Rattle.key.specs.Form.{formOf, from, joined}
+use Rattle.key.specs.Form.{formOf, from}
+use Rattle.key.specs.Promises.{joined}
 use Rattle.key.specs.Reading.{Strips, placeOr16, pairsTable}
 use Rattle.key.proofs.Powers.{pow-least, pow-most}
 use Rattle.key.proofs.Digits.{form-whole, form-gap, form-big}

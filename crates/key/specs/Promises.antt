@@ -1,9 +1,14 @@
--- The words in which the promise about the digits of keys is said: a block's level, and the list of a number's digits.
+-- The words in which the promises about the digits of keys are said: a block's level, and the list of a number's digits; and a number cut in two, and read from the small end.
 -- Assumes nothing.
+use mathlib.Core.Bool.{cond, _||_}
 use mathlib.Core.Path.{_≡_}
 use mathlib.Core.List.{List, [], _∷_, _++_, List·Memᴰ}
-use Prim.Native.Nat.{ℕ, zero, suc, _-_, _/_, _%_, _^_, _≤_, _<_}
+use Prim.Native.Nat.{ℕ, zero, suc, _+_, _-_, _*_, _/_, _%_, _^_, _≤_, _<_}
+use lib.Dec.{eqb}
 use lib.ListN.{length, replicate}
+use Rattle.key.specs.declared.Form.{Form}
+use Rattle.key.specs.declared.Form.the-variants.{Block, Malformed}
+use Rattle.key.specs.Form.{formOf}
 use Rattle.key.specs.Blocks.{Names}
 
 -- the k low digits of x in base b, most significant first: all of them where x is below b ^ k
@@ -25,3 +30,14 @@ pub record LevelDigits (m d key : ℕ) : Type 0 where
   pub long : length front ≡ d
   pub nonzero : (c : ℕ) → List·Memᴰ c front → (1 ≤ c) × (c ≤ 4)
   pub is : lowDigits 5 m key ≡ front ++ replicate (m - d) 0
+
+-- a number cut in two: the form of its j low digits, and that of the digits above them, joined. Behind a zero there are only zeros: so above stands a pixel's key, or zeros below
+unfoldable pub joined : ℕ → Form → Form → Form
+joined j (Block i s) (Block h t) = cond (eqb h 0 || eqb i j) (Block (h + i) (t * 4 ^ j + s)) Malformed
+joined j (Block i s) Malformed = Malformed
+joined j Malformed f = Malformed
+
+-- the form of a number, read from the small end: that of the last digit, and that of the digits above it, joined
+unfoldable pub formUp : ℕ → ℕ → Form
+formUp zero key = formOf zero key
+formUp (suc k) key = joined 1 (formOf 1 (key % 5)) (formUp k (key / 5))
