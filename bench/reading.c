@@ -47,9 +47,9 @@ typedef struct {
 
 static map a;
 
-static void begin_map(void)
+static void begin_map(uint32_t m)
 {
-    a.m = M;
+    a.m = m;
     a.q = 0;
 }
 
@@ -74,7 +74,7 @@ static counted measure_map(const program *p, uint32_t refusal, uint32_t place, c
 /* Key 0 starts where any map does, so it stands behind the north-west quadrant. */
 static counted measure_reading(const program *p, int i)
 {
-    begin_map();
+    begin_map(M);
     if (readings[i].key == 0)
         add_record(P11);
     add_record(readings[i].key);
@@ -83,7 +83,7 @@ static counted measure_reading(const program *p, int i)
 
 static void hold_without_reading(const program *p)
 {
-    begin_map();
+    begin_map(M);
     add_record(0);
     if (measure_map(p, 0, 0, "key 0 alone").divisions != 0)
         wrong("a check that reads no key divides", p->name);
@@ -134,6 +134,41 @@ static void print_short(const costs *all)
            as_many == 0 ? "yes" : "no");
 }
 
+static uint32_t power_of_5(uint32_t exponent)
+{
+    return exponent == 0 ? 1 : 5 * power_of_5(exponent - 1);
+}
+
+/* Of smaller pictures: the last block with so many digits. */
+static void print_digits(uint32_t m, uint32_t digits)
+{
+    counted took;
+    begin_map(m);
+    add_record(power_of_5(m) - power_of_5(m - digits));
+    took = measure_map(&library, 5, 0, "a smaller picture");
+    printf(" %3" PRId64 " (%2" PRId64 ") |", took.instructions, took.divisions);
+}
+
+static void print_smaller(void)
+{
+    printf("\nThe same at smaller m, by the digits before the zeros of a block's key: instructions of the library, and "
+           "divisions.\n\n|  m |");
+    for (uint32_t digits = 1; digits < M; digits++)
+        printf(" %8" PRIu32 " |", digits);
+    printf("\n| -: |");
+    for (uint32_t digits = 1; digits < M; digits++)
+        printf(" -------: |");
+    printf("\n");
+    for (uint32_t m = 1; m < M; m++) {
+        printf("| %2" PRIu32 " |", m);
+        for (uint32_t digits = 1; digits <= m; digits++)
+            print_digits(m, digits);
+        for (uint32_t digits = m + 1; digits < M; digits++)
+            printf(" %8s |", "");
+        printf("\n");
+    }
+}
+
 void print_reading(void)
 {
     costs all[READINGS];
@@ -151,4 +186,5 @@ void print_reading(void)
         print_costs(readings[i].name, all[i]);
     }
     print_short(all);
+    print_smaller();
 }
