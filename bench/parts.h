@@ -119,10 +119,12 @@ static inline bool strip(uint32_t key, uint32_t power, uint32_t *rest)
 static inline stripped strip_most(uint32_t key)
 {
     uint32_t rest;
-    if (strip(key, 48828125, &rest))
-        return (stripped){rest, 11};
-    if (strip(key, 390625, &rest))
-        return (stripped){rest, 8};
+    if (key >= 390625) {
+        if (strip(key, 48828125, &rest))
+            return (stripped){rest, 11};
+        if (strip(key, 390625, &rest))
+            return (stripped){rest, 8};
+    }
     if (strip(key, 3125, &rest))
         return (stripped){rest, 5};
     if (strip(key, 25, &rest))

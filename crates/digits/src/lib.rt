@@ -46,24 +46,26 @@ fn pairs_table() -> [u8; 25]
     PAIRS
 }
 
-// A number without most of the zeros that it ends in, by 5^11, 5^8, 5^5 or 5^2: at most two are left.
+// A number without most of the zeros that it ends in, by 5^11 or 5^8, if it is as large as that, by 5^5 or by 5^2: at most two are left.
 fn strip_most(key: u32) -> Stripped
     requires { ⌜ (1 ≤ key) × (key < 5 ^ 12) ⌝ }
     ensures { λ r. ⌜ Strips 3 key (r .zeros) (r .rest) ⌝ }
 {
-    let eleven = key / 48828125;
-    if eleven * 48828125 == key {
-        return Stripped {
-            rest: eleven,
-            zeros: 11,
-        };
-    }
-    let eight = key / 390625;
-    if eight * 390625 == key {
-        return Stripped {
-            rest: eight,
-            zeros: 8,
-        };
+    if key >= 390625 {
+        let eleven = key / 48828125;
+        if eleven * 48828125 == key {
+            return Stripped {
+                rest: eleven,
+                zeros: 11,
+            };
+        }
+        let eight = key / 390625;
+        if eight * 390625 == key {
+            return Stripped {
+                rest: eight,
+                zeros: 8,
+            };
+        }
     }
     let five = key / 3125;
     if five * 3125 == key {
