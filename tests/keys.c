@@ -99,7 +99,7 @@ static void every_pattern(uint32_t m)
         }
 }
 
-/* Blocks behind records that end with the pixel before their first one, and with pixels about it: 4 tells from 5. */
+/* Blocks behind records that reach up to their first pixel, which fit, and to a pixel less or more: refused by 5, 4. */
 static void blocks_of(uint32_t m, uint32_t exponent)
 {
     for (int i = 0; i < 50; i++) {

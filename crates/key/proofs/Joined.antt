@@ -85,7 +85,11 @@ module _ (j low : ℕ) (small : low < 5 ^ j) where
       let whole : (q * 5 ^ k + r) * 5 ^ j ≡ high * 5 ^ j = ap (λ (x : ℕ). x * 5 ^ j) (div-add-mod' high (5 ^ k)) in
       omega (arith, whole, add-mul (q * 5 ^ k) r (5 ^ j), mul-assoc q (5 ^ k) (5 ^ j), ap (λ (x : ℕ). q * x) (scale k m e))
 
-  -- above the low digits there are only zeros, and at least one
+  -- above the low digits nothing is a key
+  none-above : (k high : ℕ) → formOf k high ≡ Malformed → joined j (formOf j low) (formOf k high) ≡ Malformed
+  none-above k high e = ap (joined j (formOf j low)) e ∙ joined-above j (formOf j low)
+
+  -- there are only zeros, and at least one
   zeros-above : (k m : ℕ) → m ≡ k + j → formOf (suc m) low ≡ joined j (formOf j low) (Block (suc k) 0)
   zeros-above k m e =
       elim (ℕ-discrete low 0) [
@@ -118,7 +122,7 @@ module _ (j low : ℕ) (small : low < 5 ^ j) where
       let same : m ≡ j = omega arith in
       elim (ℕ-discrete high 0) [
         | yes z ↦ rw (z, zero-mul, zero-add, form-whole 0, joined-alone, same) refl
-        | no n ↦ form-big m (high * 5 ^ j + low) (many 0 m high e (omega arith)) ∙ sym (ap (joined j (formOf j low)) (form-big 0 high (omega arith)) ∙ joined-above j (formOf j low))
+        | no n ↦ form-big m (high * 5 ^ j + low) (many 0 m high e (omega arith)) ∙ sym (none-above 0 high (form-big 0 high (omega arith)))
       ]
   form-joined (suc k) zero high e = absurd (omega arith)
   form-joined (suc k) (suc m) high e =
@@ -129,13 +133,13 @@ module _ (j low : ℕ) (small : low < 5 ^ j) where
             elim (decLt high (5 ^ k)) [
               | yes l ↦
                   form-gap m (high * 5 ^ j + low) (λ z. n (omega (arith, le-mul-of-pos-right high (pow-least 4 j)))) (few k m high less l)
-                  ∙ sym (ap (joined j (formOf j low)) (form-gap k high n l) ∙ joined-above j (formOf j low))
+                  ∙ sym (none-above (suc k) high (form-gap k high n l))
               | no l ↦
                   elim (decLt high (5 ^ suc k)) [
                     | yes h ↦ digit-above k m high less (omega arith) h (form-joined k m (high % 5 ^ k) less)
                     | no h ↦
                         form-big (suc m) (high * 5 ^ j + low) (many (suc k) (suc m) high e (omega arith))
-                        ∙ sym (ap (joined j (formOf j low)) (form-big (suc k) high (omega arith)) ∙ joined-above j (formOf j low))
+                        ∙ sym (none-above (suc k) high (form-big (suc k) high (omega arith)))
                   ]
             ]
       ]

@@ -35,7 +35,7 @@ module _ {key n high : ℕ} {f : Form} (c : Cut key n high f) where
   cut-form : {m : ℕ} (k : ℕ) → m ≡ k + n → formOf m key ≡ joined n f (formOf k high)
   cut-form {m} k e = ap (formOf m) (c .split) ∙ form-joined n (c .low) (c .small) k m high e ∙ ap (λ (g : Form). joined n g (formOf k high)) (c .is)
 
-  -- the number has more digits than those and d others, or no more
+  -- how many digits the number has, by what stands above
   cut-many : (d : ℕ) → 5 ^ d ≤ high → 5 ^ (n + d) ≤ key
   cut-many d l = omega (arith, c .split, many n (c .low) (c .small) d (n + d) high (omega arith) l)
 
@@ -53,7 +53,7 @@ module _ {key n high : ℕ} {f : Form} (c : Cut key n high f) where
         is = form-joined n (c .low) (c .small) d m r e ∙ ap (λ (h : Form). joined n h (formOf d r)) (c .is) ∙ is;
       }
 
--- a number with malformed low digits, of which the first may be a zero before the others
+-- a number of more than n digits, of which n + 1 low ones are malformed
 cut-none : {key n high : ℕ} (m : ℕ) → Cut key (suc n) high Malformed → 5 ^ n ≤ key → formOf m key ≡ Malformed
 cut-none {key} {n} {high} m c l =
     elim (decLt n m) [
@@ -66,7 +66,7 @@ cut-none {key} {n} {high} m c l =
 pub record Reading (key zeros k rest start : ℕ) : Type 0 where
   cut : Cut key k rest (Block zeros start)
   pub some : 1 ≤ rest
-  -- behind the zeros comes another digit
+  -- the digit above the zeros is not 0
   first : zeros ≡ k → rest % 5 ≡ 0 → ⊥
 
 pub reading-first : {key zeros rest : ℕ} → Strips 1 key zeros rest → Reading key zeros zeros rest 0
@@ -76,6 +76,10 @@ reading-first {key} {zeros} {rest} s =
       some = strips-some s;
       first = λ e z. s .fewer z;
     }
+
+-- the places of a key's block fit
+fits : {i s : ℕ} (m key : ℕ) → m ≤ 12 → formOf m key ≡ Block i s → s < 4 ^ 12
+fits {i} m key h e = omega (arith, lies (form-at m key e) .span, pow-least 3 i, pow-most 3 m h)
 
 -- ---- digits by twos
 
@@ -111,14 +115,12 @@ pub digit-told : {x : ℕ} → 1 ≤ x → x < 5 → formOf 1 x ≡ Block 0 (x -
 digit-told {x} l h = at-form (quad (x - 1) (omega arith) (whole {m = 0}) (omega arith) (omega arith))
 
 module _ {key zeros k rest start : ℕ} (r : Reading key zeros k rest start) where
-  -- no more digits are read, and d are left, than a key has; and the places fit
+  -- k digits are read and more than d are left, so a key has more than k + d; and the places fit
   pub reading-few : (d : ℕ) → 5 ^ d ≤ rest → key < 5 ^ 12 → k + d < 12
   reading-few d l h = fives (k + d) 12 (omega (arith, cut-many (r .cut) d l))
 
   pub reading-small : key < 5 ^ 12 → start < 4 ^ 12
-  reading-small h =
-      let few : k + 0 < 12 = reading-few 0 (r .some) h in
-      omega (arith, lies (form-at k (r .cut .low) (r .cut .is)) .span, pow-least 3 zeros, pow-most 3 k (omega arith))
+  reading-small h = fits k (r .cut .low) (omega (arith, reading-few 0 (r .some) h)) (r .cut .is)
 
   -- one of the next two digits is 0, and a digit stands above it that is not
   pub reading-gap : (m : ℕ) {x : ℕ} → x ≡ rest % 25 → 5 ≤ rest → placeOr16 (formOf 2 x) ≡ 16 → formOf m key ≡ Malformed
@@ -150,9 +152,7 @@ module _ {key zeros k rest start : ℕ} (r : Reading key zeros k rest start) whe
     reading-whole = cut-form (r .cut) (suc d) (omega arith) ∙ ap (joined k (Block zeros start)) e ∙ joined-pixel k zeros start p ∙ rw ea refl
 
     pub reading-room : key < 5 ^ 12 → p * a + start < 4 ^ 12
-    reading-room b =
-        let few : k + suc d ≤ 12 = omega (arith, reading-few d l b) in
-        omega (arith, lies (form-at (k + suc d) key reading-whole) .span, pow-least 3 zeros, pow-most 3 (k + suc d) few)
+    reading-room b = fits (k + suc d) key (omega (arith, reading-few d l b)) reading-whole
 
     pub reading-last : (m : ℕ) → cond (eqb (k + suc d) m) (Block zeros (p * a + start)) Malformed ≡ formOf m key
     reading-last m =

@@ -16,8 +16,9 @@ use Rattle.key.proofs.Around.{key-zeros, fives}
 pub strips-some : {b key zeros rest : ℕ} → Strips b key zeros rest → 1 ≤ rest
 strips-some {b} {rest = rest} s = elim (ℕ-discrete rest 0) [ yes z ↦ absurd (s .fewer (rw z (zero-mod (5 ^ b)))) | no n ↦ omega arith ]
 
-pub strips-few : {b key zeros rest : ℕ} → Strips b key zeros rest → key < 5 ^ 12 → zeros < 12
-strips-few {zeros = zeros} {rest} s h = fives zeros 12 (omega (arith, s .is, mul-le-mul-right {m = 1} {n = rest} (5 ^ zeros) (strips-some s)))
+-- so fewer are off than the number has digits
+pub strips-few : {b key zeros rest : ℕ} (m : ℕ) → Strips b key zeros rest → key < 5 ^ m → zeros < m
+strips-few {zeros = zeros} {rest} m s h = fives zeros m (omega (arith, s .is, mul-le-mul-right {m = 1} {n = rest} (5 ^ zeros) (strips-some s)))
 
 times : {n : ℕ} (x a b : ℕ) → n ≡ a + b → x * 5 ^ n ≡ x * 5 ^ a * 5 ^ b
 times x a b e = ap (λ (i : ℕ). x * 5 ^ i) e ∙ ap (λ (y : ℕ). x * y) (pow-add 5 a b) ∙ sym (mul-assoc x (5 ^ a) (5 ^ b))
@@ -58,8 +59,7 @@ strips-one {key} {z} {w} {rest} {left} s t =
 pub strips-exponent : {m key i p zeros rest : ℕ} → Names m key i p → Strips 1 key zeros rest → zeros ≡ i
 strips-exponent {m} {key} {i} {p} {zeros} {rest} n s =
     let l = lies (form-at m key (n .is)) in
-    let room : rest * 5 ^ zeros < 5 ^ m = omega (arith, s .is, l .keys, pow-least 4 i) in
-    let short : zeros < m = fives zeros m (omega (arith, mul-le-mul-right {m = 1} {n = rest} (5 ^ zeros) (strips-some s))) in
+    let short : zeros < m = strips-few m s (omega (arith, l .keys, pow-least 4 i)) in
     let down : zeros ≤ i = key-zeros n zeros (omega arith) .0 (ap (λ (x : ℕ). x % 5 ^ zeros) (s .is) ∙ mul-mod-left rest (5 ^ zeros)) in
     let whole : key / 5 ^ i * 5 ^ i ≡ key = omega (arith, div-add-mod' key (5 ^ i), key-zeros n i (l .small) .1 (omega arith)) in
     omega (arith, strips-most (key / 5 ^ i) i s (sym whole))

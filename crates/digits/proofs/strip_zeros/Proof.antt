@@ -17,7 +17,7 @@ mul-if2 : tie.Need-mul-if2
 mul-if2 c = search needs
 
 add-t8 : tie.Need-add-t8
-add-t8 c = let s = c .before .before .before in omega (arith, strips-few (s .strip-most .ensures) (s .before .pre .1))
+add-t8 c = let s = c .before .before .before in omega (arith, strips-few 12 (s .strip-most .ensures) (s .before .pre .1))
 
 returns-2 : tie.Need-returns-2
 returns-2 c = strips-off 2 1 (c .before .before .before .strip-most .ensures) (c .before .if2 .taken)
@@ -26,7 +26,7 @@ mul-if3 : tie.Need-mul-if3
 mul-if3 c = search needs
 
 add-t9 : tie.Need-add-t9
-add-t9 c = let s = c .before .before .before .before in omega (arith, strips-few (s .strip-most .ensures) (s .before .pre .1))
+add-t9 c = let s = c .before .before .before .before in omega (arith, strips-few 12 (s .strip-most .ensures) (s .before .pre .1))
 
 returns-3 : tie.Need-returns-3
 returns-3 c =
