@@ -1,7 +1,7 @@
 /*
  * The instructions of the library's operations, beside those of the programs in programs.h: tables over maps and
- * windows, what reading a key takes, what they say in short, how the operations grow, and the experiment with random
- * windows.
+ * windows, what reading a key takes, what a tile costs, what they say in short, how the operations grow, and the
+ * experiment with random windows.
  *
  *     bench FILE-OF-COUNTS FILE-OF-BEFORE PLOT
  */
@@ -10,6 +10,7 @@
 #include "growth.h"
 #include "reading.h"
 #include "summary.h"
+#include "tiles.h"
 
 #include <inttypes.h>
 #include <stdio.h>
@@ -147,6 +148,7 @@ int main(int argc, char **argv)
     print_table();
     print_months();
     print_reading();
+    print_tiles(cells, n_cells);
     print_summaries(cells, n_cells);
     print_against_before(cells, n_cells);
     print_wanted(cells, n_cells);

@@ -97,12 +97,12 @@ static int lake(int row, int col, int side)
     return class;
 }
 
-static bool apart(int from, int side, int start, int count)
+bool apart(int from, int side, int start, int count)
 {
     return from + side <= start || start + count <= from;
 }
 
-static bool within(int from, int side, int start, int count)
+bool within(int from, int side, int start, int count)
 {
     return start <= from && from + side <= start + count;
 }

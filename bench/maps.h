@@ -2,6 +2,7 @@
 #ifndef BENCH_MAPS_H
 #define BENCH_MAPS_H
 
+#include <stdbool.h>
 #include <stddef.h>
 #include <stdint.h>
 
@@ -31,5 +32,9 @@ enum { TINY, MEDIUM, LONG, WHOLE, WINDOWS };
 extern const char *const window_names[WINDOWS];
 
 rectangle make_window(uint32_t m, int number);
+
+/* Of rows or of columns: do the `side` from `from` on lie apart from the `count` from `start` on, or within them? */
+bool apart(int from, int side, int start, int count);
+bool within(int from, int side, int start, int count);
 
 #endif

@@ -103,41 +103,60 @@ static counted minus(counted x, counted y)
     return difference;
 }
 
+typedef struct {
+    tiled_call *f;
+    uint32_t tile;
+    size_t room;
+} tiling;
+
 /*
  * The counts are read after the second mark, so that nothing but the call stands between the two. The anchor holds the
  * stack at a multiple of 64 bytes: what copying takes, from and to the stack, would else hang on the environment.
  * Inlined, so that with NOTHING the marks stand alone.
  */
-__attribute__((always_inline)) static inline counted marked(const program *p, int operation, const map *a, rectangle at,
-                                                            result *r)
+__attribute__((always_inline)) static inline counted marked(const program *p, int operation, const tiling *with,
+                                                            const map *a, rectangle at, result *r)
 {
     char anchor[64] __attribute__((aligned(64)));
     counted before;
     __asm__ volatile("" : : "r"(anchor) : "memory");
     syscall(MARK);
-    r->answer = call(p, operation, a, at, r);
+    r->answer = with == NULL ? call(p, operation, a, at, r) : with->f(a, at, with->tile, with->room, r);
     syscall(MARK);
     before = next_counts();
     return minus(next_counts(), before);
 }
 
-void measure(const program *p, int operation, const map *a, rectangle at, result *r)
+/* Inlined too, so that it is known whether there is a tile. */
+__attribute__((always_inline)) static inline void measure_either(const program *p, int operation, const tiling *with,
+                                                                 const map *a, rectangle at, result *r)
 {
     static counted around; /* the marks */
     counted took;
     if (around.instructions == 0)
-        around = marked(p, NOTHING, a, at, r);
+        around = marked(p, NOTHING, NULL, a, at, r);
     memset(r->border, 0xA5, sizeof r->border);
     memset(r->out, 0xA5, sizeof r->out);
     memset(r->bytes, 0xA5, sizeof r->bytes);
     lutniorad_write(a->m, a->keys, a->q, a->classes, a->q, map_file, sizeof map_file);
     make_month(r->table, a->m, at, operation == ADD_NEXT);
-    took = minus(marked(p, operation, a, at, r), around);
+    took = minus(marked(p, operation, with, a, at, r), around);
     r->instructions = took.instructions;
     r->divisions = took.divisions;
 }
 
-static bool same_answers(const result *x, const result *y)
+void measure(const program *p, int operation, const map *a, rectangle at, result *r)
+{
+    measure_either(p, operation, NULL, a, at, r);
+}
+
+void measure_tiled(tiled_call *f, const map *a, rectangle at, uint32_t tile, size_t room, result *r)
+{
+    tiling with = {f, tile, room};
+    measure_either(&library, NOTHING, &with, a, at, r);
+}
+
+bool same_answers(const result *x, const result *y)
 {
     return memcmp(&x->answer, &y->answer, sizeof x->answer) == 0 &&
            memcmp(x->border, y->border, sizeof x->border) == 0 && memcmp(x->out, y->out, sizeof x->out) == 0 &&

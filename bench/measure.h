@@ -29,8 +29,9 @@ bool takes_window(int operation);
 /* Does it check a map, and then something more? */
 bool checks_first(int operation);
 
-/* The widest border, and out cells enough for one pass of opening and for every key that a select can list. */
-enum { CELLS = 4096, ROOM = 12 * (4096 + 4096) };
+/* The widest border, and out cells enough for one pass of opening with tiles of 32 x 32 pixels, and so of any other
+ * call that is made. */
+enum { CELLS = 4096, ROOM = LUTNIORAD_OPEN_TILED_CELLS(5, 4096, 4096) };
 
 typedef struct {
     int64_t instructions, divisions;
@@ -50,6 +51,14 @@ void begin_measuring(const char *counts);
  * instructions from the first that hands over an argument to the return.
  */
 void measure(const program *p, int operation, const map *a, rectangle at, result *r);
+
+/* A call of the library's with a tile and so many out cells, or beside that, without a tile. */
+typedef lutniorad_answer tiled_call(const map *a, rectangle at, uint32_t tile, size_t room, result *r);
+
+/* As measure, of such a call. */
+void measure_tiled(tiled_call *f, const map *a, rectangle at, uint32_t tile, size_t room, result *r);
+
+bool same_answers(const result *x, const result *y);
 
 /* As measure, of a program that must answer as the library did, in every cell. Returns the instructions. */
 int64_t measure_same(const program *p, int operation, const map *a, rectangle at, const result *as, const char *where);

@@ -6,13 +6,10 @@
 
 #include "cells.h"
 #include "mark.h"
+#include "summary.h"
 
 #include <inttypes.h>
 #include <stdio.h>
-
-/* Wanted: at most so many times the instructions of before, and fewer divisions than before at these exponents. */
-#define MOST_TIMES 1.2
-enum { FEWER_FROM = 4, FEWER_TO = 11 };
 
 enum { M = 12, P9 = 1953125, P10 = 5 * P9, P11 = 5 * P10, P12 = 5 * P11 };
 
@@ -108,30 +105,25 @@ static void print_costs(const char *name, costs c)
     double times = ratio(c.library, c.before);
     printf("| %-12s | %7" PRId64 " | %6" PRId64 " | %5.2f%s | %7" PRId64 " | %6.2f | %9" PRId64 " | %6" PRId64
            " | %7" PRId64 " |\n",
-           name, c.library.instructions, c.before.instructions, times, times > MOST_TIMES ? "*" : " ",
+           name, c.library.instructions, c.before.instructions, times, times > MOST_OF_BEFORE ? "*" : " ",
            c.plain.instructions, ratio(c.library, c.plain), c.library.divisions, c.before.divisions, c.plain.divisions);
 }
 
-/* Of some, that with the greatest ratio. */
-static int find_worst(const costs *all, int from, int to)
-{
-    int worst = from;
-    for (int i = from; i < to; i++)
-        if (ratio(all[i].library, all[i].before) > ratio(all[worst].library, all[worst].before))
-            worst = i;
-    return worst;
-}
-
+/* Wanted: of each key, at most so many times the instructions of before, and no more divisions. */
 static void print_short(const costs *all)
 {
-    int block = find_worst(all, 0, M + 1), malformed = find_worst(all, M + 1, READINGS), as_many = 0;
-    for (int i = FEWER_FROM; i <= FEWER_TO; i++)
-        as_many += all[i].library.divisions >= all[i].before.divisions;
-    printf("\nInstructions: at most %.2f times before, at %s; of malformed keys %.2f times, at %s. Divisions: fewer "
-           "than before at each exponent from %d to %d: %s.\n",
-           ratio(all[block].library, all[block].before), readings[block].name,
-           ratio(all[malformed].library, all[malformed].before), readings[malformed].name, FEWER_FROM, FEWER_TO,
-           as_many == 0 ? "yes" : "no");
+    int worst = 0, divided_more = 0;
+    double times;
+    for (int i = 0; i < READINGS; i++) {
+        divided_more += all[i].library.divisions > all[i].before.divisions;
+        if (ratio(all[i].library, all[i].before) > ratio(all[worst].library, all[worst].before))
+            worst = i;
+    }
+    times = ratio(all[worst].library, all[worst].before);
+    printf("\nInstructions: at most %.2f times before, at %s; wanted is %.2f: %s. Keys that take more divisions than "
+           "before: %d; wanted is none: %s.\n",
+           times, readings[worst].name, MOST_OF_BEFORE, times <= MOST_OF_BEFORE ? "met" : "not met", divided_more,
+           divided_more == 0 ? "met" : "not met");
 }
 
 static uint32_t power_of_5(uint32_t exponent)
@@ -175,10 +167,10 @@ void print_reading(void)
     hold_without_reading(&library);
     hold_without_reading(&plain);
     printf("\nReading a key, at m = %d: a check that is refused once the key is read. The last keys are malformed. * "
-           "marks what is over %.1f times before.\n\n"
+           "marks what is over %.2f times before.\n\n"
            "| key          | library | before |  ratio | plain C |  ratio | divisions | before | plain C |\n"
            "| :----------- | ------: | -----: | -----: | ------: | -----: | --------: | -----: | ------: |\n",
-           M, MOST_TIMES);
+           M, MOST_OF_BEFORE);
     for (int i = 0; i < READINGS; i++) {
         all[i].library = measure_reading(&library, i);
         all[i].before = taken_before(i);

@@ -24,6 +24,11 @@
  * corner, then by its column, and there are always fewer than 4(w + h). At m = 2 the window r0 = 0, c0 = 1, h = 3,
  * w = 3 has six: 7, 10, 9, 17, 21, 22.
  *
+ * A TILE is a block of side 2^c, c from 0 to m. Calls with `_tiled` in their names take c as `tile` and use no larger
+ * block: one that lies in the window is then maximal when no larger one of a side up to 2^c that lies in the window
+ * contains it. There are fewer than 4(w + h) plus the whole part of wh/4^c. With c = 0 the same window has nine, which
+ * are its pixels: 7, 11, 12, 9, 13, 14, 17, 21, 22. With c = m a call does what it does without a tile.
+ *
  * An OPENING is a maximal block at which records are handed out. Go through the maximal blocks in their order. A block
  * is skipped when it lies in a record already handed out. Otherwise it is opened, and the records that overlap it are
  * handed out: one record that contains it, or those that lie in it, which follow one another in the map. An opening is
@@ -73,10 +78,10 @@
  * while the calls read another.
  *
  * WHAT THE LIBRARY KEEPS. It takes no heap and remembers nothing from one call to the next. Every call ends. A call
- * that refuses writes nothing, but for one: a refusal by 8 from lutniorad_open, lutniorad_report or lutniorad_select
- * leaves the border as an answer would. A call that answers writes the cells named with it below, and all others keep
- * their content. What stands at entry in a slice that is written never matters, but for the table of a month, to which
- * lutniorad_month_add adds.
+ * that refuses writes nothing, but for one: a refusal by 8 from lutniorad_report, or from lutniorad_open or
+ * lutniorad_select with a tile or without, leaves the border as an answer would. A call that answers writes the cells
+ * named with it below, and all others keep their content. What stands at entry in a slice that is written never
+ * matters, but for the table of a month, to which lutniorad_month_add adds.
  *
  * THREADS AND SIGNALS. Calls on different memory may run at the same time, in any number of threads, and in a signal
  * handler. No call takes a lock, sets errno or waits. The archive asks for memset and memcpy, and for nothing else.
@@ -88,7 +93,8 @@
  *
  * WHAT A CALL COSTS. Each call that takes a map, but for lutniorad_write, checks the whole of it first, whatever was
  * checked before: some 21 instructions for each record, 1.4 million for the longest map, which take a fraction of a
- * millisecond. Behind that it goes by the records and blocks of the window and not by its pixels.
+ * millisecond. Behind that it goes by the records and blocks of the window and not by its pixels; but with tiles of one
+ * pixel each of these is a block.
  *
  * CLASSES are numbers of the caller's own. Which of them is scum the library does not know; 255 alone has a meaning.
  *
@@ -102,9 +108,9 @@
 
 /* The version of this header and of the library that belongs to it, as numbers and as text. */
 #define LUTNIORAD_VERSION_MAJOR 1 /* rises when a program made for the last one may have to be changed */
-#define LUTNIORAD_VERSION_MINOR 0 /* rises when there are more calls */
+#define LUTNIORAD_VERSION_MINOR 1 /* rises when there are more calls */
 #define LUTNIORAD_VERSION_PATCH 0
-#define LUTNIORAD_VERSION "1.0.0"
+#define LUTNIORAD_VERSION "1.1.0"
 
 /* The limits. */
 #define LUTNIORAD_MOST_M 12
@@ -119,11 +125,16 @@
 
 /*
  * Cells that are always enough, for a window of h rows and w columns and a map of q records. Where the arguments are
- * constants so is the number, and it may be the size of an array. Each argument is taken once.
+ * constants so is the number, and it may be the size of an array. Each argument is taken once; but h and w are taken
+ * twice where there is a tile, which is from 0 to 12.
  */
 #define LUTNIORAD_DECOMPOSE_CELLS(h, w) (4 * ((size_t)(h) + (size_t)(w)))
 #define LUTNIORAD_OPEN_CELLS(h, w) (12 * ((size_t)(h) + (size_t)(w)))
 #define LUTNIORAD_SELECT_CELLS(q, h, w) ((size_t)(q) + 4 * ((size_t)(h) + (size_t)(w)))
+#define LUTNIORAD_TILES(tile, h, w) ((size_t)(h) * (size_t)(w) >> 2 * (tile)) /* no more have room in the window */
+#define LUTNIORAD_DECOMPOSE_TILED_CELLS(tile, h, w) (LUTNIORAD_DECOMPOSE_CELLS(h, w) + LUTNIORAD_TILES(tile, h, w))
+#define LUTNIORAD_OPEN_TILED_CELLS(tile, h, w) (3 * LUTNIORAD_DECOMPOSE_TILED_CELLS(tile, h, w))
+#define LUTNIORAD_SELECT_TILED_CELLS(tile, q, h, w) ((size_t)(q) + LUTNIORAD_DECOMPOSE_TILED_CELLS(tile, h, w))
 #define LUTNIORAD_FILE_BYTES(q) (20 + 5 * (size_t)(q)) /* just so many */
 
 #ifdef __cplusplus
@@ -156,6 +167,7 @@ typedef struct {
     REFUSAL(LUTNIORAD_LEFT_OVER, 10, "bytes are left over behind the last window") /* how many */ \
     REFUSAL(LUTNIORAD_OTHER_M, 15, "the m of the map is not that of the table") \
     REFUSAL(LUTNIORAD_MONTH_FULL, 16, "the table has 1,000 maps already") \
+    REFUSAL(LUTNIORAD_BAD_TILE, 17, "the tile is larger than the picture") \
     REFUSAL(LUTNIORAD_BAD_TABLE, 26, "the table is no month's: its window, count of maps or a class cannot be")
 
 enum {
@@ -204,6 +216,18 @@ lutniorad_answer lutniorad_decompose(uint32_t m,
                                      uint32_t *out, size_t n_out);
 
 /*
+ * The same with a tile: which are the maximal blocks of this window among those of a side up to 2^tile?
+ *
+ * Answers and writes as lutniorad_decompose does; with `tile` = m, just what that does. There are fewer than 4(w + h)
+ * plus the whole part of h * w / 4^tile blocks, and an `out` of so many cells is always long enough.
+ *
+ * Refuses by 1; 17 when `tile` is over m; 6; and 8, as lutniorad_decompose does.
+ */
+lutniorad_answer lutniorad_decompose_tiled(uint32_t m, uint32_t tile,
+                                           uint16_t r0, uint16_t c0, uint16_t h, uint16_t w,
+                                           uint32_t *out, size_t n_out);
+
+/*
  * Which records does this window need, and at which blocks are they handed out?
  *
  * Answers `first` = the number of openings, `second` = the number of records that they hand out together.
@@ -226,6 +250,25 @@ lutniorad_answer lutniorad_open(uint32_t m,
                                 uint16_t r0, uint16_t c0, uint16_t h, uint16_t w,
                                 uint16_t *border, size_t n_border,
                                 uint32_t *out, size_t n_out);
+
+/*
+ * The same with a tile: the maximal blocks that are opened or skipped are those of a side up to 2^tile.
+ *
+ * Answers and writes as lutniorad_open does; with `tile` = m, just what that does. There are fewer than 4(w + h) plus
+ * h * w / 4^tile openings, and no more than records, so an `out` of three times as many cells as either is always long
+ * enough.
+ *
+ * On the map and the window of the example above, with `tile` = 0, there are seven openings, a record at each: 7 0 1,
+ * 11 1 1, 12 2 1, 13 3 1, 14 4 1, 17 5 1, 21 6 1.
+ *
+ * Refuses by 1; 17 when `tile` is over m; and then by 2 to 8, as lutniorad_open does.
+ */
+lutniorad_answer lutniorad_open_tiled(uint32_t m, uint32_t tile,
+                                      const uint32_t *keys, size_t n_keys,
+                                      const uint8_t *classes, size_t n_classes,
+                                      uint16_t r0, uint16_t c0, uint16_t h, uint16_t w,
+                                      uint16_t *border, size_t n_border,
+                                      uint32_t *out, size_t n_out);
 
 /* What lutniorad_exist answers. */
 enum {
@@ -303,6 +346,25 @@ lutniorad_answer lutniorad_select(uint32_t m,
                                   uint8_t of_class,
                                   uint16_t *border, size_t n_border,
                                   uint32_t *out, size_t n_out);
+
+/*
+ * The same with a tile: goes through the maximal blocks of a side up to 2^tile.
+ *
+ * Answers and writes as lutniorad_select does; with `tile` = m, just what that does. Where a record of the class is
+ * larger than a tile, the window's part of it is listed by its maximal blocks, of which none is. An `out` of
+ * Q + 4(w + h) + h * w / 4^tile cells is always long enough.
+ *
+ * On the map and the window of the example above, with `tile` = 0, class 1 has the keys 7, 9, 14, 17.
+ *
+ * Refuses by 1; 17 when `tile` is over m; and then by 2 to 8, as lutniorad_select does.
+ */
+lutniorad_answer lutniorad_select_tiled(uint32_t m, uint32_t tile,
+                                        const uint32_t *keys, size_t n_keys,
+                                        const uint8_t *classes, size_t n_classes,
+                                        uint16_t r0, uint16_t c0, uint16_t h, uint16_t w,
+                                        uint8_t of_class,
+                                        uint16_t *border, size_t n_border,
+                                        uint32_t *out, size_t n_out);
 
 /*
  * Begins a month: makes the table of this window with no map.

@@ -13,6 +13,7 @@
 #include "maps.h"
 #include "months.h"
 #include "queries.h"
+#include "tiles.h"
 #include "windows.h"
 
 #include <string.h>
@@ -35,7 +36,7 @@ static void require_painted(const map *a, size_t q)
 
 static lutniorad_answer compare_check(const map *a, size_t n_keys, size_t n_classes)
 {
-    call c = {&CHECK, a->m, NO_WINDOW, NO_CLASS, {{a->keys, n_keys}, {a->classes, n_classes}}};
+    call c = {&CHECK, a->m, NO_TILE, NO_WINDOW, NO_CLASS, {{a->keys, n_keys}, {a->classes, n_classes}}};
     lutniorad_answer answer = compare(c);
     if (answer.refusal == 0)
         require_painted(a, n_keys);
@@ -44,13 +45,13 @@ static lutniorad_answer compare_check(const map *a, size_t n_keys, size_t n_clas
 
 static lutniorad_answer compare_read(size_t n, size_t n_keys, size_t n_classes)
 {
-    call c = {&READ, 0, NO_WINDOW, NO_CLASS, {{file, n}, {NULL, n_keys}, {NULL, n_classes}}};
+    call c = {&READ, 0, NO_TILE, NO_WINDOW, NO_CLASS, {{file, n}, {NULL, n_keys}, {NULL, n_classes}}};
     return compare(c);
 }
 
 static lutniorad_answer compare_write(const map *a, size_t n_keys, size_t n_classes, size_t n_out)
 {
-    call c = {&WRITE, a->m, NO_WINDOW, NO_CLASS, {{a->keys, n_keys}, {a->classes, n_classes}, {NULL, n_out}}};
+    call c = {&WRITE, a->m, NO_TILE, NO_WINDOW, NO_CLASS, {{a->keys, n_keys}, {a->classes, n_classes}, {NULL, n_out}}};
     lutniorad_answer answer = compare(c);
     if (answer.refusal == 0)
         require(answer.first == length_of_file(n_keys), "the file has another length than the header says");
@@ -577,6 +578,11 @@ static const group groups[] = {
     {"random months", group_random_months, true},
     {"every number", group_every_number, false},
     {"digits", group_digits, true},
+    {"tiles written out", group_tiles_written_out, false},
+    {"small tiles", group_small_tiles, false},
+    {"refusals of tiles", group_tile_refusals, false},
+    {"many tiles", group_many_tiles, false},
+    {"random tiles", group_random_tiles, true},
 };
 
 int main(int argc, char **argv)

@@ -61,15 +61,22 @@ typedef struct {
                                   uint64_t *, size_t);
     lutniorad_answer (*read)(const uint8_t *, size_t, uint32_t *, size_t, uint8_t *, size_t);
     lutniorad_answer (*write)(uint32_t, const uint32_t *, size_t, const uint8_t *, size_t, uint8_t *, size_t);
+    lutniorad_answer (*decompose_tiled)(uint32_t, uint32_t, uint16_t, uint16_t, uint16_t, uint16_t, uint32_t *, size_t);
+    lutniorad_answer (*open_tiled)(uint32_t, uint32_t, const uint32_t *, size_t, const uint8_t *, size_t, uint16_t,
+                                   uint16_t, uint16_t, uint16_t, uint16_t *, size_t, uint32_t *, size_t);
+    lutniorad_answer (*select_tiled)(uint32_t, uint32_t, const uint32_t *, size_t, const uint8_t *, size_t, uint16_t,
+                                     uint16_t, uint16_t, uint16_t, uint8_t, uint16_t *, size_t, uint32_t *, size_t);
 } program;
 
 static const program library = {
-    lutniorad_check,  lutniorad_decompose,   lutniorad_open,      lutniorad_exist, lutniorad_report,
-    lutniorad_select, lutniorad_month_clear, lutniorad_month_add, lutniorad_read,  lutniorad_write,
+    lutniorad_check,           lutniorad_decompose,   lutniorad_open,         lutniorad_exist, lutniorad_report,
+    lutniorad_select,          lutniorad_month_clear, lutniorad_month_add,    lutniorad_read,  lutniorad_write,
+    lutniorad_decompose_tiled, lutniorad_open_tiled,  lutniorad_select_tiled,
 };
 static const program reference = {
-    reference_check,  reference_decompose,   reference_open,      reference_exist, reference_report,
-    reference_select, reference_month_clear, reference_month_add, reference_read,  reference_write,
+    reference_check,           reference_decompose,   reference_open,         reference_exist, reference_report,
+    reference_select,          reference_month_clear, reference_month_add,    reference_read,  reference_write,
+    reference_decompose_tiled, reference_open_tiled,  reference_select_tiled,
 };
 
 static lutniorad_answer run_check(const program *p, const call *c, const slice *s)
@@ -128,36 +135,64 @@ static lutniorad_answer run_write(const program *p, const call *c, const slice *
     return p->write(c->m, s[0].cells, s[0].length, s[1].cells, s[1].length, s[2].cells, s[2].length);
 }
 
+static lutniorad_answer run_decompose_tiled(const program *p, const call *c, const slice *s)
+{
+    return p->decompose_tiled(c->m, c->tile, c->at.r0, c->at.c0, c->at.h, c->at.w, s[0].cells, s[0].length);
+}
+
+static lutniorad_answer run_open_tiled(const program *p, const call *c, const slice *s)
+{
+    return p->open_tiled(c->m, c->tile, s[0].cells, s[0].length, s[1].cells, s[1].length, c->at.r0, c->at.c0, c->at.h,
+                         c->at.w, s[2].cells, s[2].length, s[3].cells, s[3].length);
+}
+
+static lutniorad_answer run_select_tiled(const program *p, const call *c, const slice *s)
+{
+    return p->select_tiled(c->m, c->tile, s[0].cells, s[0].length, s[1].cells, s[1].length, c->at.r0, c->at.c0, c->at.h,
+                           c->at.w, c->of_class, s[2].cells, s[2].length, s[3].cells, s[3].length);
+}
+
 typedef struct {
     const char *name;
     size_t cell; /* bytes in a cell */
 } parameter;
 
+/* What an operation takes beside its slices. */
+enum { M = 1, TILE = 2, WINDOW = 4, CLASS = 8 };
+
 struct operation {
     const char *name;
     lutniorad_answer (*run)(const program *, const call *, const slice *);
-    bool takes_m, takes_window, takes_class;
+    int takes;
     size_t n_slices;
     parameter slices[MOST_SLICES];
 };
 
-const operation CHECK = {"check", run_check, true, false, false, 2, {{"keys", 4}, {"classes", 1}}};
-const operation DECOMPOSE = {"decompose", run_decompose, true, true, false, 1, {{"out", 4}}};
-const operation OPEN = {
-    "open", run_open, true, true, false, 4, {{"keys", 4}, {"classes", 1}, {"border", 2}, {"out", 4}}};
-const operation EXIST = {"exist", run_exist, true, true, true, 3, {{"keys", 4}, {"classes", 1}, {"border", 2}}};
+const operation CHECK = {"check", run_check, M, 2, {{"keys", 4}, {"classes", 1}}};
+const operation DECOMPOSE = {"decompose", run_decompose, M | WINDOW, 1, {{"out", 4}}};
+const operation OPEN = {"open", run_open, M | WINDOW, 4, {{"keys", 4}, {"classes", 1}, {"border", 2}, {"out", 4}}};
+const operation EXIST = {"exist", run_exist, M | WINDOW | CLASS, 3, {{"keys", 4}, {"classes", 1}, {"border", 2}}};
 const operation REPORT = {
-    "report", run_report, true, true, false, 4, {{"keys", 4}, {"classes", 1}, {"border", 2}, {"totals", 4}}};
+    "report", run_report, M | WINDOW, 4, {{"keys", 4}, {"classes", 1}, {"border", 2}, {"totals", 4}}};
 const operation SELECT = {
-    "select", run_select, true, true, true, 4, {{"keys", 4}, {"classes", 1}, {"border", 2}, {"out", 4}}};
-const operation MONTH_CLEAR = {"month_clear", run_month_clear, true, true, false, 1, {{"table", 8}}};
+    "select", run_select, M | WINDOW | CLASS, 4, {{"keys", 4}, {"classes", 1}, {"border", 2}, {"out", 4}}};
+const operation MONTH_CLEAR = {"month_clear", run_month_clear, M | WINDOW, 1, {{"table", 8}}};
 const operation MONTH_ADD = {
-    "month_add", run_month_add, true, false, false, 4, {{"keys", 4}, {"classes", 1}, {"border", 2}, {"table", 8}}};
-const operation READ = {"read", run_read, false, false, false, 3, {{"file", 1}, {"keys", 4}, {"classes", 1}}};
-const operation WRITE = {"write", run_write, true, false, false, 3, {{"keys", 4}, {"classes", 1}, {"out", 1}}};
+    "month_add", run_month_add, M, 4, {{"keys", 4}, {"classes", 1}, {"border", 2}, {"table", 8}}};
+const operation READ = {"read", run_read, 0, 3, {{"file", 1}, {"keys", 4}, {"classes", 1}}};
+const operation WRITE = {"write", run_write, M, 3, {{"keys", 4}, {"classes", 1}, {"out", 1}}};
+const operation DECOMPOSE_TILED = {"decompose_tiled", run_decompose_tiled, M | TILE | WINDOW, 1, {{"out", 4}}};
+const operation OPEN_TILED = {
+    "open_tiled", run_open_tiled, M | TILE | WINDOW, 4, {{"keys", 4}, {"classes", 1}, {"border", 2}, {"out", 4}}};
+const operation SELECT_TILED = {"select_tiled",
+                                run_select_tiled,
+                                M | TILE | WINDOW | CLASS,
+                                4,
+                                {{"keys", 4}, {"classes", 1}, {"border", 2}, {"out", 4}}};
 
-static const operation *const operations[] = {&CHECK,  &DECOMPOSE,   &OPEN,      &EXIST, &REPORT,
-                                              &SELECT, &MONTH_CLEAR, &MONTH_ADD, &READ,  &WRITE};
+static const operation *const operations[] = {&CHECK,           &DECOMPOSE,   &OPEN,        &EXIST, &REPORT,
+                                              &SELECT,          &MONTH_CLEAR, &MONTH_ADD,   &READ,  &WRITE,
+                                              &DECOMPOSE_TILED, &OPEN_TILED,  &SELECT_TILED};
 
 /* ---- Cases, and what is said when one fails ---- */
 
@@ -192,11 +227,13 @@ static void print_call(const call *c)
 {
     enum { MOST_SHOWN = 100 };
     printf("  call: %s", c->operation->name);
-    if (c->operation->takes_m)
+    if ((c->operation->takes & M) != 0)
         printf(", m %" PRIu32, c->m);
-    if (c->operation->takes_window)
+    if ((c->operation->takes & TILE) != 0)
+        printf(", tile %" PRIu32, c->tile);
+    if ((c->operation->takes & WINDOW) != 0)
         printf(", r0 %d, c0 %d, h %d, w %d", c->at.r0, c->at.c0, c->at.h, c->at.w);
-    if (c->operation->takes_class)
+    if ((c->operation->takes & CLASS) != 0)
         printf(", class %d", c->of_class);
     for (size_t i = 0; i < c->operation->n_slices; i++) {
         const given *g = &c->slices[i];
@@ -374,8 +411,9 @@ static lutniorad_answer run_on_painted_stack(const call *c, const slice *slices,
 
 /* ---- The comparison ---- */
 
-/* The library's slices of the last call, in the order of its parameters. */
+/* The library's slices of the last call, in the order of its parameters, and where these and their guards stand. */
 static const void *last_slices[MOST_SLICES];
+static stand last_stands[MOST_SLICES];
 
 const void *left(size_t i)
 {
@@ -400,19 +438,33 @@ lutniorad_answer compare(call c)
     calls++;
     for (int round = 0; round < ROUNDS; round++) {
         slice slices[SIDES][MOST_SLICES];
-        stand stands[MOST_SLICES];
         for (size_t i = 0; i < c.operation->n_slices; i++) {
-            stands[i] = lay_out(&c, i, round, slices);
+            last_stands[i] = lay_out(&c, i, round, slices);
             last_slices[i] = slices[LIBRARY][i].cells;
         }
         answers[round] = watching ? run_on_painted_stack(&c, slices[LIBRARY], round)
                                   : c.operation->run(&library, &c, slices[LIBRARY]);
         require_answer(answers[round], "the independent program", c.operation->run(&reference, &c, slices[REFERENCE]));
         for (size_t i = 0; i < c.operation->n_slices; i++)
-            compare_slice(&c.operation->slices[i], c.slices[i].length, &stands[i]);
+            compare_slice(&c.operation->slices[i], c.slices[i].length, &last_stands[i]);
     }
     require_answer(answers[1], "the same call with other garbage", answers[0]);
     return answers[0];
+}
+
+void compare_with(const operation *other, lutniorad_answer answer)
+{
+    static unsigned char kept[MOST_SLICES][ROOM];
+    call c = running, by_other = running;
+    by_other.operation = other;
+    for (size_t i = 0; i < c.operation->n_slices; i++)
+        memcpy(kept[i], last_stands[i].first[LIBRARY], last_stands[i].bytes);
+    lutniorad_answer others = compare(by_other);
+    running = c;
+    require_answer(answer, other->name, others);
+    for (size_t i = 0; i < c.operation->n_slices; i++)
+        if (memcmp(kept[i], last_stands[i].first[LIBRARY], last_stands[i].bytes) != 0)
+            fail("%s leaves something else in %s", other->name, c.operation->slices[i].name);
 }
 
 /* ---- The run ---- */

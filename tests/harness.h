@@ -5,8 +5,8 @@
  * TO ADD AN OPERATION that both programs have, write in harness.c, beside those of the others:
  *   - one pair of function pointers: a member of `program`, and its function in `library` and in `reference`;
  *   - one run_ function, which hands the numbers and slices of a call to that member in the order of its parameters;
- *   - one row: the operation's name, its run_ function, whether it takes m, a window, a class, how many slices it
- *     takes, and for each its name and the bytes in a cell, 1, 2, 4 or 8; and the row's place in `operations`.
+ *   - one row: the operation's name, its run_ function, what of m, a tile, a window and a class it takes, how many
+ *     slices, and for each its name and the bytes in a cell, 1, 2, 4 or 8; and the row's place in `operations`.
  * Declare the row below with the others. MOST_SLICES is as many slices as any of them has. A case then fills in a
  * `call` of the operation and hands it to `compare`.
  *
@@ -39,6 +39,7 @@ size_t near_length(size_t right);
 typedef struct operation operation;
 
 extern const operation CHECK, DECOMPOSE, OPEN, EXIST, REPORT, SELECT, MONTH_CLEAR, MONTH_ADD, READ, WRITE;
+extern const operation DECOMPOSE_TILED, OPEN_TILED, SELECT_TILED;
 
 enum { MOST_SLICES = 4 };
 
@@ -56,11 +57,11 @@ enum { CELLS_OF_VAST = TABLE_CELLS + 64 };
 
 /* Of a call that takes none. */
 extern const window NO_WINDOW;
-enum { NO_CLASS = 0 };
+enum { NO_TILE = 0, NO_CLASS = 0 };
 
 typedef struct {
     const operation *operation;
-    uint32_t m;
+    uint32_t m, tile;
     window at;
     uint8_t of_class;
     given slices[MOST_SLICES];
@@ -71,6 +72,9 @@ lutniorad_answer compare(call c);
 
 /* The library's slice after the last call, by its place among the parameters. */
 const void *left(size_t i);
+
+/* The last call, which had this answer, by an operation that takes the same slices: it answers and leaves the same. */
+void compare_with(const operation *other, lutniorad_answer answer);
 
 /*
  * Between these two, the library's calls run on a stack that was painted before, so that it shows how deep a call went.

@@ -13,7 +13,7 @@ static void add_record(uint32_t key)
 
 static lutniorad_answer compare_check(void)
 {
-    call c = {&CHECK, a.m, NO_WINDOW, NO_CLASS, {{a.keys, a.q}, {a.classes, a.q}}};
+    call c = {&CHECK, a.m, NO_TILE, NO_WINDOW, NO_CLASS, {{a.keys, a.q}, {a.classes, a.q}}};
     return compare(c);
 }
 

@@ -328,6 +328,35 @@ window random_window(uint32_t m, size_t most_pixels)
     return at;
 }
 
+window thin_window(uint32_t m, size_t number)
+{
+    const uint16_t side = side_of(m), last = (uint16_t)(side - 1), middle = (uint16_t)(side / 2);
+    const window windows[THIN_WINDOWS] = {
+        {0, 0, 1, side},    {last, 1, 1, last}, {(uint16_t)(middle - 1), 0, 2, last},
+        {0, 0, side, 1},    {1, last, last, 1}, {0, middle, side, 2},
+        {last, last, 1, 1}, {last, 0, 1, 1},
+    };
+    return windows[number];
+}
+
+window wide_window(uint32_t m, size_t number)
+{
+    const uint16_t side = side_of(m), less = (uint16_t)(side - 1), least = (uint16_t)(side - 2);
+    const window windows[WIDE_WINDOWS] = {
+        {0, 0, side, side}, {1, 1, least, least}, {0, 0, less, less}, {1, 1, less, less}, {1, 0, least, less},
+    };
+    return windows[number];
+}
+
+uint32_t some_tile(uint32_t m, window at)
+{
+    enum { MOST_TILES = 1 << 13 };
+    uint32_t least = 0;
+    while (least < m && (size_t)at.h * at.w >> 2 * least > MOST_TILES)
+        least++;
+    return least + (uint32_t)below(m - least + 1);
+}
+
 /* How much of a stretch of `side` places from `from` on lies in one of `length` places from `begin` on. */
 static size_t shared(size_t from, size_t side, size_t begin, size_t length)
 {

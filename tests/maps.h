@@ -100,6 +100,19 @@ window small_window(uint32_t m, size_t number);
  */
 window random_window(uint32_t m, size_t most_pixels);
 
+/* One row or column at an edge of the picture, beside one, and in the middle; and single pixels in the corners. */
+enum { THIN_WINDOWS = 8 };
+
+window thin_window(uint32_t m, size_t number);
+
+/* The whole picture, and all of it but a row or a column at some edges. */
+enum { WIDE_WINDOWS = 5 };
+
+window wide_window(uint32_t m, size_t number);
+
+/* A tile from 0 to m, any of which the window does not have so many that they take long. */
+uint32_t some_tile(uint32_t m, window at);
+
 /*
  * A map made for a window: blocks are cut as long as they lie partly in the window, down to the side 2^least. With
  * least = 0 each maximal block is a record, and so there are as many openings as there can be; else there are records

@@ -19,14 +19,14 @@ static uint64_t *cells_of_class(size_t k)
 
 static lutniorad_answer compare_clear(uint32_t m, window at, size_t n_table)
 {
-    call c = {&MONTH_CLEAR, m, at, NO_CLASS, {{table, n_table}}};
+    call c = {&MONTH_CLEAR, m, NO_TILE, at, NO_CLASS, {{table, n_table}}};
     return compare(c);
 }
 
 static lutniorad_answer compare_add_slices(const map *a, size_t n_keys, size_t n_classes, given border, size_t n_table)
 {
     given keys = {a->keys, n_keys}, classes = {a->classes, n_classes}, lent = {table, n_table};
-    call c = {&MONTH_ADD, a->m, NO_WINDOW, NO_CLASS, {keys, classes, border, lent}};
+    call c = {&MONTH_ADD, a->m, NO_TILE, NO_WINDOW, NO_CLASS, {keys, classes, border, lent}};
     return compare(c);
 }
 
@@ -308,7 +308,7 @@ static void clear_with_every_length(uint32_t m, window at)
 {
     static const size_t lengths[] = {0, 1, 5, 6, 1029, 1030, 1031, 1040, 2060};
     for (size_t i = 0; i < COUNT(lengths); i++) {
-        call c = {&MONTH_CLEAR, m, at, NO_CLASS, {{NULL, lengths[i]}}};
+        call c = {&MONTH_CLEAR, m, NO_TILE, at, NO_CLASS, {{NULL, lengths[i]}}};
         compare(c);
     }
 }

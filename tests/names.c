@@ -36,7 +36,7 @@ static void hold_answer(lutniorad_answer got, uint32_t refusal, uint32_t place, 
 
 /* What a call is handed. As it is begun, each call is answered; each refusal comes from one thing that is spoiled. */
 enum { Q = 7, WIDTH = 3 };
-static uint32_t m, keys[Q], totals[LUTNIORAD_CLASSES];
+static uint32_t m, tile, keys[Q], totals[LUTNIORAD_CLASSES];
 static uint16_t r0, border[WIDTH];
 static uint8_t classes[Q], file[LUTNIORAD_FILE_BYTES(Q)];
 static uint64_t table[LUTNIORAD_MONTH_CELLS];
@@ -46,7 +46,7 @@ static void begin(void)
 {
     static const uint32_t some_keys[Q] = {5, 11, 12, 13, 14, 15, 20};
     static const uint8_t some_classes[Q] = {1, 2, 2, 3, 1, 1, 2};
-    m = 2;
+    m = tile = 2;
     r0 = 0;
     memcpy(keys, some_keys, sizeof keys);
     memcpy(classes, some_classes, sizeof classes);
@@ -60,6 +60,12 @@ static void begin(void)
 static lutniorad_answer report(void)
 {
     return lutniorad_report(m, keys, n_keys, classes, n_classes, r0, 1, 3, WIDTH, border, n_border, totals, n_totals);
+}
+
+static lutniorad_answer select_tiled(void)
+{
+    return lutniorad_select_tiled(m, tile, keys, n_keys, classes, n_classes, r0, 1, 3, WIDTH, 1, border, n_border,
+                                  totals, n_totals);
 }
 
 static lutniorad_answer read_file(void)
@@ -117,6 +123,11 @@ static void keys_elsewhere(void)
     file[12]++;
 }
 
+static void tile_beyond_picture(void)
+{
+    tile = m + 1;
+}
+
 static void table_of_another_m(void)
 {
     lutniorad_month_clear(m + 1, r0, 1, 3, WIDTH, table, COUNT(table));
@@ -148,6 +159,7 @@ static const struct {
     {LUTNIORAD_BAD_LAYOUT, 12, keys_elsewhere, read_file},
     {LUTNIORAD_OTHER_M, 0, table_of_another_m, add},
     {LUTNIORAD_MONTH_FULL, 0, full_table, add},
+    {LUTNIORAD_BAD_TILE, 0, tile_beyond_picture, select_tiled},
     {LUTNIORAD_BAD_TABLE, 0, sum_of_no_map, add},
 };
 
@@ -277,11 +289,17 @@ static void hold_version(void)
 
 /* ---- Room ---- */
 
-/* The size of an array each, so each is a constant where its arguments are. The largest picture fits. */
-enum { SIDE = LUTNIORAD_MOST_SIDE };
+/*
+ * The size of an array each, so each is a constant where its arguments are. The largest picture fits, and with the tile
+ * 4 there are more blocks in it than without.
+ */
+enum { SIDE = LUTNIORAD_MOST_SIDE, TILE = 4 };
 static uint32_t blocks[LUTNIORAD_DECOMPOSE_CELLS(SIDE, SIDE)];
 static uint32_t openings[LUTNIORAD_OPEN_CELLS(SIDE, SIDE)];
 static uint32_t selected[LUTNIORAD_SELECT_CELLS(LUTNIORAD_MOST_RECORDS, SIDE, SIDE)];
+static uint32_t tiled_blocks[LUTNIORAD_DECOMPOSE_TILED_CELLS(TILE, SIDE, SIDE)];
+static uint32_t tiled_openings[LUTNIORAD_OPEN_TILED_CELLS(TILE, SIDE, SIDE)];
+static uint32_t tiled_selected[LUTNIORAD_SELECT_TILED_CELLS(TILE, LUTNIORAD_MOST_RECORDS, SIDE, SIDE)];
 
 static void hold_arguments(void)
 {
@@ -291,6 +309,21 @@ static void hold_arguments(void)
     hold(2 * LUTNIORAD_SELECT_CELLS(q++, h++, w++) == 74, "LUTNIORAD_SELECT_CELLS", "of 1, 4 and 5 it is not 37");
     hold(2 * LUTNIORAD_FILE_BYTES(q++) == 60, "LUTNIORAD_FILE_BYTES", "of 2 it is not 30");
     hold(q == 3 && h == 5 && w == 6, "room", "an argument is not taken once");
+}
+
+/* Those with a tile take h and w twice, and the others once. */
+static void hold_arguments_with_tile(void)
+{
+    int c = 0, q = 1;
+    hold(2 * LUTNIORAD_DECOMPOSE_TILED_CELLS(c++, 2 + 1, 4 + 1) == 94, "LUTNIORAD_DECOMPOSE_TILED_CELLS",
+         "of 0, 3 and 5 it is not 47");
+    hold(2 * LUTNIORAD_OPEN_TILED_CELLS(c++, 2 + 1, 4 + 1) == 210, "LUTNIORAD_OPEN_TILED_CELLS",
+         "of 1, 3 and 5 it is not 105");
+    hold(2 * LUTNIORAD_SELECT_TILED_CELLS(c++, q++, 7 + 1, 9 + 1) == 156, "LUTNIORAD_SELECT_TILED_CELLS",
+         "of 2, 1, 8 and 10 it is not 78");
+    hold(LUTNIORAD_DECOMPOSE_TILED_CELLS(8 + 4, SIDE, SIDE) == LUTNIORAD_DECOMPOSE_CELLS(SIDE, SIDE) + 1,
+         "LUTNIORAD_DECOMPOSE_TILED_CELLS", "with the largest tile the largest picture has not one tile");
+    hold(c == 3 && q == 2, "room with a tile", "an argument is not taken once");
 }
 
 /*
@@ -312,6 +345,20 @@ static void hold_room(uint16_t row, uint16_t col, uint16_t h, uint16_t w)
          "it is not enough");
 }
 
+static void hold_tiled_room(uint32_t c, uint16_t row, uint16_t col, uint16_t h, uint16_t w)
+{
+    size_t most = LUTNIORAD_DECOMPOSE_TILED_CELLS(c, h, w);
+    lutniorad_answer cut = lutniorad_decompose_tiled(a.m, c, row, col, h, w, tiled_blocks, most);
+    lutniorad_answer opened = lutniorad_open_tiled(a.m, c, a.keys, a.q, a.classes, a.q, row, col, h, w, wide, w,
+                                                   tiled_openings, LUTNIORAD_OPEN_TILED_CELLS(c, h, w));
+    lutniorad_answer listed = lutniorad_select_tiled(a.m, c, a.keys, a.q, a.classes, a.q, row, col, h, w, 1, wide, w,
+                                                     tiled_selected, LUTNIORAD_SELECT_TILED_CELLS(c, a.q, h, w));
+    hold(cut.refusal == 0 && cut.first < most, "LUTNIORAD_DECOMPOSE_TILED_CELLS", "it is not enough");
+    hold(opened.refusal == 0 && opened.first < most && opened.first <= a.q, "LUTNIORAD_OPEN_TILED_CELLS",
+         "it is not enough");
+    hold(listed.refusal == 0 && listed.first < a.q + most, "LUTNIORAD_SELECT_TILED_CELLS", "it is not enough");
+}
+
 static void hold_room_of_every_window(uint32_t of_m, uint32_t level)
 {
     uint16_t side = (uint16_t)(1 << of_m);
@@ -321,8 +368,11 @@ static void hold_room_of_every_window(uint32_t of_m, uint32_t level)
     for (uint16_t row = 0; row < side; row++)
         for (uint16_t col = 0; col < side; col++)
             for (uint16_t h = 1; row + h <= side; h++)
-                for (uint16_t w = 1; col + w <= side; w++)
+                for (uint16_t w = 1; col + w <= side; w++) {
                     hold_room(row, col, h, w);
+                    for (uint32_t c = 0; c <= of_m; c++)
+                        hold_tiled_room(c, row, col, h, w);
+                }
 }
 
 /* Strips about the middle of a large picture, and all of it but its edge, have nearly as many blocks as can be. */
@@ -335,7 +385,23 @@ static void hold_room_of_large_windows(uint32_t of_m, uint32_t level)
         hold_room(from, 1, twice, most);
         hold_room(1, from, most, twice);
         hold_room(half, half, (uint16_t)(side - twice), (uint16_t)(side - twice));
+        hold_tiled_room(TILE, from, 1, twice, most);
+        hold_tiled_room(TILE, half, half, (uint16_t)(side - twice), (uint16_t)(side - twice));
     }
+}
+
+/* As many blocks as there can be at all: on a map of one record, the pixels of the largest picture. */
+static void hold_most_blocks(void)
+{
+    const uint32_t pixels = (uint32_t)SIDE * SIDE;
+    make_even_map(&a, LUTNIORAD_MOST_M, 0, 1);
+    hold_answer(lutniorad_decompose_tiled(a.m, 0, 0, 0, SIDE, SIDE, blocks, COUNT(blocks)), LUTNIORAD_SHORT_ROOM,
+                pixels, 0, "every pixel a block");
+    hold_answer(lutniorad_select_tiled(a.m, 0, a.keys, a.q, a.classes, a.q, 0, 0, SIDE, SIDE, 1, wide, SIDE, selected,
+                                       COUNT(selected)),
+                LUTNIORAD_SHORT_ROOM, pixels, 0, "every pixel selected");
+    hold_answer(lutniorad_open_tiled(a.m, 0, a.keys, a.q, a.classes, a.q, 0, 0, SIDE, SIDE, wide, SIDE, openings, 3), 0,
+                0, 1, "a record of every pixel");
 }
 
 int main(void)
@@ -346,11 +412,13 @@ int main(void)
     hold_not_seen();
     hold_version();
     hold_arguments();
+    hold_arguments_with_tile();
     for (uint32_t of_m = 0; of_m <= 4; of_m++)
         for (uint32_t level = 0; level <= of_m; level++)
             hold_room_of_every_window(of_m, level);
     hold_room_of_large_windows(8, 8);
     hold_room_of_large_windows(LUTNIORAD_MOST_M, 0);
     hold_room_of_large_windows(LUTNIORAD_MOST_M, 8);
+    hold_most_blocks();
     return wrong > 0;
 }

@@ -4,18 +4,29 @@
 
 static uint32_t raster[MOST_PIXELS];
 
-/* Fewer than 4(w + h) keys, `apart` cells from one to the next, and each that of a maximal block. */
-static void require_maximal(uint32_t m, window at, const uint32_t *keys, size_t apart, size_t n)
+/* Two fewer than 4(w + h) + wh/4^tile: so without a tile, where wh/4^m is at most 1, fewer than 4(w + h). */
+static size_t most_blocks(uint32_t tile, window at)
 {
-    require(n < LUTNIORAD_DECOMPOSE_CELLS(at.h, at.w), "there are not fewer than 4(w + h) of them");
-    for (size_t i = 0; i < n; i++)
-        require(reference_maximal(m, keys[apart * i], at), "there is a key of no maximal block");
+    size_t tiles = (size_t)at.h * at.w;
+    for (uint32_t i = 0; i < tile; i++)
+        tiles /= 4;
+    return 4 * ((size_t)at.w + at.h) + tiles - 2;
 }
 
-void require_decomposed(uint32_t m, window at, const uint32_t *keys, size_t n)
+/* No more keys than that, `apart` cells from one to the next, and each that of a maximal block. */
+static void require_maximal(uint32_t m, uint32_t tile, window at, const uint32_t *keys, size_t apart, size_t n)
 {
-    require_maximal(m, at, keys, 1, n);
+    require(n <= most_blocks(tile, at), "there are more of them than 4(w + h) + wh/4^tile - 2");
+    for (size_t i = 0; i < n; i++)
+        require(reference_maximal(m, tile, keys[apart * i], at), "there is a key of no maximal block");
+}
+
+void require_decomposed(uint32_t m, uint32_t tile, window at, const uint32_t *keys, size_t n)
+{
+    require_maximal(m, tile, at, keys, 1, n);
     require(reference_raster(m, keys, n, at, raster), "the blocks do not have each pixel of the window once");
+    for (size_t p = 0; tile == 0 && p < (size_t)at.h * at.w; p++)
+        require(raster[p] == p, "with the tile 0 the blocks are not the pixels, row by row");
 }
 
 /* Marks the records of the openings as handed out, and returns how many they are. */
@@ -94,13 +105,13 @@ static bool brings_all(choice blocks, const choice *bring, size_t n_bring)
     return true;
 }
 
-static void require_fewest(const map *a, window at, size_t openings)
+static void require_fewest(const map *a, uint32_t tile, window at, size_t openings)
 {
     static choice bring[1 << FEW_BLOCKS];
     uint32_t blocks[FEW_BLOCKS];
     if ((size_t)at.h * at.w > FEW_PIXELS)
         return;
-    lutniorad_answer list = reference_decompose(a->m, at.r0, at.c0, at.h, at.w, blocks, FEW_BLOCKS);
+    lutniorad_answer list = reference_decompose_tiled(a->m, tile, at.r0, at.c0, at.h, at.w, blocks, FEW_BLOCKS);
     if (list.refusal != 0)
         return; /* there are more blocks */
     size_t n_bring = blocks_that_bring(a, at, blocks, list.first, bring);
@@ -109,15 +120,15 @@ static void require_fewest(const map *a, window at, size_t openings)
             require(!brings_all((choice)k, bring, n_bring), "fewer maximal blocks would bring all records");
 }
 
-void require_opened(const map *a, window at, lutniorad_answer answer, const uint32_t *openings)
+void require_opened(const map *a, uint32_t tile, window at, lutniorad_answer answer, const uint32_t *openings)
 {
     static bool handed_out[MOST_RECORDS];
-    require_maximal(a->m, at, openings, 3, answer.first);
+    require_maximal(a->m, tile, at, openings, 3, answer.first);
     size_t records = mark_handed_out(a->q, openings, answer.first, handed_out);
     require(records == answer.second, "the openings hand out another number of records than the answer says");
     require(reference_raster(a->m, a->keys, a->q, at, raster), "a sound map does not paint every pixel once");
     require_just_these(a->q, at, handed_out);
-    require_fewest(a, at, answer.first);
+    require_fewest(a, tile, at, answer.first);
 }
 
 /* ---- Queries ---- */
@@ -131,11 +142,13 @@ void require_reported(window at, lutniorad_answer answer, const uint32_t *totals
     require(sum == answer.first, "the totals do not add up to what the answer says");
 }
 
-void require_selected(const map *a, window at, const uint32_t *keys, size_t n)
+void require_selected(const map *a, uint32_t tile, window at, const uint32_t *keys, size_t n)
 {
-    require(n < LUTNIORAD_SELECT_CELLS(a->q, at.h, at.w), "there are not fewer than Q + 4(w + h) keys");
-    for (size_t i = 0; i < n; i++)
+    require(n <= a->q + most_blocks(tile, at), "there are more keys than Q + 4(w + h) + wh/4^tile - 2");
+    for (size_t i = 0; i < n; i++) {
         require(reference_lies_in(a->m, keys[i], at), "there is a key of no block inside the window");
+        require(side_of_block(a->m, keys[i]) <= side_of(tile), "there is a key of a block that is larger than a tile");
+    }
 }
 
 void require_agreement(uint32_t existence, uint8_t of_class, const uint32_t *totals)

@@ -1,6 +1,9 @@
 /*
  * What is promised of windows, asked of the library's own answers: each of these looks at what the last call left, and
  * not at what the independent program made of it. Where a promise is not kept, the program shows the call and ends.
+ *
+ * The blocks have a side up to 2^tile. Where a call has no tile it is m: then wh/4^tile is 0, but of the whole picture,
+ * which is a single block.
  */
 #ifndef PROMISES_H
 #define PROMISES_H
@@ -10,20 +13,27 @@
 
 #include <stdbool.h>
 
-/* n keys, from decomposing a window: fewer than 4(w + h) maximal blocks, and each pixel of the window in just one. */
-void require_decomposed(uint32_t m, window at, const uint32_t *keys, size_t n);
+/*
+ * n keys, from decomposing a window: fewer than 4(w + h) + wh/4^tile maximal blocks, and each pixel of the window in
+ * just one; with the tile 0, the pixels row by row.
+ */
+void require_decomposed(uint32_t m, uint32_t tile, window at, const uint32_t *keys, size_t n);
 
 /*
- * The openings of a window on a sound map: fewer than 4(w + h) of them, each at a maximal block; each record with a
- * pixel in the window handed out once, and no other; as many as the answer says; and no fewer blocks bring them all.
+ * The openings of a window on a sound map: fewer than 4(w + h) + wh/4^tile of them, each at a maximal block and with a
+ * record of its own; each record with a pixel in the window handed out once, and no other; as many as the answer says;
+ * and no fewer blocks bring them all.
  */
-void require_opened(const map *a, window at, lutniorad_answer answer, const uint32_t *openings);
+void require_opened(const map *a, uint32_t tile, window at, lutniorad_answer answer, const uint32_t *openings);
 
 /* The 256 totals of a window add up to its pixels, and to what the answer says. */
 void require_reported(window at, lutniorad_answer answer, const uint32_t *totals);
 
-/* n keys, selected from a window on a sound map: each of a block inside the window, and fewer than Q + 4(w + h). */
-void require_selected(const map *a, window at, const uint32_t *keys, size_t n);
+/*
+ * n keys, selected from a window on a sound map: each of a block inside the window that is no larger than a tile, and
+ * fewer than Q + 4(w + h) + wh/4^tile.
+ */
+void require_selected(const map *a, uint32_t tile, window at, const uint32_t *keys, size_t n);
 
 /*
  * What exist answered about a class of a window, against the totals that were reported of the same window: yes exactly

@@ -81,7 +81,7 @@ static void require_stated_cells(size_t i)
 static void stated_query(size_t i)
 {
     make_stated_map(&sound, stated_queries[i].m);
-    question q = {stated_queries[i].operation, &sound, stated_queries[i].at, stated_queries[i].of_class};
+    question q = {stated_queries[i].operation, &sound, NO_TILE, stated_queries[i].at, stated_queries[i].of_class};
     require_stated(ask(q, stated_queries[i].n_border, stated_queries[i].n_out), stated_queries[i].answer);
     require_stated_cells(i);
     require_border(q.at, stated_queries[i].border);
@@ -119,7 +119,7 @@ static void stated_exist(size_t i)
 {
     window at = stated_existence[i].at;
     copy_records(&sound, 2, REFERENCE_Q, REFERENCE_KEYS, stated_existence[i].classes);
-    question q = {&EXIST, &sound, at, stated_existence[i].of_class};
+    question q = {&EXIST, &sound, NO_TILE, at, stated_existence[i].of_class};
     require_numbers(ask(q, at.w, 0), 0, 0, stated_existence[i].existence, 0);
     require_border(at, (uint16_t)(at.r0 + at.h));
 }
@@ -161,7 +161,7 @@ static void query_every_window(int how)
         window at = small_window(sound.m, number);
         try_queries(&sound, at, asked, n);
         for (size_t i = 0; i < COUNT(queries); i++) {
-            question q = {queries[i], &sound, at, some_class(&sound)};
+            question q = {queries[i], &sound, NO_TILE, at, some_class(&sound)};
             ask_with_every_length(q);
         }
     }
@@ -218,7 +218,7 @@ static void try_mixtures(window at)
             mix(&sound, number);
         else
             mix_two(&sound, number % places, number / places);
-        question asked = {&EXIST, &sound, at, ASKED}, not_seen = {&EXIST, &sound, at, NOT_SEEN};
+        question asked = {&EXIST, &sound, NO_TILE, at, ASKED}, not_seen = {&EXIST, &sound, NO_TILE, at, NOT_SEEN};
         ask_in_full(asked);
         ask_in_full(not_seen);
     }
@@ -227,7 +227,7 @@ static void try_mixtures(window at)
 static void mix_in_every_window(void)
 {
     for (size_t number = 0; number < n_small_windows(sound.m); number++) {
-        question exist = {&EXIST, &sound, small_window(sound.m, number), ASKED};
+        question exist = {&EXIST, &sound, NO_TILE, small_window(sound.m, number), ASKED};
         if (ask(exist, exist.at.w, 0).refusal == 0)
             try_mixtures(exist.at);
     }

@@ -10,31 +10,67 @@ static void require_room(lutniorad_answer answer, size_t n_out, size_t enough_ce
     require(n_out < enough_cells || answer.refusal != LUTNIORAD_SHORT_ROOM, "what is always enough is not enough");
 }
 
+static lutniorad_answer compare_blocks(call c, uint32_t tile, size_t enough_cells)
+{
+    lutniorad_answer answer = compare(c);
+    require_room(answer, c.slices[0].length, enough_cells);
+    if (answer.refusal == 0)
+        require_decomposed(c.m, tile, c.at, left(0), answer.first);
+    return answer;
+}
+
 lutniorad_answer compare_decompose(uint32_t m, window at, size_t n_out)
 {
-    call c = {&DECOMPOSE, m, at, NO_CLASS, {{NULL, n_out}}};
-    lutniorad_answer answer = compare(c);
-    require_room(answer, n_out, enough(at));
-    if (answer.refusal == 0)
-        require_decomposed(m, at, left(0), answer.first);
+    call c = {&DECOMPOSE, m, NO_TILE, at, NO_CLASS, {{NULL, n_out}}};
+    return compare_blocks(c, m, enough(at));
+}
+
+lutniorad_answer compare_decompose_tiled(uint32_t m, uint32_t tile, window at, size_t n_out)
+{
+    call c = {&DECOMPOSE_TILED, m, tile, at, NO_CLASS, {{NULL, n_out}}};
+    lutniorad_answer answer = compare_blocks(c, tile, enough_tiled(tile, at));
+    if (tile == m)
+        compare_with(&DECOMPOSE, answer);
     return answer;
 }
 
 /* ---- One question ---- */
 
-const operation *const questions[] = {&OPEN, &EXIST, &REPORT, &SELECT};
+const operation *const questions[] = {&OPEN, &EXIST, &REPORT, &SELECT, &OPEN_TILED, &SELECT_TILED};
+
+bool opens(const operation *o)
+{
+    return o == &OPEN || o == &OPEN_TILED;
+}
+
+static bool selects(const operation *o)
+{
+    return o == &SELECT || o == &SELECT_TILED;
+}
+
+/* The same question without a tile, or NULL where it has none. */
+static const operation *without_tile(const operation *o)
+{
+    return o == &OPEN_TILED ? &OPEN : o == &SELECT_TILED ? &SELECT : NULL;
+}
 
 static lutniorad_answer compare_question(question q, given keys, given classes, given border, given out)
 {
-    call c = {q.operation, q.map->m, q.at, q.of_class, {keys, classes, border, out}};
+    call c = {q.operation, q.map->m, q.tile, q.at, q.of_class, {keys, classes, border, out}};
+    const operation *without = without_tile(q.operation);
+    uint32_t tile = without != NULL ? q.tile : q.map->m;
     lutniorad_answer answer = compare(c);
     require_room(answer, out.length, enough_for(q));
-    if (answer.refusal == 0 && q.operation == &OPEN)
-        require_opened(q.map, q.at, answer, left(3));
+    if (q.operation == &OPEN_TILED)
+        require_room(answer, out.length, 3 * q.map->q);
+    if (answer.refusal == 0 && opens(q.operation))
+        require_opened(q.map, tile, q.at, answer, left(3));
     if (answer.refusal == 0 && q.operation == &REPORT)
         require_reported(q.at, answer, left(3));
-    if (answer.refusal == 0 && q.operation == &SELECT)
-        require_selected(q.map, q.at, left(3), answer.first);
+    if (answer.refusal == 0 && selects(q.operation))
+        require_selected(q.map, tile, q.at, left(3), answer.first);
+    if (without != NULL && q.tile == q.map->m)
+        compare_with(without, answer);
     return answer;
 }
 
@@ -55,12 +91,26 @@ size_t enough(window at)
     return LUTNIORAD_DECOMPOSE_CELLS(at.h, at.w);
 }
 
+/* For the header's macros, which take no larger one. A larger one is refused, whatever room there is. */
+static uint32_t tile_of_some_picture(uint32_t tile)
+{
+    return tile < LUTNIORAD_MOST_M ? tile : LUTNIORAD_MOST_M;
+}
+
+size_t enough_tiled(uint32_t tile, window at)
+{
+    return LUTNIORAD_DECOMPOSE_TILED_CELLS(tile_of_some_picture(tile), at.h, at.w);
+}
+
 size_t enough_for(question q)
 {
-    return q.operation == &OPEN     ? LUTNIORAD_OPEN_CELLS(q.at.h, q.at.w)
-           : q.operation == &REPORT ? LUTNIORAD_CLASSES
-           : q.operation == &SELECT ? LUTNIORAD_SELECT_CELLS(q.map->q, q.at.h, q.at.w)
-                                    : 0;
+    const uint32_t tile = tile_of_some_picture(q.tile);
+    return q.operation == &OPEN           ? LUTNIORAD_OPEN_CELLS(q.at.h, q.at.w)
+           : q.operation == &REPORT       ? LUTNIORAD_CLASSES
+           : q.operation == &SELECT       ? LUTNIORAD_SELECT_CELLS(q.map->q, q.at.h, q.at.w)
+           : q.operation == &OPEN_TILED   ? LUTNIORAD_OPEN_TILED_CELLS(tile, q.at.h, q.at.w)
+           : q.operation == &SELECT_TILED ? LUTNIORAD_SELECT_TILED_CELLS(tile, q.map->q, q.at.h, q.at.w)
+                                          : 0;
 }
 
 static lutniorad_answer answer_in_full(question q)
@@ -71,9 +121,9 @@ static lutniorad_answer answer_in_full(question q)
 static size_t cells_of(question q, lutniorad_answer answer)
 {
     return answer.refusal != 0      ? 0
-           : q.operation == &OPEN   ? 3 * (size_t)answer.first
+           : opens(q.operation)     ? 3 * (size_t)answer.first
            : q.operation == &REPORT ? CLASSES
-           : q.operation == &SELECT ? answer.first
+           : selects(q.operation)   ? answer.first
                                     : 0;
 }
 
@@ -112,6 +162,25 @@ void ask_with_every_length(question q)
         ask(q, borders[i % COUNT(borders)], lengths[i / COUNT(borders)]);
 }
 
+size_t ask_too_short(question q)
+{
+    size_t n = ask(q, q.at.w, 0).place; /* refused by 8, if it needs a cell */
+    ask(q, q.at.w, too_short(n));
+    return n;
+}
+
+void ask_at_random(question q)
+{
+    static map damaged;
+    size_t n = ask_in_full(q);
+    size_t n_border = near_length(q.at.w);
+    ask(q, n_border, near_length(n));
+    copy_map(&damaged, q.map);
+    damage_at_random(&damaged);
+    q.map = &damaged;
+    ask(q, q.at.w, n);
+}
+
 void make_stated_map(map *a, uint32_t m)
 {
     make_reference_map(a);
@@ -127,12 +196,56 @@ void require_border(window at, uint16_t stated)
         require(border[i] == stated, "another border than the one written out");
 }
 
+/* ---- Reasons together ---- */
+
+const window chosen_windows[] = {
+    {0, 1, 3, 3},         {0, 0, 4, 4},         {3, 3, 1, 1},         {0, 1, 3, 0},
+    {0, 1, 0, 3},         {0, 0, 0, 0},         {4, 0, 0, 1},         {0, 1, 3, 4},
+    {2, 1, 3, 3},         {4, 0, 1, 1},         {0, 4, 1, 1},         {0, 0, 5, 1},
+    {0, 0, 1, 5},         {65535, 0, 1, 1},     {0, 65535, 1, 1},     {65535, 0, 2, 1},
+    {0, 65535, 1, 2},     {0, 0, 65535, 1},     {0, 0, 1, 65535},     {1, 0, 65535, 1},
+    {0, 1, 1, 65535},     {2, 0, 65535, 1},     {0, 2, 1, 65535},     {65533, 0, 3, 3},
+    {0, 65533, 3, 3},     {32768, 0, 32768, 1}, {0, 32768, 1, 32768}, {65535, 65535, 65535, 65535},
+    {65535, 65535, 0, 0}, {256, 256, 1, 1},     {4096, 0, 1, 1},      {0, 4095, 1, 1},
+    {4095, 0, 1, 2},      {4095, 4095, 1, 1},
+};
+
+const uint32_t chosen_ms[] = {2, 0, 1, 3, 12, 13, 258, 65538, UINT32_MAX};
+
+/* The third key of the reference map as it is, and such that the map is refused by 3, by 4 and by 5. */
+static const uint32_t third_keys[] = {12, 1, 5, 13};
+
+/* With each border and each answer slice. */
+static void ask_with_every_slice(const map *a, window at, size_t n_keys, size_t n_classes, need of)
+{
+    static const size_t borders[] = {0, 2, 3};
+    question q = {of.operation, a, of.tile, at, of.of_class};
+    for (size_t i = 0; i < COUNT(borders) * of.n_outs; i++)
+        ask_slices(q, n_keys, n_classes, borders[i % COUNT(borders)], of.outs[i / COUNT(borders)]);
+}
+
+void ask_with_reasons_together(window at, const need *needs, size_t n)
+{
+    static const size_t lengths[][2] = {{7, 7}, {6, 7}, {7, 6}, {8, 8}, {6, 6}, {0, 0}};
+    static map damaged;
+    make_reference_map(&damaged);
+    damaged.keys[REFERENCE_Q] = 20; /* a record more, for the slices that are longer than the map */
+    damaged.classes[REFERENCE_Q] = 2;
+    for (size_t key = 0; key < COUNT(third_keys); key++)
+        for (size_t k = 0; k < COUNT(chosen_ms) * COUNT(lengths) * n; k++) {
+            const size_t *of_map = lengths[k / n / COUNT(chosen_ms)];
+            damaged.keys[2] = third_keys[key];
+            damaged.m = chosen_ms[k / n % COUNT(chosen_ms)];
+            ask_with_every_slice(&damaged, at, of_map[0], of_map[1], needs[k % n]);
+        }
+}
+
 /* ---- Questions together ---- */
 
 /* The totals that are reported of a window, on slices that are long enough. False where they are refused. */
 static bool take_totals(const map *a, window at, uint32_t totals[CLASSES])
 {
-    question report = {&REPORT, a, at, NO_CLASS};
+    question report = {&REPORT, a, NO_TILE, at, NO_CLASS};
     if (answer_in_full(report).refusal != 0)
         return false;
     memcpy(totals, left(3), CLASSES * sizeof *totals);
@@ -141,8 +254,16 @@ static bool take_totals(const map *a, window at, uint32_t totals[CLASSES])
 
 static void ask_exist(const map *a, window at, uint8_t of_class, const uint32_t totals[CLASSES])
 {
-    question exist = {&EXIST, a, at, of_class};
+    question exist = {&EXIST, a, NO_TILE, at, of_class};
     require_agreement(answer_in_full(exist).first, of_class, totals);
+}
+
+/* With a tile or without. */
+static void ask_select(question q, const uint32_t totals[CLASSES])
+{
+    lutniorad_answer answer = answer_in_full(q);
+    if (answer.refusal == 0)
+        require_as_reported(q.map->m, left(3), answer.first, totals[q.of_class]);
 }
 
 void try_exist(const map *a, window at, const uint8_t *asked, size_t n)
@@ -160,16 +281,29 @@ void try_queries(const map *a, window at, const uint8_t *asked, size_t n)
     if (!take_totals(a, at, totals))
         return;
     for (size_t i = 0; i < n; i++) {
-        question select = {&SELECT, a, at, asked[i]};
+        question select = {&SELECT, a, NO_TILE, at, asked[i]};
         ask_exist(a, at, asked[i], totals);
-        size_t n_keys = ask_in_full(select);
-        require_as_reported(a->m, left(3), n_keys, totals[asked[i]]);
+        ask_select(select, totals);
+    }
+}
+
+void try_tile(const map *a, uint32_t tile, window at, const uint8_t *asked, size_t n)
+{
+    uint32_t totals[CLASSES];
+    question open = {&OPEN_TILED, a, tile, at, NO_CLASS};
+    compare_decompose_tiled(a->m, tile, at, enough_tiled(tile, at));
+    ask_in_full(open);
+    if (!take_totals(a, at, totals))
+        return;
+    for (size_t i = 0; i < n; i++) {
+        question select = {&SELECT_TILED, a, tile, at, asked[i]};
+        ask_select(select, totals);
     }
 }
 
 void try_window(const map *a, window at, uint8_t of_class)
 {
-    question open = {&OPEN, a, at, NO_CLASS};
+    question open = {&OPEN, a, NO_TILE, at, NO_CLASS};
     compare_decompose(a->m, at, enough(at));
     ask_in_full(open);
     try_queries(a, at, &of_class, 1);

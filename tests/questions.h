@@ -1,6 +1,7 @@
 /*
  * Calls about windows: decomposing one, and the questions that are asked about one on a map, which are OPEN, EXIST,
- * REPORT and SELECT. Each call is compared, and what it answers is held against what is promised of it.
+ * REPORT and SELECT, and two of them with a tile. Each call is compared, and what it answers is held against what is
+ * promised of it; and one with the tile m against the call without a tile.
  */
 #ifndef QUESTIONS_H
 #define QUESTIONS_H
@@ -9,13 +10,17 @@
 #include "maps.h"
 
 lutniorad_answer compare_decompose(uint32_t m, window at, size_t n_out);
+lutniorad_answer compare_decompose_tiled(uint32_t m, uint32_t tile, window at, size_t n_out);
 
-enum { QUESTIONS = 4 };
+enum { QUESTIONS = 6 };
 extern const operation *const questions[QUESTIONS];
+
+bool opens(const operation *o); /* with a tile or without */
 
 typedef struct {
     const operation *operation;
     const map *map;
+    uint32_t tile; /* for those that take one */
     window at;
     uint8_t of_class; /* for those that take one */
 } question;
@@ -27,10 +32,14 @@ lutniorad_answer ask_slices(question q, size_t n_keys, size_t n_classes, size_t 
 
 /* Cells that are always enough for decomposing a window, and for the answer of a question. */
 size_t enough(window at);
+size_t enough_tiled(uint32_t tile, window at);
 size_t enough_for(question q);
 
 /* Asks on slices that are long enough. The cells that the answer takes are returned: none where it is refused. */
 size_t ask_in_full(question q);
+
+/* Asks on answer slices that are empty and too short by one. The cells that the answer takes are returned. */
+size_t ask_too_short(question q);
 
 /* Asks about a small window, on slices a little longer than that, with this in each cell of border and answer slice. */
 void ask_over(question q, uint16_t old);
@@ -41,11 +50,36 @@ size_t too_short(size_t length);
 /* Asks on borders and answer slices that are empty, too short by one, just long enough and longer. */
 void ask_with_every_length(question q);
 
+/* Asks on slices that are long enough, on some that may not be, and on the map damaged. */
+void ask_at_random(question q);
+
+/* Right windows, empty ones, ones that stick out by one or by far, and ones whose end wraps round in 16 bits. */
+enum { CHOSEN_WINDOWS = 34 };
+extern const window chosen_windows[CHOSEN_WINDOWS];
+
+enum { CHOSEN_MS = 9 };
+extern const uint32_t chosen_ms[CHOSEN_MS];
+
+/* Some lengths of the answer slice, about what the window {0, 1, 3, 3} on the reference map needs. */
+typedef struct {
+    const operation *operation;
+    uint32_t tile;
+    uint8_t of_class;
+    size_t n_outs;
+    size_t outs[3];
+} need;
+
+/* Each reason with each other: m, the slices' lengths, the records, the window, the border and the answer slice. */
+void ask_with_reasons_together(window at, const need *needs, size_t n);
+
 /* Report, and exist about n classes, on slices that are long enough. What they answer must fit together. */
 void try_exist(const map *a, window at, const uint8_t *asked, size_t n);
 
 /* The same with select, about each of the classes. */
 void try_queries(const map *a, window at, const uint8_t *asked, size_t n);
+
+/* With a tile: decomposing, open, and select about n classes, which must fit what is reported. */
+void try_tile(const map *a, uint32_t tile, window at, const uint8_t *asked, size_t n);
 
 /* For the answers written out: the reference map, with another m if it is not 2; at m = 0 the map of one pixel. */
 void make_stated_map(map *a, uint32_t m);

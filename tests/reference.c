@@ -66,6 +66,12 @@ static uint64_t side_of_picture(uint64_t m)
     return side;
 }
 
+/* A tile is as large as the picture would be whose m is c. */
+static uint64_t side_of_tile(uint64_t c)
+{
+    return side_of_picture(c);
+}
+
 typedef struct {
     uint64_t row, col, side;
 } square;
@@ -144,12 +150,15 @@ static square parent_of(square block)
     return parent;
 }
 
-/* A block is maximal when it lies in the window and no larger block that lies in the window contains it. */
-static bool is_maximal(square block, window at, uint64_t side_of_all)
+/*
+ * A block that is no larger than a tile is maximal when it lies in the window and no larger one, up to the tile's side,
+ * that lies in the window contains it. Where there is no tile, the picture is one.
+ */
+static bool is_maximal(square block, window at, uint64_t most_side)
 {
     if (!lies_in(block, at))
         return false;
-    while (block.side < side_of_all) {
+    while (block.side < most_side) {
         block = parent_of(block);
         if (lies_in(block, at))
             return false;
@@ -163,15 +172,17 @@ bool reference_lies_in(uint32_t m, uint32_t key, window at)
     return digits_of(key, m, digits) && has_the_form(digits, m) && lies_in(block_of(digits, m), at);
 }
 
-bool reference_maximal(uint32_t m, uint32_t key, window at)
+bool reference_maximal(uint32_t m, uint32_t tile, uint32_t key, window at)
 {
     uint64_t digits[MOST_DIGITS];
-    return digits_of(key, m, digits) && has_the_form(digits, m)
-           && is_maximal(block_of(digits, m), at, side_of_picture(m));
+    if (!digits_of(key, m, digits) || !has_the_form(digits, m))
+        return false;
+    square block = block_of(digits, m);
+    return block.side <= side_of_tile(tile) && is_maximal(block, at, side_of_tile(tile));
 }
 
-/* Room for as many maximal blocks as the largest window may have: fewer than 4(w + h). */
-enum { MOST_BLOCKS = 4 * (4096 + 4096) };
+/* Room for as many maximal blocks as any window has with tiles of side 16 or more: fewer than 4(w + h) + wh/256. */
+enum { MOST_BLOCKS = 4 * (4096 + 4096) + 4096 * 4096 / 256 };
 
 typedef struct {
     uint64_t n;
@@ -194,21 +205,21 @@ static bool same_window(window a, window b)
  * The maximal blocks by the row of the corner, then by its column: every block at every pixel is tried. The last list
  * is kept, since a large window takes long and is asked about more than once.
  */
-static const block_list *list_maximal(window at, uint64_t side_of_all)
+static const block_list *list_maximal(window at, uint64_t most_side)
 {
     static block_list list;
     static window kept_at;
     static uint64_t kept_side; /* 0: there is none yet */
-    if (side_of_all == kept_side && same_window(at, kept_at))
+    if (most_side == kept_side && same_window(at, kept_at))
         return &list;
     kept_at = at;
-    kept_side = side_of_all;
+    kept_side = most_side;
     list.n = 0;
     for (uint64_t row = at.r0; row < (uint64_t)at.r0 + at.h; row++)
         for (uint64_t col = at.c0; col < (uint64_t)at.c0 + at.w; col++)
-            for (uint64_t side = 1; side <= side_of_all && row % side == 0 && col % side == 0; side = 2 * side) {
+            for (uint64_t side = 1; side <= most_side && row % side == 0 && col % side == 0; side = 2 * side) {
                 square block = {row, col, side};
-                if (is_maximal(block, at, side_of_all))
+                if (is_maximal(block, at, most_side))
                     append_block(&list, block);
             }
     return &list;
@@ -226,17 +237,28 @@ static uint64_t key_of(square block, uint64_t side_of_all)
     return key;
 }
 
-lutniorad_answer reference_decompose(uint32_t m,
-                                     uint16_t r0, uint16_t c0, uint16_t h, uint16_t w,
-                                     uint32_t *out, size_t n_out)
+/* m is from 0 to 12, and c from 0 to m. Refusal 0 where both hold. */
+static lutniorad_answer size_of_tile(uint64_t m, uint64_t tile)
 {
-    window at = {r0, c0, h, w};
     if (m > MOST_DIGITS)
         return refused(1, 0);
+    if (tile > m)
+        return refused(17, 0);
+    return answered(0, 0);
+}
+
+lutniorad_answer reference_decompose_tiled(uint32_t m, uint32_t tile,
+                                           uint16_t r0, uint16_t c0, uint16_t h, uint16_t w,
+                                           uint32_t *out, size_t n_out)
+{
+    window at = {r0, c0, h, w};
+    lutniorad_answer size = size_of_tile(m, tile);
+    if (size.refusal != 0)
+        return size;
     uint64_t side_of_all = side_of_picture(m);
     if (!is_inside(at, side_of_all))
         return refused(6, 0);
-    const block_list *maximal = list_maximal(at, side_of_all);
+    const block_list *maximal = list_maximal(at, side_of_tile(tile));
     if (n_out < maximal->n)
         return refused(8, maximal->n);
     for (uint64_t i = 0; i < maximal->n; i++)
@@ -244,9 +266,17 @@ lutniorad_answer reference_decompose(uint32_t m,
     return answered(maximal->n, 0);
 }
 
+lutniorad_answer reference_decompose(uint32_t m,
+                                     uint16_t r0, uint16_t c0, uint16_t h, uint16_t w,
+                                     uint32_t *out, size_t n_out)
+{
+    return reference_decompose_tiled(m, m, r0, c0, h, w, out, n_out);
+}
+
 /* ---- Rasters ---- */
 
-enum { NO_RECORD = MOST_RECORDS };
+/* No block of a window and no record of a map has this index. */
+enum { NO_RECORD = MOST_PIXELS };
 
 static uint64_t greater(uint64_t a, uint64_t b)
 {
@@ -327,15 +357,18 @@ static void begin_answer(uint32_t m, const uint32_t *keys, uint64_t q, window at
 }
 
 /*
- * What every question about a window on a map begins with: refusals 1 to 7, or refusal 0. Then the answer is begun,
- * whatever comes of the slice for it.
+ * What every question about a window on a map begins with: refusals 1 and 17, and those from 2 to 7, or refusal 0. Then
+ * the answer is begun, whatever comes of the slice for it. A question without a tile is one with c = m.
  */
-static lutniorad_answer begin_question(uint32_t m,
+static lutniorad_answer begin_question(uint32_t m, uint32_t tile,
                                        const uint32_t *keys, size_t n_keys,
                                        const uint8_t *classes, size_t n_classes,
                                        window at,
                                        uint16_t *border, size_t n_border)
 {
+    lutniorad_answer size = size_of_tile(m, tile);
+    if (size.refusal != 0)
+        return size;
     lutniorad_answer check = reference_check(m, keys, n_keys, classes, n_classes);
     if (check.refusal != 0)
         return check;
@@ -392,33 +425,33 @@ static opening open_block(square block, window at, uint64_t side_of_all, uint64_
 }
 
 /* Makes the openings of the window at hand, on a map of q records, and returns their number. */
-static uint64_t make_openings(uint64_t q, window at, uint64_t side_of_all, opening openings[MOST_BLOCKS])
+static uint64_t make_openings(uint32_t m, uint32_t tile, uint64_t q, window at, opening openings[MOST_BLOCKS])
 {
-    const block_list *maximal = list_maximal(at, side_of_all);
+    const block_list *maximal = list_maximal(at, side_of_tile(tile));
     uint64_t n = 0;
     for (uint64_t i = 0; i < q; i++)
         handed_out_by[i] = NO_OPENING;
     for (uint64_t i = 0; i < maximal->n; i++)
         if (!is_skipped(maximal->blocks[i], at)) {
-            openings[n] = open_block(maximal->blocks[i], at, side_of_all, n);
+            openings[n] = open_block(maximal->blocks[i], at, side_of_picture(m), n);
             n++;
         }
     return n;
 }
 
-lutniorad_answer reference_open(uint32_t m,
-                                const uint32_t *keys, size_t n_keys,
-                                const uint8_t *classes, size_t n_classes,
-                                uint16_t r0, uint16_t c0, uint16_t h, uint16_t w,
-                                uint16_t *border, size_t n_border,
-                                uint32_t *out, size_t n_out)
+lutniorad_answer reference_open_tiled(uint32_t m, uint32_t tile,
+                                      const uint32_t *keys, size_t n_keys,
+                                      const uint8_t *classes, size_t n_classes,
+                                      uint16_t r0, uint16_t c0, uint16_t h, uint16_t w,
+                                      uint16_t *border, size_t n_border,
+                                      uint32_t *out, size_t n_out)
 {
     static opening openings[MOST_BLOCKS];
     window at = {r0, c0, h, w};
-    lutniorad_answer begun = begin_question(m, keys, n_keys, classes, n_classes, at, border, n_border);
+    lutniorad_answer begun = begin_question(m, tile, keys, n_keys, classes, n_classes, at, border, n_border);
     if (begun.refusal != 0)
         return begun;
-    uint64_t n = make_openings(n_keys, at, side_of_picture(m), openings);
+    uint64_t n = make_openings(m, tile, n_keys, at, openings);
     if (n_out < 3 * n)
         return refused(8, 3 * n);
     uint64_t handed_out = 0;
@@ -429,6 +462,16 @@ lutniorad_answer reference_open(uint32_t m,
         handed_out += openings[i].count;
     }
     return answered(n, handed_out);
+}
+
+lutniorad_answer reference_open(uint32_t m,
+                                const uint32_t *keys, size_t n_keys,
+                                const uint8_t *classes, size_t n_classes,
+                                uint16_t r0, uint16_t c0, uint16_t h, uint16_t w,
+                                uint16_t *border, size_t n_border,
+                                uint32_t *out, size_t n_out)
+{
+    return reference_open_tiled(m, m, keys, n_keys, classes, n_classes, r0, c0, h, w, border, n_border, out, n_out);
 }
 
 /* ---- Queries ---- */
@@ -452,7 +495,7 @@ lutniorad_answer reference_exist(uint32_t m,
 {
     uint64_t totals[CLASSES];
     window at = {r0, c0, h, w};
-    lutniorad_answer begun = begin_question(m, keys, n_keys, classes, n_classes, at, border, n_border);
+    lutniorad_answer begun = begin_question(m, m, keys, n_keys, classes, n_classes, at, border, n_border);
     if (begun.refusal != 0)
         return begun;
     count_classes(at, classes, totals);
@@ -470,7 +513,7 @@ lutniorad_answer reference_report(uint32_t m,
 {
     uint64_t counted[CLASSES];
     window at = {r0, c0, h, w};
-    lutniorad_answer begun = begin_question(m, keys, n_keys, classes, n_classes, at, border, n_border);
+    lutniorad_answer begun = begin_question(m, m, keys, n_keys, classes, n_classes, at, border, n_border);
     if (begun.refusal != 0)
         return begun;
     if (n_totals < CLASSES)
@@ -507,20 +550,20 @@ static void select_records(key_list *list, square block, window at, const uint32
     }
 }
 
-lutniorad_answer reference_select(uint32_t m,
-                                  const uint32_t *keys, size_t n_keys,
-                                  const uint8_t *classes, size_t n_classes,
-                                  uint16_t r0, uint16_t c0, uint16_t h, uint16_t w,
-                                  uint8_t of_class,
-                                  uint16_t *border, size_t n_border,
-                                  uint32_t *out, size_t n_out)
+lutniorad_answer reference_select_tiled(uint32_t m, uint32_t tile,
+                                        const uint32_t *keys, size_t n_keys,
+                                        const uint8_t *classes, size_t n_classes,
+                                        uint16_t r0, uint16_t c0, uint16_t h, uint16_t w,
+                                        uint8_t of_class,
+                                        uint16_t *border, size_t n_border,
+                                        uint32_t *out, size_t n_out)
 {
     static key_list list;
     window at = {r0, c0, h, w};
-    lutniorad_answer begun = begin_question(m, keys, n_keys, classes, n_classes, at, border, n_border);
+    lutniorad_answer begun = begin_question(m, tile, keys, n_keys, classes, n_classes, at, border, n_border);
     if (begun.refusal != 0)
         return begun;
-    const block_list *maximal = list_maximal(at, side_of_picture(m));
+    const block_list *maximal = list_maximal(at, side_of_tile(tile));
     list.n = 0;
     for (uint64_t i = 0; i < maximal->n; i++) {
         square block = maximal->blocks[i];
@@ -535,6 +578,18 @@ lutniorad_answer reference_select(uint32_t m,
     for (uint64_t i = 0; i < list.n; i++)
         out[i] = (uint32_t)list.keys[i];
     return answered(list.n, 0);
+}
+
+lutniorad_answer reference_select(uint32_t m,
+                                  const uint32_t *keys, size_t n_keys,
+                                  const uint8_t *classes, size_t n_classes,
+                                  uint16_t r0, uint16_t c0, uint16_t h, uint16_t w,
+                                  uint8_t of_class,
+                                  uint16_t *border, size_t n_border,
+                                  uint32_t *out, size_t n_out)
+{
+    return reference_select_tiled(m, m, keys, n_keys, classes, n_classes, r0, c0, h, w, of_class, border, n_border, out,
+                                  n_out);
 }
 
 /* ---- A month ---- */

@@ -24,12 +24,23 @@ lutniorad_answer reference_decompose(uint32_t m,
                                      uint16_t r0, uint16_t c0, uint16_t h, uint16_t w,
                                      uint32_t *out, size_t n_out);
 
+lutniorad_answer reference_decompose_tiled(uint32_t m, uint32_t tile,
+                                           uint16_t r0, uint16_t c0, uint16_t h, uint16_t w,
+                                           uint32_t *out, size_t n_out);
+
 lutniorad_answer reference_open(uint32_t m,
                                 const uint32_t *keys, size_t n_keys,
                                 const uint8_t *classes, size_t n_classes,
                                 uint16_t r0, uint16_t c0, uint16_t h, uint16_t w,
                                 uint16_t *border, size_t n_border,
                                 uint32_t *out, size_t n_out);
+
+lutniorad_answer reference_open_tiled(uint32_t m, uint32_t tile,
+                                      const uint32_t *keys, size_t n_keys,
+                                      const uint8_t *classes, size_t n_classes,
+                                      uint16_t r0, uint16_t c0, uint16_t h, uint16_t w,
+                                      uint16_t *border, size_t n_border,
+                                      uint32_t *out, size_t n_out);
 
 lutniorad_answer reference_exist(uint32_t m,
                                  const uint32_t *keys, size_t n_keys,
@@ -52,6 +63,14 @@ lutniorad_answer reference_select(uint32_t m,
                                   uint8_t of_class,
                                   uint16_t *border, size_t n_border,
                                   uint32_t *out, size_t n_out);
+
+lutniorad_answer reference_select_tiled(uint32_t m, uint32_t tile,
+                                        const uint32_t *keys, size_t n_keys,
+                                        const uint8_t *classes, size_t n_classes,
+                                        uint16_t r0, uint16_t c0, uint16_t h, uint16_t w,
+                                        uint8_t of_class,
+                                        uint16_t *border, size_t n_border,
+                                        uint32_t *out, size_t n_out);
 
 lutniorad_answer reference_month_clear(uint32_t m,
                                        uint16_t r0, uint16_t c0, uint16_t h, uint16_t w,
@@ -90,7 +109,7 @@ bool reference_raster(uint32_t m, const uint32_t *keys, size_t q, window at, uin
 /* Is this the key of a block that lies in the window? m is at most 12. */
 bool reference_lies_in(uint32_t m, uint32_t key, window at);
 
-/* Is this the key of a maximal block of the window? m is at most 12. */
-bool reference_maximal(uint32_t m, uint32_t key, window at);
+/* Is this the key of a maximal block of the window, among those of a side up to 2^tile? m and tile are at most 12. */
+bool reference_maximal(uint32_t m, uint32_t tile, uint32_t key, window at);
 
 #endif

@@ -25,12 +25,13 @@ enum { MOST_BOUND = 20000 };
 
 /* ---- The calls ---- */
 
+enum { TILE = 4 };
 static even_map a;
 static window at;
 static lutniorad_answer answer;
 
 static uint16_t border[LUTNIORAD_MOST_SIDE];
-static uint32_t out[LUTNIORAD_OPEN_CELLS(LUTNIORAD_MOST_SIDE, LUTNIORAD_MOST_SIDE)];
+static uint32_t out[LUTNIORAD_OPEN_TILED_CELLS(TILE, LUTNIORAD_MOST_SIDE, LUTNIORAD_MOST_SIDE)];
 static uint64_t table[LUTNIORAD_MONTH_CELLS];
 static uint8_t file[LUTNIORAD_MOST_FILE_BYTES];
 static const uint8_t file_of_one[] = {25, 0, 0, 0, 2, 0, 0, 0, 1, 0, 0, 0, 20, 0, 0, 0, 24, 0, 0, 0, 0, 0, 0, 0, 1};
@@ -88,6 +89,23 @@ static void run_write(void)
     answer = lutniorad_write(a.m, a.keys, a.q, a.classes, a.q, file, sizeof file);
 }
 
+static void run_decompose_tiled(void)
+{
+    answer = lutniorad_decompose_tiled(a.m, TILE, at.r0, at.c0, at.h, at.w, out, COUNT(out));
+}
+
+static void run_open_tiled(void)
+{
+    answer = lutniorad_open_tiled(a.m, TILE, a.keys, a.q, a.classes, a.q, at.r0, at.c0, at.h, at.w, border,
+                                  COUNT(border), out, COUNT(out));
+}
+
+static void run_select_tiled(void)
+{
+    answer = lutniorad_select_tiled(a.m, TILE, a.keys, a.q, a.classes, a.q, at.r0, at.c0, at.h, at.w, 1, border,
+                                    COUNT(border), out, COUNT(out));
+}
+
 static const struct {
     const char *name;
     void (*run)(void);
@@ -102,6 +120,9 @@ static const struct {
     {"month_add", run_month_add},
     {"read", run_read},
     {"write", run_write},
+    {"decompose_tiled", run_decompose_tiled},
+    {"open_tiled", run_open_tiled},
+    {"select_tiled", run_select_tiled},
 };
 
 /* ---- The depths ---- */

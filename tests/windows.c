@@ -86,7 +86,7 @@ static void stated_opening(size_t i)
 {
     make_stated_map(&sound, stated_openings[i].m);
     lutniorad_answer stated = stated_openings[i].answer;
-    question open = {&OPEN, &sound, stated_openings[i].at, NO_CLASS};
+    question open = {&OPEN, &sound, NO_TILE, stated_openings[i].at, NO_CLASS};
     require_stated(ask(open, stated_openings[i].n_border, stated_openings[i].n_out), stated);
     require(memcmp(left(3), stated_openings[i].openings, 3 * stated.first * sizeof(uint32_t)) == 0,
             "other openings than those written out");
@@ -97,9 +97,9 @@ static void stated_opening(size_t i)
 static void stated_most_records(size_t i)
 {
     make_map(&sound, 8, EVEN, most_cuts(8));
-    question q = {questions[i], &sound, {7, 9, 1, 1}, sound.classes[107]};
+    question q = {questions[i], &sound, 3, {7, 9, 1, 1}, sound.classes[107]};
     require_numbers(ask_slices(q, 65537, 65537, 1, enough_for(q)), 2, 0, 0, 0);
-    require_numbers(ask_slices(q, 65536, 65536, 1, enough_for(q)), 0, 0, 1, q.operation == &OPEN);
+    require_numbers(ask_slices(q, 65536, 65536, 1, enough_for(q)), 0, 0, 1, opens(q.operation));
 }
 
 void group_windows_written_out(void)
@@ -130,7 +130,7 @@ static void decompose_with_every_length(uint32_t m, window at)
 static void open_every_window(void)
 {
     for (size_t number = 0; number < n_small_windows(sound.m); number++) {
-        question open = {&OPEN, &sound, small_window(sound.m, number), NO_CLASS};
+        question open = {&OPEN, &sound, NO_TILE, small_window(sound.m, number), NO_CLASS};
         ask_with_every_length(open);
     }
 }
@@ -161,78 +161,28 @@ void group_small_windows(void)
 
 /* ---- Group: refusals of windows ---- */
 
-/* Right ones, empty ones, ones that stick out by one or by far, and ones whose end wraps round in 16 bits. */
-static const window chosen_windows[] = {
-    {0, 1, 3, 3},         {0, 0, 4, 4},         {3, 3, 1, 1},         {0, 1, 3, 0},
-    {0, 1, 0, 3},         {0, 0, 0, 0},         {4, 0, 0, 1},         {0, 1, 3, 4},
-    {2, 1, 3, 3},         {4, 0, 1, 1},         {0, 4, 1, 1},         {0, 0, 5, 1},
-    {0, 0, 1, 5},         {65535, 0, 1, 1},     {0, 65535, 1, 1},     {65535, 0, 2, 1},
-    {0, 65535, 1, 2},     {0, 0, 65535, 1},     {0, 0, 1, 65535},     {1, 0, 65535, 1},
-    {0, 1, 1, 65535},     {2, 0, 65535, 1},     {0, 2, 1, 65535},     {65533, 0, 3, 3},
-    {0, 65533, 3, 3},     {32768, 0, 32768, 1}, {0, 32768, 1, 32768}, {65535, 65535, 65535, 65535},
-    {65535, 65535, 0, 0}, {256, 256, 1, 1},     {4096, 0, 1, 1},      {0, 4095, 1, 1},
-    {4095, 0, 1, 2},      {4095, 4095, 1, 1},
-};
-
-/* The third key of the reference map as it is, and such that the map is refused by 3, by 4 and by 5. */
-static const uint32_t third_keys[] = {12, 1, 5, 13};
-
-static const uint32_t chosen_ms[] = {2, 0, 1, 3, 12, 13, 258, 65538, UINT32_MAX};
-
 /* What the reference window needs of the answer slice. */
-static const struct {
-    const operation *operation;
-    uint8_t of_class;
-    size_t n_outs;
-    size_t outs[3];
-} reference_needs[] = {
-    {&OPEN, NO_CLASS, 3, {0, 11, 12}},
-    {&EXIST, 1, 1, {0}},
-    {&REPORT, NO_CLASS, 3, {0, 255, 256}},
-    {&SELECT, 1, 3, {0, 3, 4}},
+static const need reference_needs[] = {
+    {&OPEN, NO_TILE, NO_CLASS, 3, {0, 11, 12}},
+    {&EXIST, NO_TILE, 1, 1, {0}},
+    {&REPORT, NO_TILE, NO_CLASS, 3, {0, 255, 256}},
+    {&SELECT, NO_TILE, 1, 3, {0, 3, 4}},
 };
-
-/* The map as it is then: with each border and each answer slice. */
-static void ask_with_every_slice(window at, size_t n_keys, size_t n_classes)
-{
-    static const size_t borders[] = {0, 2, 3};
-    for (size_t k = 0; k < COUNT(reference_needs); k++) {
-        question q = {reference_needs[k].operation, &damaged, at, reference_needs[k].of_class};
-        for (size_t i = 0; i < COUNT(borders) * reference_needs[k].n_outs; i++)
-            ask_slices(q, n_keys, n_classes, borders[i % COUNT(borders)], reference_needs[k].outs[i / COUNT(borders)]);
-    }
-}
-
-/* Each reason with each other: m, the slices' lengths, the records, the window, the border and the answer slice. */
-static void ask_with_reasons_together(window at)
-{
-    static const size_t lengths[][2] = {{7, 7}, {6, 7}, {7, 6}, {8, 8}, {6, 6}, {0, 0}};
-    make_reference_map(&damaged);
-    damaged.keys[REFERENCE_Q] = 20; /* a record more, for the slices that are longer than the map */
-    damaged.classes[REFERENCE_Q] = 2;
-    for (size_t key = 0; key < COUNT(third_keys); key++)
-        for (size_t k = 0; k < COUNT(chosen_ms) * COUNT(lengths); k++) {
-            const size_t *n = lengths[k / COUNT(chosen_ms)];
-            damaged.keys[2] = third_keys[key];
-            damaged.m = chosen_ms[k % COUNT(chosen_ms)];
-            ask_with_every_slice(at, n[0], n[1]);
-        }
-}
 
 static void decompose_with_reasons_together(window at)
 {
     for (uint32_t m = 0; m <= 13; m++)
         for (size_t n_out = 0; n_out <= 7; n_out++)
             compare_decompose(m, at, n_out);
-    for (size_t i = 0; i < COUNT(chosen_ms); i++)
+    for (size_t i = 0; i < CHOSEN_MS; i++)
         compare_decompose(chosen_ms[i], at, 6);
 }
 
 void group_window_refusals(void)
 {
-    for (size_t i = 0; i < COUNT(chosen_windows); i++)
+    for (size_t i = 0; i < CHOSEN_WINDOWS; i++)
         if (begin_case()) {
-            ask_with_reasons_together(chosen_windows[i]);
+            ask_with_reasons_together(chosen_windows[i], reference_needs, COUNT(reference_needs));
             decompose_with_reasons_together(chosen_windows[i]);
         }
 }
@@ -242,15 +192,19 @@ void group_window_refusals(void)
 static void every_border_and_answer(window at)
 {
     static const uint8_t asked[] = {1, 2, 3, 0, 255};
+    static const uint32_t tiles[] = {0, 1, 2, 1, 0};
     make_reference_map(&sound);
     for (size_t i = 0; i < QUESTIONS * COUNT(asked); i++) {
-        question q = {questions[i % QUESTIONS], &sound, at, asked[i / QUESTIONS]};
+        question q = {questions[i % QUESTIONS], &sound, tiles[i / QUESTIONS], at, asked[i / QUESTIONS]};
         for (size_t n_border = 0; n_border <= at.w + (size_t)4; n_border++)
             for (size_t n_out = 0; n_out <= enough_for(q); n_out++)
                 ask(q, n_border, n_out);
     }
     for (size_t n_out = 0; n_out <= enough(at); n_out++)
         compare_decompose(sound.m, at, n_out);
+    for (uint32_t tile = 0; tile <= sound.m; tile++)
+        for (size_t n_out = 0; n_out <= enough_tiled(tile, at); n_out++)
+            compare_decompose_tiled(sound.m, tile, at, n_out);
 }
 
 void group_window_lengths(void)
@@ -268,7 +222,7 @@ static void ask_over_old_contents(window at)
 {
     const int olds[] = {0, at.r0, at.r0 + 1, at.r0 + at.h - 1, at.r0 + at.h, at.r0 + at.h + 1, UINT16_MAX};
     for (size_t i = 0; i < QUESTIONS * COUNT(olds); i++) {
-        question q = {questions[i % QUESTIONS], &sound, at, some_class(&sound)};
+        question q = {questions[i % QUESTIONS], &sound, some_tile(sound.m, at), at, some_class(&sound)};
         ask_over(q, (uint16_t)olds[i / QUESTIONS]);
     }
 }
@@ -295,7 +249,7 @@ static void ask_of_damaged(const operation *o)
 {
     const window windows[] = {whole_picture(damaged.m), {0, 0, 1, 1}, {0, 0, 0, 1}, {65535, 0, 1, 1}};
     for (size_t i = 0; i < COUNT(windows); i++) {
-        question q = {o, &damaged, windows[i], some_class(&damaged)};
+        question q = {o, &damaged, some_tile(damaged.m, windows[i]), windows[i], some_class(&damaged)};
         ask_in_full(q);
         ask(q, 0, 0);
     }
@@ -320,7 +274,8 @@ void group_windows_on_damaged_maps(void)
 
 /*
  * Of the reference window, whose border takes 3 cells, its openings 12, its totals 256 and its maximal blocks 6. Of the
- * class that is asked about, which is 1, there are 4 keys.
+ * class that is asked about, which is 1, there are 4 keys. Where there is a tile it is 0: then there are 9 maximal
+ * blocks and 7 openings.
  */
 static const struct {
     const operation *operation;
@@ -369,16 +324,40 @@ static const struct {
     {&DECOMPOSE, 0, 0, 0, VAST - 1, {0, 0, 6, 0}},
     {&DECOMPOSE, 0, 0, 0, 65536, {0, 0, 6, 0}},
     {&DECOMPOSE, 0, 0, 0, 65541, {0, 0, 6, 0}},
+    {&OPEN_TILED, 7, 7, VAST + 2, 21, {0, 0, 7, 7}},
+    {&OPEN_TILED, 7, 7, 3, VAST, {0, 0, 7, 7}},
+    {&OPEN_TILED, 7, 7, VAST + 2, VAST + 20, {0, 0, 7, 7}},
+    {&OPEN_TILED, 7, 7, 65538, 65536 + 20, {0, 0, 7, 7}},
+    {&OPEN_TILED, 7, 7, VAST + 3, 20, {8, 21, 0, 0}},
+    {&OPEN_TILED, 7, 7, 2, VAST + 21, {7, 3, 0, 0}},
+    {&OPEN_TILED, VAST + 7, VAST + 7, 3, 21, {2, 0, 0, 0}},
+    {&OPEN_TILED, VAST + 7, 7, 3, 21, {2, 0, 0, 0}},
+    {&OPEN_TILED, 7, VAST + 7, 3, 21, {2, 0, 0, 0}},
+    {&SELECT_TILED, 7, 7, VAST + 2, 4, {0, 0, 4, 0}},
+    {&SELECT_TILED, 7, 7, 3, VAST, {0, 0, 4, 0}},
+    {&SELECT_TILED, 7, 7, VAST + 2, VAST + 3, {0, 0, 4, 0}},
+    {&SELECT_TILED, 7, 7, 65538, 65539, {0, 0, 4, 0}},
+    {&SELECT_TILED, 7, 7, VAST + 3, 3, {8, 4, 0, 0}},
+    {&SELECT_TILED, 7, 7, 2, VAST + 4, {7, 3, 0, 0}},
+    {&SELECT_TILED, VAST + 7, VAST + 7, 3, 4, {2, 0, 0, 0}},
+    {&SELECT_TILED, VAST + 7, 7, 3, 4, {2, 0, 0, 0}},
+    {&SELECT_TILED, 7, VAST + 7, 3, 4, {2, 0, 0, 0}},
+    {&DECOMPOSE_TILED, 0, 0, 0, VAST, {0, 0, 9, 0}},
+    {&DECOMPOSE_TILED, 0, 0, 0, VAST + 8, {0, 0, 9, 0}},
+    {&DECOMPOSE_TILED, 0, 0, 0, VAST - 1, {0, 0, 9, 0}},
+    {&DECOMPOSE_TILED, 0, 0, 0, 65544, {0, 0, 9, 0}},
 };
 
 static void vast_window(size_t i)
 {
+    const size_t n_out = vast_windows[i].n_out;
     make_reference_map(&sound);
-    question q = {vast_windows[i].operation, &sound, REFERENCE_WINDOW, 1};
-    lutniorad_answer answer = q.operation == &DECOMPOSE
-                                  ? compare_decompose(sound.m, REFERENCE_WINDOW, vast_windows[i].n_out)
-                                  : ask_slices(q, vast_windows[i].n_keys, vast_windows[i].n_classes,
-                                               vast_windows[i].n_border, vast_windows[i].n_out);
+    question q = {vast_windows[i].operation, &sound, 0, REFERENCE_WINDOW, 1};
+    lutniorad_answer answer =
+        q.operation == &DECOMPOSE ? compare_decompose(sound.m, q.at, n_out)
+        : q.operation == &DECOMPOSE_TILED
+            ? compare_decompose_tiled(sound.m, q.tile, q.at, n_out)
+            : ask_slices(q, vast_windows[i].n_keys, vast_windows[i].n_classes, vast_windows[i].n_border, n_out);
     require_stated(answer, vast_windows[i].answer);
 }
 
@@ -391,39 +370,12 @@ void group_vast_windows(void)
 
 /* ---- Group: large windows ---- */
 
-enum { THIN_WINDOWS = 8 };
-
-/* One row or column at an edge of the picture, beside one, and in the middle; and single pixels in the corners. */
-static window thin_window(uint32_t m, size_t number)
-{
-    const uint16_t side = side_of(m), last = (uint16_t)(side - 1), middle = (uint16_t)(side / 2);
-    const window windows[THIN_WINDOWS] = {
-        {0, 0, 1, side},    {last, 1, 1, last}, {(uint16_t)(middle - 1), 0, 2, last},
-        {0, 0, side, 1},    {1, last, last, 1}, {0, middle, side, 2},
-        {last, last, 1, 1}, {last, 0, 1, 1},
-    };
-    return windows[number];
-}
-
-enum { WIDE_WINDOWS = 5 };
-
-/* The whole picture, and all of it but a row or a column at some edges. */
-static window wide_window(uint32_t m, size_t number)
-{
-    const uint16_t side = side_of(m), less = (uint16_t)(side - 1), least = (uint16_t)(side - 2);
-    const window windows[WIDE_WINDOWS] = {
-        {0, 0, side, side}, {1, 1, least, least}, {0, 0, less, less}, {1, 1, less, less}, {1, 0, least, less},
-    };
-    return windows[number];
-}
-
 /* On the map at hand, and some question with slices that are too short as well. */
 static void large_window(window at)
 {
-    question q = {questions[below(QUESTIONS)], &sound, at, some_class(&sound)};
+    question q = {questions[below(QUESTIONS)], &sound, some_tile(sound.m, at), at, some_class(&sound)};
     try_window(&sound, at, q.of_class);
-    size_t n = ask(q, at.w, 0).place; /* refused by 8, if it needs a cell */
-    ask(q, at.w, too_short(n));
+    size_t n = ask_too_short(q);
     ask(q, too_short(at.w), n);
 }
 
@@ -459,14 +411,8 @@ void group_large_windows(void)
 static void try_window_at_random(window at)
 {
     try_window(&sound, at, some_class(&sound));
-    question q = {questions[below(QUESTIONS)], &sound, at, some_class(&sound)};
-    size_t n = ask_in_full(q);
-    size_t n_border = near_length(at.w);
-    ask(q, n_border, near_length(n));
-    copy_map(&damaged, &sound);
-    damage_at_random(&damaged);
-    q.map = &damaged;
-    ask(q, at.w, n);
+    question q = {questions[below(QUESTIONS)], &sound, some_tile(sound.m, at), at, some_class(&sound)};
+    ask_at_random(q);
 }
 
 static void random_windows(void)
@@ -482,8 +428,9 @@ static void random_small_windows(void)
     uint32_t m = 3 + (uint32_t)below(3);
     make_map(&sound, m, (shape)below(SHAPES), below((most_cuts(m) >> below(8)) + 1));
     for (int i = 0; i < 16; i++) {
-        question q = {questions[below(QUESTIONS)], &sound, random_window(m, (size_t)1 << 2 * m), some_class(&sound)};
-        try_window(&sound, q.at, q.of_class);
+        window at = random_window(m, (size_t)1 << 2 * m);
+        question q = {questions[below(QUESTIONS)], &sound, some_tile(m, at), at, some_class(&sound)};
+        try_window(&sound, at, q.of_class);
         size_t n = ask_in_full(q);
         q.at.h = (uint16_t)near_length(q.at.h);
         q.at.w = (uint16_t)near_length(q.at.w);
@@ -514,14 +461,22 @@ void group_largest_windows(void)
 
 /* ---- Group: the stack ---- */
 
+static void try_month_and_tile(window at)
+{
+    uint8_t asked = some_class(&sound);
+    try_month(&sound, at);
+    try_tile(&sound, some_tile(sound.m, at), at, &asked, 1);
+}
+
 /* Every operation on the map at hand, and on some windows of it. */
 static void call_everything(void)
 {
     static uint8_t file[ROOM_FOR_FILE];
     size_t n = make_file(file, &sound);
-    call check = {&CHECK, sound.m, NO_WINDOW, NO_CLASS, {{sound.keys, sound.q}, {sound.classes, sound.q}}};
-    call write = {&WRITE, sound.m, NO_WINDOW, NO_CLASS, {{sound.keys, sound.q}, {sound.classes, sound.q}, {NULL, n}}};
-    call read = {&READ, 0, NO_WINDOW, NO_CLASS, {{file, n}, {NULL, sound.q}, {NULL, sound.q}}};
+    given keys = {sound.keys, sound.q}, classes = {sound.classes, sound.q};
+    call check = {&CHECK, sound.m, NO_TILE, NO_WINDOW, NO_CLASS, {keys, classes}};
+    call write = {&WRITE, sound.m, NO_TILE, NO_WINDOW, NO_CLASS, {keys, classes, {NULL, n}}};
+    call read = {&READ, 0, NO_TILE, NO_WINDOW, NO_CLASS, {{file, n}, {NULL, sound.q}, {NULL, sound.q}}};
     require_numbers(compare(check), 0, 0, (uint32_t)sound.q, 0);
     require_numbers(compare(write), 0, 0, (uint32_t)n, 0);
     require_numbers(compare(read), 0, 0, sound.m, (uint32_t)sound.q);
@@ -530,9 +485,9 @@ static void call_everything(void)
     for (int i = 0; i < 4; i++)
         try_window(&sound, random_window(sound.m, (size_t)1 << 16), some_class(&sound));
     for (size_t i = 0; i < THIN_WINDOWS; i += 2)
-        try_month(&sound, thin_window(sound.m, i));
+        try_month_and_tile(thin_window(sound.m, i));
     for (int i = 0; i < 2; i++)
-        try_month(&sound, random_window(sound.m, (size_t)1 << 16));
+        try_month_and_tile(random_window(sound.m, (size_t)1 << 16));
 }
 
 void group_stack(void)

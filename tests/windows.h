@@ -1,6 +1,6 @@
 /*
- * Groups of cases about windows: decomposing them, opening them on maps, and the queries wherever the cases are the
- * same. Those about classes are in queries.h.
+ * Groups of cases about windows: decomposing them, opening them on maps, and the queries and the calls with a tile
+ * wherever the cases are the same. Those about classes are in queries.h, and those about tiles in tiles.h.
  */
 #ifndef WINDOWS_H
 #define WINDOWS_H

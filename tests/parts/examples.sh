@@ -81,6 +81,7 @@ step 'lake sees that it cannot write' sees_failed_output lake
 house_file 5 1 2 2 3 1 1 2 >"$files/sound"
 house_file 1 1 2 2 3 1 1 2 >"$files/unsound"
 house_file 5 1 2 255 2 1 1 2 >"$files/partly"
+one_record 0 0 >"$files/pixel"
 dd if="$files/sound" of="$files/short" bs=1 count=54 2>/dev/null
 longest 327680 >"$files/longest"
 longest 327681 >"$files/longer"
@@ -137,9 +138,30 @@ step 'clear sees that the class is missing' example_says '' "$usage" 2 clear sou
 step 'clear sees that it cannot write' sees_failed_output clear sound 3
 step 'clear sees that it cannot write a refusal' sees_failed_output clear short 3
 
+usage='usage: tiles FILE TILE R0 C0 H W CLASS, with a house file'
+quarters='row 0, column 0, side 2
+row 2, column 0, side 2'
+pixels='row 0, column 1, side 1
+row 1, column 1, side 1'
+bad_tile='refused 17 at 0: the tile is larger than the picture'
+step 'the example tiles is built' build tiles examples/tiles.c
+step 'tiles says squares' example_says "$quarters" '' 0 tiles sound 2 0 0 4 2 1
+step 'tiles says none larger than a tile' example_says "$pixels" '' 0 tiles sound 0 0 1 2 1 1
+step 'tiles says a picture' example_says 'row 0, column 0, side 1' '' 0 tiles pixel 0 0 0 1 1 1
+step 'tiles says nothing of a class that is not there' example_says '' '' 0 tiles sound 2 0 0 4 2 4
+step 'tiles refuses a tile larger than the picture' example_says "$bad_tile" '' 1 tiles sound 3 0 0 4 2 1
+step 'tiles refuses a window that sticks out' example_says "$bad_window" '' 1 tiles sound 2 2 0 3 1 1
+step 'tiles refuses a file cut short' example_says "$bad_layout" '' 1 tiles short 2 0 0 4 2 1
+step 'tiles refuses an unsound map' example_says "$bad_key" '' 1 tiles unsound 2 0 0 4 2 1
+step 'tiles sees that a file is missing' example_says '' 'missing: cannot be opened' 2 tiles missing 2 0 0 4 2 1
+step 'tiles sees that a tile is none' example_says '' "$usage" 2 tiles sound -1 0 0 4 2 1
+step 'tiles sees that a number is too great' example_says '' "$usage" 2 tiles sound 2 65536 0 4 2 1
+step 'tiles sees that the class is missing' example_says '' "$usage" 2 tiles sound 2 0 0 4 2
+step 'tiles sees that it cannot write' sees_failed_output tiles sound 2 0 0 4 2 1
+step 'tiles sees that it cannot write a refusal' sees_failed_output tiles short 2 0 0 4 2 1
+
 house_file 5 1 3 3 1 1 1 2 >"$files/second"
 house_file 5 1 2 2 2 1 2 255 >"$files/third"
-one_record 0 0 >"$files/pixel"
 one_record 12 1 >"$files/garbled"
 three_maps='pixels in the window: 9, days: 3
 class     least  greatest         mean     days

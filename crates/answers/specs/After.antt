@@ -1,10 +1,11 @@
--- What a call leaves: its answer and the lent slices; and refusal 8, of a slice that is too short.
+-- What a call leaves: its answer and the lent slices; refusal 8, of a slice that is too short; and refusals 1 and 17 before all others.
 -- Assumes nothing.
 use mathlib.Core.List.{List, [], _∷_}
 use Prim.Native.Nat.{ℕ}
 use lib.Dec.{ltb}
 use lib.ListN.{length}
 use Rattle.answers.specs.Refusals.{Refusal, refusal, answer}
+use Rattle.answers.specs.Sizes.{tileRefusals}
 use Rattle.answers.specs.Cells.{overwrite}
 
 -- an answer, and what stands in the lent slices afterwards: `List ℕ` for one slice, `List ℕ × List ℕ` for two, in the order in which they are lent
@@ -23,3 +24,7 @@ roomRefusals room needed = refusal (ltb room needed) 8 needed ∷ []
 unfoldable pub roomFor : {A : Type 0} → (ℕ → ℕ → A) → A → List ℕ → List ℕ → After A (List ℕ)
 roomFor refuse done cells out =
     answer (λ number place. after (refuse number place) out) (roomRefusals (length out) (length cells)) (after done (overwrite cells out))
+
+-- blocks of exponent up to `top`: refusals 1 and 17 leave the lent slices as they were; behind them all is as `o` says
+unfoldable pub tiledFor : {A S : Type 0} → (ℕ → ℕ → A) → ℕ → ℕ → S → After A S → After A S
+tiledFor refuse m top lent o = answer (λ number place. after (refuse number place) lent) (tileRefusals m top) o

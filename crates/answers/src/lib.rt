@@ -1,8 +1,8 @@
 // How operations answer: refusals in a stated order, and cells of a lent slice beyond an answer that keep their content.
-// Stands below keys, maps and files, which share the refusals 1 and 2.
+// Stands below keys, maps and files, which share the refusals 1, 2 and 17.
 ghost use mathlib.Core.Path.{_≡_};
 ghost use Rattle.answers.specs.Refusals.{verdict};
-ghost use Rattle.answers.specs.Sizes.{sizeRefusals};
+ghost use Rattle.answers.specs.Sizes.{sizeRefusals, tileRefusals};
 ghost use Rattle.answers.specs.Cells.{put};
 
 // What a table of refusals says: none of them holds, or the first that does, by its number and its place.
@@ -36,6 +36,25 @@ pub fn sizes(m: u32, keys: usize, classes: usize) -> Verdict
     if keys > 65536 {
         return Verdict::Refused {
             number: 2,
+            place: 0,
+        };
+    }
+    Verdict::Passed
+}
+
+// Refusals 1 and 17 of a picture of 2^m by 2^m pixels in which blocks of exponent up to `top` may be used.
+pub fn tile(m: u32, top: u32) -> Verdict
+    ensures { λ r. ⌜ r ≡ verdict (tileRefusals m top) ⌝ }
+{
+    if 12 < m {
+        return Verdict::Refused {
+            number: 1,
+            place: 0,
+        };
+    }
+    if m < top {
+        return Verdict::Refused {
+            number: 17,
             place: 0,
         };
     }

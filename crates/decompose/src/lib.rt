@@ -1,4 +1,5 @@
 // Decomposing a window: the keys of its maximal blocks.
+use answers::Verdict;
 use window::Next;
 use window::Window;
 ghost use mathlib.Core.Path.{_≡_};
@@ -9,7 +10,7 @@ ghost use Rattle.key.specs.Spread.{spreads};
 ghost use Rattle.window.specs.Window.{Inside, outside};
 ghost use Rattle.window.specs.Blocks.{exponent};
 ghost use Rattle.window.specs.Keys.{keysOf};
-ghost use Rattle.decompose.specs.Decompose.{decomposeOf};
+ghost use Rattle.decompose.specs.Decompose.{decomposeTiled};
 
 // What decomposing answers: how many keys there are, or a refusal.
 pub enum Decomposed {
@@ -44,16 +45,14 @@ fn list_blocks(table: &[u32; 256], m: u32, window: Window, top: u32, out: &mut [
     }
 }
 
-// The keys of the window's maximal blocks. A slice with room for as many as a window can have takes one pass; otherwise a first pass counts them and writes none, since 8 writes
-// nothing into the slice.
-pub fn decompose(m: u32, window: Window, out: &mut [u32]) -> Decomposed
-    ensures { λ r. ⌜ after r (now (out .exit)) ≡ decomposeOf m window (now (out .entry)) ⌝ }
+// The keys of the window's maximal blocks among those of exponent up to `top`. A slice with room for as many as a window can have takes one pass; otherwise a first pass counts them
+// and writes none, since 8 writes nothing into the slice.
+pub fn decompose(m: u32, top: u32, window: Window, out: &mut [u32]) -> Decomposed
+    ensures { λ r. ⌜ after r (now (out .exit)) ≡ decomposeTiled m top window (now (out .entry)) ⌝ }
 {
-    if 12 < m {
-        return Decomposed::Refused {
-            number: 1,
-            place: 0,
-        };
+    let tile = answers::tile(m, top);
+    if let Verdict::Refused { number, place } = tile {
+        return Decomposed::Refused { number, place };
     }
     if walk::outside(m, window) {
         return Decomposed::Refused {
@@ -62,9 +61,8 @@ pub fn decompose(m: u32, window: Window, out: &mut [u32]) -> Decomposed
         };
     }
     let table = blocks::spread_table();
-    let most = 4 * ((window.w as usize) + (window.h as usize));
-    if out.len() < most {
-        let needed = list_blocks(&table, m, window, m, &mut out[..0]);
+    if out.len() < walk::most_blocks(window, top) {
+        let needed = list_blocks(&table, m, window, top, &mut out[..0]);
         if out.len() < needed as usize {
             return Decomposed::Refused {
                 number: 8,
@@ -72,6 +70,6 @@ pub fn decompose(m: u32, window: Window, out: &mut [u32]) -> Decomposed
             };
         }
     }
-    let count = list_blocks(&table, m, window, m, out);
+    let count = list_blocks(&table, m, window, top, out);
     Decomposed::Done { count }
 }

@@ -1,4 +1,4 @@
--- What exist, report and select promise, from the contract of the call alone.
+-- What exist and report promise, from the contract of the call alone.
 -- Assumes nothing.
 use mathlib.Core.Path.{_≡_, refl, sym, ap, _∙_}
 use mathlib.Core.Logic.{_↔_}
@@ -11,14 +11,11 @@ use lib.Seq.{getD-take}
 use Rattle.lists.specs.Promises.{sum}
 use Rattle.lists.proofs.Laws.{never}
 use Rattle.answers.specs.Refusals.{refusal, answer}
-use Rattle.answers.specs.Cells.{overwrite}
 use Rattle.answers.specs.After.{after, roomRefusals}
 use Rattle.answers.proofs.Laws.{on-passed, take-overwrite, drop-overwrite}
 use Rattle.window.specs.declared.Window.{Window}
-use Rattle.window.specs.Blocks.{pixels}
 use Rattle.map.specs.Classes.{notSeen}
-use Rattle.map.proofs.Laws.{spaced}
-use Rattle.used.specs.Used.{useRefusals, spent, usedFor}
+use Rattle.used.specs.Used.{useRefusals, usedFor}
 use Rattle.used.specs.Promises.{Answerable}
 use Rattle.used.proofs.Laws.{use-answerable}
 use Rattle.exist.specs.Exist.{exists}
@@ -28,13 +25,10 @@ use Rattle.totals.specs.Totals.{totals}
 use Rattle.totals.proofs.Laws.{totals-length, totals-at, totals-sum}
 use Rattle.report.specs.declared.Reported.the-variants as reported-as
 use Rattle.report.proofs.Laws.{report-is}
-use Rattle.select.specs.declared.Selected.the-variants as selected-as
-use Rattle.select.specs.Select.{selection}
-use Rattle.select.proofs.Laws.{select-is, selection-pixels, selection-one, selection-once, selection-few}
 use Rattle.lutniorad.specs.declared.Answer.{Answer}
-use Rattle.lutniorad.specs.Numbers.{values, refused, ofExistence, ofReported, ofSelected}
-use Rattle.lutniorad.specs.Calls.{Exist, Report, Select}
-use Rattle.lutniorad.specs.Promises.{RefusalLeaves, ExistPromise, ReportPromise, SelectPromise}
+use Rattle.lutniorad.specs.Numbers.{values, refused, ofExistence, ofReported}
+use Rattle.lutniorad.specs.Calls.{Exist, Report}
+use Rattle.lutniorad.specs.Promises.{RefusalLeaves, ExistPromise, ReportPromise}
 use Rattle.lutniorad.proofs.Answered.{exist-says, exist-answered}
 use Rattle.lutniorad.proofs.Using.{used-crossed, used-says, used-numbered, used-answered, used-leaves, used-kept}
 
@@ -122,54 +116,3 @@ module _ (m : ℕ) (keys classes : List ℕ) (W : Window) (border out : List ℕ
         beyond = rw (left .2, ← n) (drop-overwrite counts out);
         border-after = left .1;
       }
-
--- ---- select
-
-module _ (m : ℕ) (keys classes : List ℕ) (W : Window) (class : ℕ) (border out : List ℕ) {r : Answer} {border′ out′ : List ℕ}
-    (call : Select m keys classes W class border out r border′ out′) where
-  abbrev ks : List ℕ
-  ks = selection m m keys classes W class
-
-  -- the call in numbers
-  selects : after r (border′, out′) ≡ usedFor refused (values (length ks) 0) ks m keys (length classes) W border out
-  selects = used-crossed ofSelected selected-as.Refused (selected-as.Done (length ks)) ks m keys (length classes) W border out (select-is m keys classes W class border out) call
-
-  pub select-says : r ≡ answer refused (useRefusals m keys (length classes) W (length border) ++ roomRefusals (length out) (length ks)) (values (length ks) 0)
-  select-says = used-says (length ks) 0 ks m keys (length classes) W border out selects
-
-  -- answered exactly when the map is sound, the window inside, and there is room in the border and for the keys
-  pub select-answered : (r .refusal ≡ 0) ↔ (Answerable m keys (length classes) W (length border) × (length ks ≤ length out))
-  select-answered = used-answered (length ks) 0 ks m keys (length classes) W border out selects
-
-  -- as it is with Q + 4 (w + h) cells
-  pub select-enough : Answerable m keys (length classes) W (length border) → length keys + 4 * (W .w + W .h) ≤ length out → r .refusal ≡ 0
-  select-enough A l = select-answered .1 (A, omega (arith, selection-few (spaced (A .sound .records)) (A .inside) classes class))
-
-  pub select-numbered : r .refusal ≤ 8
-  select-numbered = used-numbered (length ks) 0 ks m keys (length classes) W border out selects
-
-  pub select-kept : (r .refusal ≡ 0 → ⊥) → RefusalLeaves W border out r border′ out′
-  select-kept = used-kept (length ks) 0 ks m keys (length classes) W border out selects
-
-  module _ (z : r .refusal ≡ 0) where
-    left : (r ≡ values (length ks) 0) × (border′ ≡ spent W border) × (out′ ≡ overwrite ks out)
-    left = used-leaves (length ks) 0 ks m keys (length classes) W border out selects z
-
-    stand : take (r .first) out′ ≡ ks
-    stand = rw (ap (λ (x : Answer). x .first) (left .0), left .2) (take-overwrite ks out)
-
-    pub select-promise : SelectPromise m keys classes W class border out (take (r .first) out′) r border′ out′
-    select-promise =
-        let A = select-answered .0 z .0 in
-        let F = A .sound .records in
-        let small : m ≤ m = omega arith in
-        rw stand (record {
-          pixels = λ p v. selection-pixels F (A .inside) small classes class v;
-          apart = λ q x y k l h j. selection-one (spaced F) (A .inside) small classes class q k l h j;
-          once = selection-once (spaced F) (A .inside) small classes class;
-          in-order = refl;
-          few = selection-few (spaced F) (A .inside) classes class;
-          number = left .0;
-          cells = left .2;
-          border-after = left .1;
-        })

@@ -3,13 +3,14 @@
 -- Assumes nothing.
 use mathlib.Core.Path.{_≡_, refl, sym}
 use mathlib.Core.List.{List, [], _∷_, _++_}
-use Prim.Native.Nat.{ℕ}
+use Prim.Native.Nat.{ℕ, _≤_}
 use native.Mathlib.Omega.{arith}
+use lib.ListN.{length}
 use Rattle.lists.specs.Lists.{upFrom, any, keep, before, howMany, greatest}
 use Rattle.answers.specs.Refusals.{answer}
-use Rattle.answers.specs.Sizes.{wrongCount, sizeRefusals, pictureRefusals, countRefusals}
+use Rattle.answers.specs.Sizes.{wrongCount, sizeRefusals, pictureRefusals, countRefusals, tileRefusals}
 use Rattle.answers.specs.Cells.{overwrite}
-use Rattle.answers.specs.After.{roomRefusals, roomFor}
+use Rattle.answers.specs.After.{roomRefusals, roomFor, tiledFor}
 use Rattle.answers.proofs.P1.{keys, classes, old}
 use Rattle.key.specs.Spread.{spreadTo, spread}
 use Rattle.key.specs.Picture.{place}
@@ -20,7 +21,7 @@ use Rattle.window.specs.Drawn.{drawnRefusals, drawnFor}
 use Rattle.window.specs.Blocks.{floor, lies, fits, exponent, corner, across, rows, isCorner, maximal}
 use Rattle.window.specs.Keys.{keyOf, keysOf}
 use Rattle.window.proofs.P1.{W}
-use Rattle.decompose.specs.Decompose.{decomposeOf}
+use Rattle.decompose.specs.Decompose.{decomposeTiled}
 use Rattle.map.specs.Spans as spans
 use Rattle.map.specs.Spans.{within}
 use Rattle.map.specs.Check.{late, refusalsFrom, mapRefusals}
@@ -28,20 +29,21 @@ use Rattle.map.specs.Records.{recordOf, exponentOf}
 use Rattle.map.specs.Classes.{notSeen}
 use Rattle.map.specs.Runs.{runOf}
 use Rattle.border.specs.Openings.{isHanded, made, opening, openFrom, openings, handedCount, cellsOf}
-use Rattle.border.specs.Promises.{openingsIn}
+use Rattle.border.specs.Promises.{openingsIn, Enough}
 use Rattle.used.specs.Used.{useRefusals, spent, usedFor, borderRefusals}
-use Rattle.open.specs.Open.{openOf}
+use Rattle.open.specs.Open.{openTiled}
 use Rattle.month.specs.Promises.{monthOf}
 use Rattle.month.proofs.P1.{empty, first-day}
 use Rattle.month.proofs.Examples.{examples}
 use Rattle.exist.proofs.Examples.{glare}
 use Rattle.exist.proofs.Examples as queries
 use Rattle.lutniorad.specs.Numbers.{values, refused}
-use Rattle.lutniorad.specs.Calls.{Decompose, Open, Exist, MonthClear, MonthAdd}
+use Rattle.lutniorad.specs.Calls.{Decompose, DecomposeTiled, Open, OpenTiled, Exist, MonthClear, MonthAdd}
 use Rattle.lutniorad.specs.Promises.{DecomposePromise, OpenPromise, SomePixel, MonthRow, cleared, added}
 use Rattle.lutniorad.specs.Promises as promises
 use Rattle.lutniorad.proofs.Crossing.{crossing}
-use Rattle.lutniorad.proofs.Promised.{decompose-promise, open-promise}
+use Rattle.lutniorad.proofs.Decomposing.{decompose-promise}
+use Rattle.lutniorad.proofs.Opening.{open-promise}
 use Rattle.lutniorad.proofs.Asked.{exist-promise}
 use Rattle.lutniorad.proofs.Row.{month-table}
 
@@ -51,24 +53,40 @@ cells = 7 ∷ 0 ∷ 1 ∷ 10 ∷ 1 ∷ 4 ∷ 17 ∷ 5 ∷ 1 ∷ 21 ∷ 6 ∷ 1 �
 abbrev blocks : List ℕ
 blocks = 7 ∷ 10 ∷ 9 ∷ 17 ∷ 21 ∷ 22 ∷ []
 
+-- and with tiles of one pixel
+abbrev single : List ℕ
+single = 7 ∷ 0 ∷ 1 ∷ 11 ∷ 1 ∷ 1 ∷ 12 ∷ 2 ∷ 1 ∷ 13 ∷ 3 ∷ 1 ∷ 14 ∷ 4 ∷ 1 ∷ 17 ∷ 5 ∷ 1 ∷ 21 ∷ 6 ∷ 1 ∷ []
+
 record Called : Type 0 where
   p1 : Open 2 keys classes W (old 3) (old 12) (values 4 7) (3 ∷ 3 ∷ 3 ∷ []) cells
   p2 : Decompose 2 W (old 6) (values 6 0) blocks
+  p1-pixels : OpenTiled 2 0 keys classes W (old 3) (old 21) (values 7 7) (3 ∷ 3 ∷ 3 ∷ []) single
+  p2-pixels : DecomposeTiled 2 0 W (old 9) (values 9 0) (7 ∷ 11 ∷ 12 ∷ 9 ∷ 13 ∷ 14 ∷ 17 ∷ 21 ∷ 22 ∷ [])
 
 called : Called
 unfolding pictureRefusals countRefusals roomRefusals borderRefusals roomFor answer wrongCount sizeRefusals overwrite upFrom spreadTo spread place
     pixelKey blockKey from formOf beyond outside windowRefusals keep floor lies fits greatest exponent corner across rows isCorner maximal keyOf
-    keysOf drawnRefusals drawnFor decomposeOf spans.malformed spans.formExponent spans.start spans.end spans.holds spans.overlap late refusalsFrom
+    keysOf drawnRefusals drawnFor tileRefusals tiledFor decomposeTiled spans.malformed spans.formExponent spans.start spans.end spans.holds spans.overlap late refusalsFrom
     mapRefusals before howMany recordOf exponentOf runOf any within isHanded opening openFrom openings handedCount cellsOf useRefusals spent usedFor
-    openOf
-called = record { p1 = record { answer = refl; cells = refl }; p2 = record { answer = refl; cells = refl } }
+    openTiled
+called = record {
+  p1 = record { answer = refl; cells = refl };
+  p2 = record { answer = refl; cells = refl };
+  p1-pixels = record { answer = refl; cells = refl };
+  p2-pixels = record { answer = refl; cells = refl };
+}
 
-p1-promise : OpenPromise 2 keys W (old 3) (old 12) (made 7 0 1 ∷ made 10 1 4 ∷ made 17 5 1 ∷ made 21 6 1 ∷ []) (values 4 7) (3 ∷ 3 ∷ 3 ∷ []) cells
+p1-promise : OpenPromise 2 2 keys W (old 3) (old 12) (made 7 0 1 ∷ made 10 1 4 ∷ made 17 5 1 ∷ made 21 6 1 ∷ []) (values 4 7) (3 ∷ 3 ∷ 3 ∷ []) cells
 unfolding openingsIn
-p1-promise = open-promise 2 keys classes W (old 3) (old 12) (called .p1) refl
+p1-promise = open-promise 2 2 keys classes W (old 3) (old 12) (called .p1) refl
 
-p2-promise : DecomposePromise 2 W (old 6) (values 6 0) blocks
-p2-promise = decompose-promise 2 W (old 6) (called .p2) refl
+-- with tiles of one pixel no choice of fewer than seven brings all the records
+pixels-fewest : (s : List ℕ) → Enough 2 0 keys W s → 7 ≤ length s
+unfolding openingsIn
+pixels-fewest s = open-promise 2 0 keys classes W (old 3) (old 21) (called .p1-pixels) refl .fewest s
+
+p2-promise : DecomposePromise 2 2 W (old 6) (values 6 0) blocks
+p2-promise = decompose-promise 2 2 W (old 6) (called .p2) refl
 
 -- class 4 in P1's window, where a part was not seen: none was seen with it, and some pixel was not seen
 exist-call : Exist 2 keys glare W 4 (old 4) (values 2 0) (3 ∷ 3 ∷ 3 ∷ 99 ∷ [])

@@ -4,7 +4,7 @@ use mathlib.Core.Path.{_≡_}
 use mathlib.Core.Logic.{_↔_, _≢_}
 use mathlib.Core.Bool.{true}
 use mathlib.Core.List.{List, [], _∷_, _++_, List·Memᴰ, map}
-use Prim.Native.Nat.{ℕ, _+_, _*_, _≤_, _<_}
+use Prim.Native.Nat.{ℕ, _+_, _*_, _/_, _^_, _≤_, _<_}
 use lib.Dec.{eqb}
 use lib.ListN.{length, getD, take, drop}
 use Rattle.lists.specs.Promises.{sum}
@@ -39,33 +39,35 @@ pub record RefusalLeaves (W : Window) (border out : List ℕ) (r : Answer) (bord
   pub border-spent : r .refusal ≡ 8 → border′ ≡ spent W border
   pub border-kept : (r .refusal ≡ 8 → ⊥) → border′ ≡ border
 
--- decomposing
-pub record DecomposePromise (m : ℕ) (W : Window) (out : List ℕ) (r : Answer) (out′ : List ℕ) : Type 0 where
+-- decomposing, with blocks of exponent up to `top`; without a tile `top` is m
+pub record DecomposePromise (m top : ℕ) (W : Window) (out : List ℕ) (r : Answer) (out′ : List ℕ) : Type 0 where
   -- blocks, each by its exponent and its corner
   pub blocks : List (ℕ × Px)
   -- they are exactly the maximal blocks of the window
-  pub exactly : (i : ℕ) (p : Px) → Maximal W m i p ↔ List·Memᴰ (i, p) blocks
+  pub exactly : (i : ℕ) (p : Px) → Maximal W top i p ↔ List·Memᴰ (i, p) blocks
   -- by the row of the corner, then by its column
   pub in-order : Ordered (λ a b. Before (a .1) (b .1)) blocks
-  pub few : length blocks < 4 * (W .w + W .h)
+  pub few : length blocks < 4 * (W .w + W .h) + W .w * W .h / 4 ^ top
+  pub few-whole : top ≡ m → length blocks < 4 * (W .w + W .h)
   -- `first` is their number, the first cells are their keys, and cells beyond keep their content
   pub number : r ≡ values (length blocks) 0
   pub cells : out′ ≡ overwrite (map (λ b. blockKey m (b .0) (b .1 .0) (b .1 .1)) blocks) out
 
--- opening, of the openings that stand in the first cells
-pub record OpenPromise (m : ℕ) (keys : List ℕ) (W : Window) (border out : List ℕ) (os : List Opening) (r : Answer) (border′ out′ : List ℕ) : Type 0 where
+-- opening, with blocks of exponent up to `top`, of the openings that stand in the first cells
+pub record OpenPromise (m top : ℕ) (keys : List ℕ) (W : Window) (border out : List ℕ) (os : List Opening) (r : Answer) (border′ out′ : List ℕ) : Type 0 where
   -- demand 2: every record that overlaps the window stands in an opening, and no other record does
   pub all : (n : ℕ) → Overlaps m keys W n ↔ HandedOut os n
   -- none stands in two of them
   pub once : Ordered Apart os
   -- they are those of the maximal blocks in their order, but for the blocks that are skipped
-  pub in-order : os ≡ openings m m keys W
-  -- demand 3: there are fewer than 4 (w + h)
-  pub few : length os < 4 * (W .w + W .h)
+  pub in-order : os ≡ openings m top keys W
+  -- demand 3: there are fewer than 4 (w + h) and as many as there is room for tiles; without a tile, fewer than 4 (w + h)
+  pub few : length os < 4 * (W .w + W .h) + W .w * W .h / 4 ^ top
+  pub few-whole : top ≡ m → length os < 4 * (W .w + W .h)
   -- each has at least one record
   pub some : (o : Opening) → List·Memᴰ o os → 1 ≤ o .count
   -- no list of fewer maximal blocks brings all the records
-  pub fewest : (blocks : List ℕ) → Enough m m keys W blocks → length os ≤ length blocks
+  pub fewest : (blocks : List ℕ) → Enough m top keys W blocks → length os ≤ length blocks
   -- `first` is the length of the list, and `second` the number of its records
   pub numbers : r ≡ values (length os) (length (allHands os))
   -- cells beyond keep their content, and the first w border cells hold r0 + h
@@ -105,8 +107,8 @@ pub record ReportPromise (m : ℕ) (keys classes : List ℕ) (W : Window) (borde
   pub beyond : drop 256 out′ ≡ drop 256 out
   pub border-after : border′ ≡ spent W border
 
--- select, of the keys that stand in the first cells
-pub record SelectPromise (m : ℕ) (keys classes : List ℕ) (W : Window) (class : ℕ) (border out ks : List ℕ) (r : Answer) (border′ out′ : List ℕ) : Type 0 where
+-- select, with blocks of exponent up to `top`, of the keys that stand in the first cells
+pub record SelectPromise (m top : ℕ) (keys classes : List ℕ) (W : Window) (class : ℕ) (border out ks : List ℕ) (r : Answer) (border′ out′ : List ℕ) : Type 0 where
   -- a pixel of the window has the class exactly when it lies in the block of one of the keys
   pub pixels : (p : Px) → In W p → (classAt m keys classes p ≡ class) ↔ ((x : ℕ) × List·Memᴰ x ks × (holds (place (p .0) (p .1)) (formOf m x) ≡ true))
   -- and then of one only
@@ -114,8 +116,9 @@ pub record SelectPromise (m : ℕ) (keys classes : List ℕ) (W : Window) (class
   -- no key stands twice
   pub once : Ordered _≢_ ks
   -- they come block by block: its own key, or those of the records inside it
-  pub in-order : ks ≡ selection m m keys classes W class
-  pub few : length ks < 4 * (W .w + W .h) + length keys
+  pub in-order : ks ≡ selection m top keys classes W class
+  pub few : length ks < 4 * (W .w + W .h) + W .w * W .h / 4 ^ top + length keys
+  pub few-whole : top ≡ m → length ks < 4 * (W .w + W .h) + length keys
   pub number : r ≡ values (length ks) 0
   pub cells : out′ ≡ overwrite ks out
   pub border-after : border′ ≡ spent W border

@@ -12,7 +12,8 @@ use Rattle.answers.specs.declared.Verdict.the-variants.{Passed}
 use Rattle.answers.specs.declared.Verdict.the-variants as refusal
 use Rattle.answers.specs.Refusals.{answer, verdict}
 use Rattle.answers.specs.Sizes.{sizeRefusals}
-use Rattle.answers.proofs.Laws.{on-passed, on-refused, append-refused, append-passed, refused-not-passed, passed-append, sized, Numbered, none, numbered-next, numbered-append, numbered-sizes}
+use Rattle.answers.proofs.Laws.{on-passed, on-refused, append-refused, append-passed, refused-not-passed, passed-append, sized, over-12}
+use Rattle.answers.proofs.Laws.{Numbered, none, numbered-next, numbered-append, numbered-sizes}
 use Rattle.key.specs.declared.Form.{Form}
 use Rattle.key.specs.declared.Form.the-variants.{Block, Malformed}
 use Rattle.key.specs.Form.{formOf}
@@ -28,6 +29,9 @@ module _ (m : ℕ) (keys : List ℕ) (classes : ℕ) where
   pub sizes-refused : {n p : ℕ} → verdict (sizeRefusals m (length keys) classes) ≡ refusal.Refused n p → verdict (mapRefusals m keys classes) ≡ refusal.Refused n p
   unfolding mapRefusals
   sizes-refused e = append-refused refusal.Refused _ _ _ e
+
+  pub map-over : 12 < m → verdict (mapRefusals m keys classes) ≡ refusal.Refused 1 0
+  map-over l = sizes-refused (over-12 m (length keys) classes l)
 
   pub sizes-passed : verdict (sizeRefusals m (length keys) classes) ≡ Passed → verdict (mapRefusals m keys classes) ≡ verdict (recordRefusals m 0 0 keys)
   unfolding mapRefusals

@@ -1,6 +1,6 @@
 -- What an accepted call of opening answers and leaves.
 -- Assumes nothing.
-use mathlib.Core.List.{List, []}
+use mathlib.Core.List.{List}
 use Prim.Native.Nat.{ℕ}
 use lib.ListN.{length}
 use Rattle.answers.specs.Cells.{overwrite}
@@ -12,5 +12,5 @@ use Rattle.open.specs.declared.Opened.{Opened}
 use Rattle.open.specs.declared.Opened.the-variants.{Done}
 
 -- the same where nothing is refused
-unfoldable pub accepted : ℕ → List ℕ → Window → List ℕ → List ℕ → After Opened (List ℕ × List ℕ)
-accepted m keys W border out = let os = openings m m keys W in after (Done (length os) (handedCount os)) (spent W border, overwrite (cellsOf os) out)
+unfoldable pub accepted : ℕ → ℕ → List ℕ → Window → List ℕ → List ℕ → After Opened (List ℕ × List ℕ)
+accepted m top keys W border out = let os = openings m top keys W in after (Done (length os) (handedCount os)) (spent W border, overwrite (cellsOf os) out)

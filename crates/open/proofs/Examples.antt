@@ -7,9 +7,9 @@ use native.Mathlib.Omega.{arith}
 use lib.ListN.{take}
 use Rattle.lists.specs.Lists.{upFrom, any, keep, before, howMany, greatest}
 use Rattle.answers.specs.Refusals.{answer}
-use Rattle.answers.specs.Sizes.{wrongCount, sizeRefusals, pictureRefusals, countRefusals}
+use Rattle.answers.specs.Sizes.{wrongCount, sizeRefusals, pictureRefusals, countRefusals, tileRefusals}
 use Rattle.answers.specs.Cells.{overwrite}
-use Rattle.answers.specs.After.{after, roomRefusals, roomFor}
+use Rattle.answers.specs.After.{after, roomRefusals, roomFor, tiledFor}
 use Rattle.answers.proofs.P1.{keys}
 use Rattle.key.specs.Spread.{spreadTo, spread}
 use Rattle.key.specs.Picture.{place}
@@ -29,7 +29,7 @@ use Rattle.used.specs.Used.{useRefusals, spent, usedFor, borderRefusals}
 use Rattle.used.specs.Promises.{Answerable}
 use Rattle.used.proofs.Laws.{use-answerable}
 use Rattle.open.specs.declared.Opened.the-variants.{Done, Refused}
-use Rattle.open.specs.Open.{openOf}
+use Rattle.open.specs.Open.{openOf, openTiled}
 
 -- old contents of a border and of an answer slice
 abbrev old : List ℕ
@@ -46,12 +46,16 @@ pub record Examples : Type 0 where
   pub map-first : openOf 2 (take 6 keys) 6 (window 0 0 0 0) [] [] ≡ after (Refused 5 6) ([], [])
   pub window-next : openOf 2 keys 7 (window 2 0 3 1) [] [] ≡ after (Refused 6 0) ([], [])
   pub large : openOf 13 [] 7 (window 0 0 0 0) [] [] ≡ after (Refused 1 0) ([], [])
+  -- with tiles of one pixel each of the seven records has an opening of its own; 17 between 1 and 2
+  pub pixels : openTiled 2 0 keys 7 W (take 3 old) (take 3 old) ≡ after (Refused 8 21) (3 ∷ 3 ∷ 3 ∷ [], take 3 old)
+  pub tile-over : openTiled 2 3 [] 7 (window 0 0 0 0) [] [] ≡ after (Refused 17 0) ([], [])
+  pub tile-next : openTiled 13 14 [] 7 (window 0 0 0 0) [] [] ≡ after (Refused 1 0) ([], [])
 
 pub examples : Examples
 unfolding pictureRefusals countRefusals borderRefusals roomRefusals roomFor answer wrongCount sizeRefusals overwrite upFrom spreadTo spread place
     pixelKey blockKey from formOf beyond outside windowRefusals keep floor lies fits greatest exponent corner across rows isCorner maximal keyOf
     keysOf spans.malformed spans.formExponent spans.start spans.end spans.holds spans.overlap late refusalsFrom mapRefusals before howMany recordOf
-    exponentOf runOf any within isHanded opening openFrom openings handedCount cellsOf useRefusals spent usedFor openOf
+    exponentOf runOf any within isHanded opening openFrom openings handedCount cellsOf useRefusals spent usedFor tileRefusals tiledFor openTiled
 examples = record {
   narrow = refl;
   short = refl;
@@ -61,4 +65,7 @@ examples = record {
   map-first = refl;
   window-next = refl;
   large = refl;
+  pixels = refl;
+  tile-over = refl;
+  tile-next = refl;
 }

@@ -19,7 +19,7 @@ use Rattle.open.specs.declared.Opened.{Opened}
 use Rattle.open.specs.declared.Opened.the-variants as opened
 use Rattle.open.specs.Open.{openOf}
 use Rattle.open.specs.Promises.{Answered}
-use Rattle.open.proofs.Laws.{openings-fit, answered, open-is, opened-apart}
+use Rattle.open.proofs.Laws.{openings-fit, answered, open-within, opened-apart}
 use Rattle.totals.specs.Totals.{totals}
 use Rattle.totals.proofs.Laws.{totals-length}
 use Rattle.report.specs.declared.Reported.{Reported}
@@ -108,7 +108,7 @@ module _ {m : ℕ} {keys classes : List ℕ} {W : Window} {border : List ℕ} {r
   -- it does not refuse
   pub open-never : {A : Type 0} {n p : ℕ} → r ≡ opened.Refused n p → A
   open-never {n = n} {p = p} d =
-      let is = sym (open-is m keys (length classes) W border (replicate 3000 0)) ∙ told-opened d in
+      let is = sym (open-within m m keys (length classes) W border (replicate 3000 0) (omega arith)) ∙ told-opened d in
       absurd (go (used-roomy opened.Refused _ _ m keys (length classes) W border (replicate 3000 0) (λ n p. opened-apart n p) room is))
     where
       room : length (cellsOf (openings m m keys W)) ≤ length (replicate {A = ℕ} 3000 0)
@@ -118,8 +118,8 @@ module _ {m : ℕ} {keys classes : List ℕ} {W : Window} {border : List ℕ} {r
       go (n′, p′, v, same) = refused-not-passed (sym v ∙ c .can .passed)
 
   module _ {count records : ℕ} (d : r ≡ opened.Done count records) where
-    T : Answered m keys W count records out
-    T = answered m keys (length classes) W border (replicate 3000 0) (told-opened d)
+    T : Answered m m keys W count records out
+    T = answered m m keys (length classes) W border (replicate 3000 0) (omega arith) (told-opened d)
 
     pub open-fits : 3 * count ≤ 3000
     open-fits = omega (arith, T .many, openings-fit m keys (length classes) W (length border) (c .can .passed) .0, c .can .few)

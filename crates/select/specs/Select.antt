@@ -5,7 +5,7 @@ use mathlib.Core.List.{List, [], _∷_, _++_, map}
 use Prim.Native.Nat.{ℕ, _+_}
 use lib.ListN.{length, getD}
 use Rattle.lists.specs.Lists.{upFrom, any, keep}
-use Rattle.answers.specs.After.{After, roomFor}
+use Rattle.answers.specs.After.{After, roomFor, tiledFor}
 use Rattle.key.specs.Form.{formOf}
 use Rattle.window.specs.declared.Window.{Window}
 use Rattle.window.specs.Keys.{keysOf}
@@ -45,6 +45,12 @@ selection m top keys classes W class = allSelected m keys classes class (keysOf 
 abbrev pub keysInto : List ℕ → List ℕ → After Selected (List ℕ)
 keysInto ks = roomFor Refused (Done (length ks)) ks
 
--- select: how many keys there are, and the keys in their cells
-unfoldable pub selectOf : ℕ → List ℕ → List ℕ → Window → ℕ → List ℕ → List ℕ → After Selected (List ℕ × List ℕ)
-selectOf m keys classes W class = let ks = selection m m keys classes W class in usedFor Refused (Done (length ks)) ks m keys (length classes) W
+-- select with blocks of exponent up to `top`: how many keys there are, and the keys in their cells
+unfoldable pub selectTiled : ℕ → ℕ → List ℕ → List ℕ → Window → ℕ → List ℕ → List ℕ → After Selected (List ℕ × List ℕ)
+selectTiled m top keys classes W class border out =
+    let ks = selection m top keys classes W class in
+    tiledFor Refused m top (border, out) (usedFor Refused (Done (length ks)) ks m keys (length classes) W border out)
+
+-- select with blocks as large as the picture has
+abbrev pub selectOf : ℕ → List ℕ → List ℕ → Window → ℕ → List ℕ → List ℕ → After Selected (List ℕ × List ℕ)
+selectOf m = selectTiled m m

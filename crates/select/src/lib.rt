@@ -8,7 +8,7 @@ ghost use Rattle.answers.specs.Cells.{Listed};
 ghost use Rattle.answers.specs.After.{after};
 ghost use Rattle.key.specs.Spread.{spreads};
 ghost use Rattle.used.specs.Used.{Usable};
-ghost use Rattle.select.specs.Select.{selection, keysInto, selectOf};
+ghost use Rattle.select.specs.Select.{selection, keysInto, selectTiled};
 
 // What select answers: how many keys there are, or a refusal.
 pub enum Selected {
@@ -16,26 +16,27 @@ pub enum Selected {
     Refused { number: u32, place: u32 },
 }
 
-// Goes through the maximal blocks and lists what each has. How many keys there are; those are written for which there is room. A block in one of the two records found last is not
-// searched for.
+// Goes through the maximal blocks of exponent up to `top` and lists what each has. How many keys there are; those are written for which there is room. A block in one of the two
+// records found last is not searched for.
 fn pick_all(
     table: &[u32; 256],
     m: u32,
     keys: &[u32],
     classes: &[u8],
     window: Window,
+    top: u32,
     class: u8,
     out: &mut [u32],
 ) -> u32
-    requires { ⌜ (now table ≡ spreads) × Usable m m (now keys) window (window .w) × (length (now keys) ≡ length (now classes)) ⌝ }
-    ensures { λ r. ⌜ Listed 0 (selection m m (now (keys .entry)) (now (classes .entry)) window class) (now (out .entry)) r (now (out .exit)) ⌝ }
+    requires { ⌜ (now table ≡ spreads) × Usable m top (now keys) window (window .w) × (length (now keys) ≡ length (now classes)) ⌝ }
+    ensures { λ r. ⌜ Listed 0 (selection m top (now (keys .entry)) (now (classes .entry)) window class) (now (out .entry)) r (now (out .exit)) ⌝ }
 {
     let mut r = window.r0;
     let mut c = window.c0;
     let mut n: u32 = 0;
     let mut seen = near::first_seen(table, m, keys);
     loop {
-        let next = walk::next_block(window, m, r, c);
+        let next = walk::next_block(window, top, r, c);
         let Next::Block {
             row,
             col,
@@ -70,15 +71,15 @@ fn list_keys(
     keys: &[u32],
     classes: &[u8],
     window: Window,
+    top: u32,
     class: u8,
     out: &mut [u32],
 ) -> Selected
-    requires { ⌜ (now table ≡ spreads) × Usable m m (now keys) window (window .w) × (length (now keys) ≡ length (now classes)) ⌝ }
-    ensures { λ r. ⌜ after r (now (out .exit)) ≡ keysInto (selection m m (now (keys .entry)) (now (classes .entry)) window class) (now (out .entry)) ⌝ }
+    requires { ⌜ (now table ≡ spreads) × Usable m top (now keys) window (window .w) × (length (now keys) ≡ length (now classes)) ⌝ }
+    ensures { λ r. ⌜ after r (now (out .exit)) ≡ keysInto (selection m top (now (keys .entry)) (now (classes .entry)) window class) (now (out .entry)) ⌝ }
 {
-    let most = 4 * ((window.w as usize) + (window.h as usize)) + keys.len();
-    if out.len() < most {
-        let needed = pick_all(table, m, keys, classes, window, class, &mut out[..0]);
+    if out.len() < walk::most_blocks(window, top) + keys.len() {
+        let needed = pick_all(table, m, keys, classes, window, top, class, &mut out[..0]);
         if out.len() < needed as usize {
             return Selected::Refused {
                 number: 8,
@@ -86,13 +87,14 @@ fn list_keys(
             };
         }
     }
-    let count = pick_all(table, m, keys, classes, window, class, out);
+    let count = pick_all(table, m, keys, classes, window, top, class, out);
     Selected::Done { count }
 }
 
-// The keys of a class in the window. Nothing of it needs the border, which is spent at once.
+// The keys of a class in the window, with blocks of exponent up to `top`. Nothing of it needs the border, which is spent at once.
 pub fn select(
     m: u32,
+    top: u32,
     keys: &[u32],
     classes: &[u8],
     window: Window,
@@ -100,13 +102,13 @@ pub fn select(
     border: &mut [u16],
     out: &mut [u32],
 ) -> Selected
-    ensures { λ r. ⌜ after r (now (border .exit), now (out .exit)) ≡ selectOf m (now (keys .entry)) (now (classes .entry)) window class (now (border .entry)) (now (out .entry)) ⌝ }
+    ensures { λ r. ⌜ after r (now (border .exit), now (out .exit)) ≡ selectTiled m top (now (keys .entry)) (now (classes .entry)) window class (now (border .entry)) (now (out .entry)) ⌝ }
 {
-    let verdict = used::usable(m, keys, classes, window, border.len());
+    let verdict = used::usable_tiled(m, top, keys, classes, window, border.len());
     if let Verdict::Refused { number, place } = verdict {
         return Selected::Refused { number, place };
     }
     step::fill(border, 0, window.w as usize, window.r0 + window.h);
     let table = blocks::spread_table();
-    list_keys(&table, m, keys, classes, window, class, out)
+    list_keys(&table, m, keys, classes, window, top, class, out)
 }

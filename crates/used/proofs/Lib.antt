@@ -1,4 +1,5 @@
 mod Use
 mod Used
+mod Tiled
 mod Spent
 pub mod Laws

@@ -84,15 +84,19 @@ module _ (m : ℕ) (keys : List ℕ) (classes : ℕ) (W : Window) (cells : ℕ) 
     abbrev given : Answerable m keys classes W cells
     given = use-answerable .0 e
 
-    pub use-known : Usable m m keys W cells
-    use-known = record {
+    -- with any cap on its blocks
+    pub use-capped : {top : ℕ} → top ≤ m → Usable m top keys W cells
+    use-capped cap = record {
       small = given .sound .sizes .small;
-      cap = omega arith;
+      cap = cap;
       few = given .sound .sizes .most;
       spaced = spaced (given .sound .records);
       inside = given .inside;
       wide = given .wide;
     }
+
+    pub use-known : Usable m m keys W cells
+    use-known = use-capped (omega arith)
 
     -- the map is whole
     pub use-whole : Follow m 0 keys

@@ -2,7 +2,7 @@
 -- Assumes nothing.
 use mathlib.Core.Path.{_≡_, refl, sym, ap, _∙_}
 use mathlib.Core.Logic.{_↔_}
-use mathlib.Core.List.{List, [], _++_}
+use mathlib.Core.List.{List, _++_}
 use Prim.Native.Nat.{ℕ, _+_, _≤_, _<_}
 use native.Mathlib.Omega.{arith}
 use lib.ListN.{length}
@@ -15,9 +15,10 @@ use Rattle.answers.proofs.Laws as Answers
 use Rattle.answers.proofs.Laws.{answer-part, answer-append, on-passed, on-refused, passed-append, room-passed, room-short}
 use Rattle.answers.proofs.Laws.{room-done, room-by-lengths, room-said, room-told, Numbered, numbered-append, numbered-room}
 use Rattle.window.specs.declared.Window.{Window}
+use Rattle.map.proofs.Laws.{map-over}
 use Rattle.used.specs.Used.{useRefusals, spent, usedFor}
 use Rattle.used.specs.Promises.{Answerable}
-use Rattle.used.proofs.Use.{use-answerable, numbered-use}
+use Rattle.used.proofs.Use.{use-refused, use-answerable, numbered-use}
 
 -- ---- refusal 8, and an accepted call
 
@@ -26,6 +27,9 @@ module _ {A : Type 0} (refuse : ℕ → ℕ → A) (done : A) (cells : List ℕ)
       → usedFor refuse done cells m keys classes W border out ≡ after (refuse n p) (border, out)
   unfolding usedFor
   used-refused e = on-refused _ (useRefusals m keys classes W (length border)) _ e
+
+  pub used-over : 12 < m → usedFor refuse done cells m keys classes W border out ≡ after (refuse 1 0) (border, out)
+  used-over l = used-refused (use-refused m keys classes W (length border) (map-over m keys classes l))
 
   -- behind refusals 1 to 7 the border is spent, and only the room counts
   module _ (e : verdict (useRefusals m keys classes W (length border)) ≡ verdict-of.Passed) where

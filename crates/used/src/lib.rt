@@ -4,7 +4,7 @@ use window::Window;
 ghost use mathlib.Core.Path.{_≡_};
 ghost use lib.ListN.{length};
 ghost use Rattle.answers.specs.Refusals.{verdict};
-ghost use Rattle.used.specs.Used.{useRefusals};
+ghost use Rattle.used.specs.Used.{useRefusals, tiledRefusals};
 
 // Refusals 1 to 7: whoever uses a map and a window asks this first.
 pub fn usable(m: u32, keys: &[u32], classes: &[u8], window: Window, cells: usize) -> Verdict
@@ -28,4 +28,22 @@ pub fn usable(m: u32, keys: &[u32], classes: &[u8], window: Window, cells: usize
         };
     }
     Verdict::Passed
+}
+
+// The same with blocks of exponent up to `top`: refusal 17 stands between 1 and 2.
+pub fn usable_tiled(
+    m: u32,
+    top: u32,
+    keys: &[u32],
+    classes: &[u8],
+    window: Window,
+    cells: usize,
+) -> Verdict
+    ensures { λ r. ⌜ r ≡ verdict (tiledRefusals m top (now (keys .entry)) (length (now (classes .entry))) window cells) ⌝ }
+{
+    let tile = answers::tile(m, top);
+    if let Verdict::Refused { number, place } = tile {
+        return Verdict::Refused { number, place };
+    }
+    usable(m, keys, classes, window, cells)
 }

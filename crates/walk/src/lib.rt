@@ -1,11 +1,11 @@
-// The walk over the maximal blocks of a window, and whether a window lies in the picture.
+// The walk over the maximal blocks of a window, how many there can be, and whether a window lies in the picture.
 use window::Next;
 use window::Window;
 ghost use mathlib.Core.Path.{_≡_};
 ghost use Prim.Native.Nat.{min, _≤_};
 ghost use Rattle.window.specs.Window.{Inside, In, beyond, outside};
 ghost use Rattle.window.specs.Blocks.{floor, exponent};
-ghost use Rattle.window.specs.Walk.{Between, Reach, Cursor, Goes};
+ghost use Rattle.window.specs.Walk.{mostBlocks, Between, Reach, Cursor, Goes};
 
 // Of `count` numbers from `start` on: there is none, or one of them is not below 2^m.
 fn beyond(m: u32, start: u16, count: u16) -> bool
@@ -27,6 +27,17 @@ pub fn outside(m: u32, window: Window) -> bool
         return true;
     }
     beyond(m, window.c0, window.w)
+}
+
+// As many maximal blocks of exponent up to `top` as a window of its size can have: whoever has room for them need not count them first.
+pub fn most_blocks(window: Window, top: u32) -> usize
+    requires { ⌜ (top ≤ 12) × Inside 12 window ⌝ }
+    ensures { λ r. ⌜ r ≡ mostBlocks window top ⌝ }
+{
+    let w = window.w as u32;
+    let h = window.h as u32;
+    let tiles = w * h / blocks::pow4(top);
+    (4 * (w + h) + tiles - 2) as usize
 }
 
 // A number, down to a multiple of 2^i: where its block of that side begins.

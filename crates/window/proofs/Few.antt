@@ -18,6 +18,7 @@ use Rattle.key.proofs.Laws.{pow-least}
 use Rattle.window.specs.declared.Window.{Window}
 use Rattle.window.specs.Window.{Inside}
 use Rattle.window.specs.Blocks.{floor, exponent, maximal}
+use Rattle.window.specs.Walk.{mostBlocks}
 use Rattle.window.proofs.Fitting.{Fits}
 use Rattle.window.proofs.Dyadic.{side-square}
 use Rattle.window.proofs.Blocks.{exponent-le, exponent-fits, exponent-max}
@@ -124,8 +125,8 @@ module _ (W : Window) (top : ℕ) where
 
   -- ---- one count for every cap
 
-  blocks-most : {m : ℕ} → Inside m W → length (maximal W top) + 2 ≤ 4 * (W .w + W .h) + W .w * W .h / 4 ^ top
-  blocks-most I =
+  blocks-room : {m : ℕ} → Inside m W → length (maximal W top) + 2 ≤ 4 * (W .w + W .h) + W .w * W .h / 4 ^ top
+  blocks-room I =
       let codes : ℕ = 4 * (W .w + W .h) - 2 + W .w * W .h / 4 ^ top in
       omega (
         arith,
@@ -135,12 +136,16 @@ module _ (W : Window) (top : ℕ) where
             (λ b b′ n l l′ x y. code-one (known l) (known l′) x y),
       )
 
+  pub blocks-most : {m : ℕ} → Inside m W → length (maximal W top) ≤ mostBlocks W top
+  unfolding mostBlocks
+  blocks-most I = omega (arith, blocks-room I)
+
   pub blocks-capped : {m : ℕ} → Inside m W → length (maximal W top) < 4 * (W .w + W .h) + W .w * W .h / 4 ^ top
-  blocks-capped I = omega (arith, blocks-most I)
+  blocks-capped I = omega (arith, blocks-room I)
 
   -- where the window lies in a picture of exponent `top`, there is room for one tile
   pub blocks-few : Inside top W → length (maximal W top) < 4 * (W .w + W .h)
   blocks-few I =
       let area : W .w * W .h ≤ 2 ^ top * 2 ^ top = mul-le-mul (omega arith) (omega arith) in
       let one : W .w * W .h / 4 ^ top ≤ 1 = div-le-of-le-mul (4 ^ top) (rw (← side-square top) (omega arith)) in
-      omega (arith, blocks-most I)
+      omega (arith, blocks-room I)

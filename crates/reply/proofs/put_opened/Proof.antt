@@ -17,13 +17,13 @@ module _ (c : tie.After-open) where
   asked = c .before .before .before .before .before .before .before .before
 
   abbrev cells : List ℕ
-  cells = c .«open» .last .1 .1 .1 .1 .1 .0
+  cells = c .«open» .last .1 .1 .1 .1 .1 .1 .0
 
   abbrev border : List ℕ
-  border = c .«open» .last .1 .1 .1 .1 .0
+  border = c .«open» .last .1 .1 .1 .1 .1 .0
 
   opening : Opening (asked .args .m) (asked .args .keys .now) (asked .args .classes .now) (asked .args .window) (asked .args .border .now) (c .«open» .result) border cells
-  opening = record { can = asked .pre .0; is = c .«open» .ensures; long = c .«open» .kept .1 .1 .1 .1 .1 .0 ∙ length-replicate {A = ℕ} 3000 0 }
+  opening = record { can = asked .pre .0; is = c .«open» .ensures; long = c .«open» .kept .1 .1 .1 .1 .1 .1 .0 ∙ length-replicate {A = ℕ} 3000 0 }
 
 -- and where it was not refused
 module _ (c : tie.After-opened2) where

@@ -13,10 +13,10 @@ use Rattle.select.proofs.pick_all.Statement.{statement}
 use Rattle.select.proofs.pick_all.Tie as tie
 
 abbrev Inv-loop : tie.InvT-loop
-Inv-loop table m keys classes window class out₀ r₀ c₀ n₀ seen₀ out r c n seen = Selecting m keys classes window class out₀ out (r, c) n seen
+Inv-loop table m keys classes window top class out₀ r₀ c₀ n₀ seen₀ out r c n seen = Selecting m top keys classes window class out₀ out (r, c) n seen
 
 abbrev μ-loop : tie.MeasureT-loop
-μ-loop table m keys classes window class out₀ r₀ c₀ n₀ seen₀ out r c n seen = length (blocksFrom window m (r, c))
+μ-loop table m keys classes window top class out₀ r₀ c₀ n₀ seen₀ out r c n seen = length (blocksFrom window top (r, c))
 
 first-seen-requires : tie.Need-first-seen-requires Inv-loop μ-loop
 first-seen-requires c κs = let p = c .before .before .before .pre in (p .0, p .1 .small, p .1 .spaced)
@@ -25,7 +25,7 @@ loop-holds : tie.Need-loop-holds Inv-loop μ-loop
 loop-holds c = selecting-first _ _ (c .before .before .before .before .pre .1 .inside) _ (c .first-seen .ensures)
 
 next-block-requires : tie.Need-next-block-requires Inv-loop μ-loop
-next-block-requires c κs = let u = c .before .before .before .before .before .pre .1 in (u .small, inside-12 (u .small) (u .inside), c .loop .inv .walked .cursor)
+next-block-requires c κs = let u = c .before .before .before .before .before .pre .1 in (omega (arith, u .cap, u .small), inside-12 (u .small) (u .inside), c .loop .inv .walked .cursor)
 
 enum-known-next : tie.Need-enum-known-next Inv-loop μ-loop
 enum-known-next c = search needs
@@ -42,7 +42,7 @@ returns c = selecting-last (c .before .before .before .loop .inv) (c .before .be
 block-key-requires : tie.Need-block-key-requires Inv-loop μ-loop
 block-key-requires c κs =
     let p = c .before .before .before .before .before .before .before .before .before .pre in
-    let k = selecting-pixel (p .1 .inside) (c .before .before .before .next-block .ensures) (c .before .next .given .1) in
+    let k = selecting-pixel (p .1 .inside) (p .1 .cap) (c .before .before .before .next-block .ensures) (c .before .next .given .1) in
     (p .0, p .1 .small, k .0, k .1)
 
 -- the arm of a block: where the loop is, and which block it is

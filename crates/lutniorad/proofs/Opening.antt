@@ -1,0 +1,113 @@
+-- What opening promises, from the contract of the call alone. The call without a tile is the one with a cap of m.
+-- Assumes nothing.
+use mathlib.Core.Path.{_≡_, refl, sym, ap, _∙_}
+use mathlib.Core.Logic.{_↔_}
+use mathlib.Core.List.{List, _++_}
+use Prim.Native.Nat.{ℕ, _+_, _*_, _/_, _^_, _≤_, _<_}
+use native.Mathlib.Decide.{decLe}
+use native.Mathlib.Omega.{arith}
+use lib.ListN.{length, take}
+use Rattle.answers.specs.Refusals.{answer}
+use Rattle.answers.specs.Cells.{overwrite}
+use Rattle.answers.specs.After.{after, roomRefusals}
+use Rattle.answers.proofs.Laws.{take-overwrite}
+use Rattle.window.specs.declared.Window.{Window}
+use Rattle.map.proofs.Laws.{spaced}
+use Rattle.border.specs.Openings.{Opening, openings, handedCount, cellsOf}
+use Rattle.border.specs.Promises.{openingsIn}
+use Rattle.border.proofs.Laws.{openings-in, cells-length, hands-count, hands-all, hands-once, openings-capped, openings-few, hands-some, fewest-whole}
+use Rattle.used.specs.Used.{useRefusals, spent, usedFor}
+use Rattle.used.specs.Promises.{Answerable}
+use Rattle.open.specs.declared.Opened.the-variants.{Done, Refused}
+use Rattle.open.proofs.Laws.{open-is, open-within, openings-records}
+use Rattle.lutniorad.specs.declared.Answer.{Answer}
+use Rattle.lutniorad.specs.Numbers.{values, refused, ofOpened}
+use Rattle.lutniorad.specs.Calls.{Open, OpenTiled}
+use Rattle.lutniorad.specs.Promises.{RefusalLeaves, OpenPromise}
+use Rattle.lutniorad.proofs.Crossing.{call-one}
+use Rattle.lutniorad.proofs.Using.{used-crossed, used-says, used-numbered, used-answered, used-leaves, used-kept}
+use Rattle.lutniorad.proofs.Tiling.{tiling-cap, tiling-17, tiling-leaves}
+
+module _ (m top : ℕ) (keys classes : List ℕ) (W : Window) (border out : List ℕ) {r : Answer} {border′ out′ : List ℕ}
+    (call : OpenTiled m top keys classes W border out r border′ out′) where
+  abbrev os : List Opening
+  os = openings m top keys W
+
+  -- a tile over m is refused
+  pub open-cap : r .refusal ≡ 0 → top ≤ m
+  open-cap z =
+      tiling-cap Refused (λ n p. refl) m top (border, out) _ (open-is m top keys (length classes) W border out) call (λ e. omega (arith, e, z)) (λ e. omega (arith, e, z))
+
+  module _ (cap : top ≤ m) where
+    -- the call in numbers
+    opened : after r (border′, out′) ≡ usedFor refused (values (length os) (handedCount os)) (cellsOf os) m keys (length classes) W border out
+    opened =
+        let numbers = Done (length os) (handedCount os) in
+        used-crossed ofOpened Refused numbers (cellsOf os) m keys (length classes) W border out (open-within m top keys (length classes) W border out cap) call
+
+    pub open-says : r
+        ≡ answer refused (useRefusals m keys (length classes) W (length border) ++ roomRefusals (length out) (length (cellsOf os))) (values (length os) (handedCount os))
+    open-says = used-says (length os) (handedCount os) (cellsOf os) m keys (length classes) W border out opened
+
+    -- answered exactly when the map is sound, the window inside, and there is room in the border and for the openings
+    pub open-answered : (r .refusal ≡ 0) ↔ (Answerable m keys (length classes) W (length border) × (3 * length os ≤ length out))
+    open-answered = rw (← cells-length os) (used-answered (length os) (handedCount os) (cellsOf os) m keys (length classes) W border out opened)
+
+    module _ (A : Answerable m keys (length classes) W (length border)) where
+      -- as it is with 12 (w + h) cells and three for each tile that there is room for
+      pub open-enough : 3 * (4 * (W .w + W .h) + W .w * W .h / 4 ^ top) ≤ length out → r .refusal ≡ 0
+      open-enough l = open-answered .1 (A, omega (arith, openings-capped (spaced (A .sound .records)) (A .inside) cap))
+
+      -- without a tile, with 12 (w + h) cells
+      pub open-enough-whole : top ≡ m → 12 * (W .w + W .h) ≤ length out → r .refusal ≡ 0
+      open-enough-whole e l = open-answered .1 (A, rw e (omega (arith, openings-few (spaced (A .sound .records)) (A .inside))))
+
+      -- and in any case with three cells for each record
+      pub open-enough-records : 3 * length keys ≤ length out → r .refusal ≡ 0
+      open-enough-records l = open-answered .1 (A, omega (arith, openings-records (A .sound .records) (A .inside) cap))
+
+    pub open-numbered : r .refusal ≤ 8
+    open-numbered = used-numbered (length os) (handedCount os) (cellsOf os) m keys (length classes) W border out opened
+
+  pub open-17 : (r .refusal ≡ 17) ↔ ((m ≤ 12) × (m < top))
+  open-17 = tiling-17 Refused (λ n p. refl) m top (border, out) _ (open-is m top keys (length classes) W border out) call (λ cap. open-numbered cap)
+
+  pub open-kept : (r .refusal ≡ 0 → ⊥) → RefusalLeaves W border out r border′ out′
+  open-kept held = go (decLe top m)
+    where
+      go : Dec (top ≤ m) → RefusalLeaves W border out r border′ out′
+      go (yes cap) = used-kept (length os) (handedCount os) (cellsOf os) m keys (length classes) W border out (opened cap) held
+      go (no over) = tiling-leaves Refused (λ n p. refl) m top W border out _ (open-is m top keys (length classes) W border out) call (omega arith)
+
+  module _ (z : r .refusal ≡ 0) where
+    left : (r ≡ values (length os) (handedCount os)) × (border′ ≡ spent W border) × (out′ ≡ overwrite (cellsOf os) out)
+    left = used-leaves (length os) (handedCount os) (cellsOf os) m keys (length classes) W border out (opened (open-cap z)) z
+
+    stand : openingsIn (take (3 * r .first) out′) ≡ os
+    stand =
+        let n : 3 * r .first ≡ length (cellsOf os) = ap (λ (x : Answer). 3 * x .first) (left .0) ∙ sym (cells-length os) in
+        rw (n, left .2, take-overwrite (cellsOf os) out) (openings-in os)
+
+    pub open-promise : OpenPromise m top keys W border out (openingsIn (take (3 * r .first) out′)) r border′ out′
+    open-promise =
+        let cap = open-cap z in
+        let A = open-answered cap .0 z .0 in
+        let F = A .sound .records in
+        rw stand (record {
+          all = hands-all (spaced F) (A .inside) cap;
+          once = hands-once (spaced F) (A .inside) cap;
+          in-order = refl;
+          few = openings-capped (spaced F) (A .inside) cap;
+          few-whole = λ e. rw e (openings-few (spaced F) (A .inside));
+          some = hands-some F (A .inside) cap;
+          fewest = fewest-whole F (A .inside) cap;
+          numbers = left .0 ∙ ap (values (length os)) (hands-count os);
+          cells = left .2;
+          border-after = left .1;
+        })
+
+-- with a tile as large as the picture the call answers and leaves what the one without a tile does
+pub open-untiled : (m : ℕ) (keys classes : List ℕ) (W : Window) (border out : List ℕ) {border′ out′ border″ out″ : List ℕ} {r s : Answer}
+    → OpenTiled m m keys classes W border out r border′ out′ → Open m keys classes W border out s border″ out″
+    → (r ≡ s) × (_≡_ {A = List ℕ × List ℕ} (border′, out′) (border″, out″))
+open-untiled m keys classes W border out a b = call-one a b
