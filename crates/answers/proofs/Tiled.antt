@@ -9,10 +9,10 @@ use native.Mathlib.Omega.{arith}
 use lib.Dec.{ltb}
 use borrow.Author.Tests.{ltb-false, lt-ltb, le-ltb}
 use Rattle.answers.specs.declared.Verdict.the-variants.{Passed, Refused}
-use Rattle.answers.specs.Refusals.{Refusal, refusal, verdict}
+use Rattle.answers.specs.Refusals.{Refusal, refusal, answer, verdict}
 use Rattle.answers.specs.Sizes.{pictureRefusals, tileRefusals}
 use Rattle.answers.specs.After.{After, after, tiledFor}
-use Rattle.answers.proofs.Tables.{refusal-held, passed-one, passed-append, append-passed, append-refused, on-passed, on-refused}
+use Rattle.answers.proofs.Tables.{refusal-held, passed-one, passed-append, append-passed, append-refused, on-passed, on-refused, answer-part}
 use Rattle.answers.proofs.Cells.{picture-passed, picture-refused}
 
 module _ (m top : ℕ) where
@@ -44,6 +44,11 @@ module _ (m top : ℕ) where
     pub tiled-passed : verdict (tileRefusals m top) ≡ Passed → tiledFor refuse m top lent o ≡ o
     unfolding tiledFor
     tiled-passed e = on-passed (λ n p. after (refuse n p) lent) (tileRefusals m top) o e
+
+    -- one part of the outcome, by itself
+    pub tiled-part : {B : Type 0} (part : After A S → B) → part (tiledFor refuse m top lent o) ≡ answer (λ n p. part (after (refuse n p) lent)) (tileRefusals m top) (part o)
+    unfolding tiledFor
+    tiled-part part = answer-part part (λ n p. after (refuse n p) lent) (tileRefusals m top) o
 
     -- blocks no larger than the picture change no refusal of what gives 1 by itself
     pub tiled-within : top ≤ m → (12 < m → o ≡ after (refuse 1 0) lent) → tiledFor refuse m top lent o ≡ o

@@ -2,13 +2,14 @@
 -- Assumes nothing.
 use mathlib.Core.Path.{_≡_, refl, sym, ap, _∙_}
 use mathlib.Core.Logic.{_↔_}
-use mathlib.Core.List.{List, List·Memᴰ, map, map-map, Memᴰ·map, Memᴰ·of-map}
+use mathlib.Core.List.{List, _++_, List·Memᴰ, map, map-map, Memᴰ·map, Memᴰ·of-map}
 use Prim.Native.Nat.{ℕ, _+_, _*_, _/_, _^_, _≤_, _<_}
 use native.Mathlib.Decide.{decLe}
 use native.Mathlib.Omega.{arith}
 use lib.ListN.{length, length-map}
 use Rattle.lists.proofs.Laws.{ordered-map, map-same}
 use Rattle.answers.specs.Refusals.{answer}
+use Rattle.answers.specs.Sizes.{tileRefusals}
 use Rattle.answers.specs.Cells.{overwrite}
 use Rattle.answers.specs.After.{after}
 use Rattle.key.specs.Picture.{Px}
@@ -27,8 +28,8 @@ use Rattle.lutniorad.specs.Numbers.{values, refused, ofDecomposed}
 use Rattle.lutniorad.specs.Calls.{Decompose, DecomposeTiled}
 use Rattle.lutniorad.specs.Promises.{DecomposePromise}
 use Rattle.lutniorad.proofs.Crossing.{call-one}
-use Rattle.lutniorad.proofs.Drawing.{drawn-crossed, drawn-says, drawn-numbered, drawn-answered, drawn-kept, drawn-done}
-use Rattle.lutniorad.proofs.Tiling.{tiling-cap, tiling-kept, tiling-17}
+use Rattle.lutniorad.proofs.Drawing.{drawn-numbers, drawn-crossed, drawn-numbered, drawn-answered, drawn-kept, drawn-done}
+use Rattle.lutniorad.proofs.Tiling.{tiling-says, tiling-cap, tiling-kept, tiling-17}
 
 module _ (m top : ℕ) (W : Window) where
   sized : Px → ℕ × Px
@@ -66,32 +67,37 @@ module _ (m top : ℕ) (W : Window) (out : List ℕ) {out′ : List ℕ} {r : An
   abbrev ks : List ℕ
   ks = keysOf m top W
 
-  -- a tile over m is refused
-  pub decompose-cap : r .refusal ≡ 0 → top ≤ m
-  decompose-cap z =
-      tiling-cap decomposed-as.Refused (λ n p. refl) m top out _ (decompose-is m top W out) call (λ e. omega (arith, e, z)) (λ e. omega (arith, e, z))
+  -- the first of refusals 1 and 17, and of 1, 6 and 8, that holds, or the number of blocks; of the slice only the length counts
+  pub decompose-says : r ≡ answer refused (tileRefusals m top ++ drawnRefusals m W (length ks) (length out)) (values (length ks) 0)
+  decompose-says =
+      tiling-says decomposed-as.Refused (λ n p. refl) m top out _ (decompose-is m top W out) call _ _
+      (drawn-numbers ofDecomposed decomposed-as.Refused (decomposed-as.Done (length ks)) ks m W out)
+
+  capped : r .refusal ≡ 0 → top ≤ m
+  capped z = tiling-cap decomposed-as.Refused (λ n p. refl) m top out _ (decompose-is m top W out) call (λ e. omega (arith, e, z)) (λ e. omega (arith, e, z))
 
   module _ (cap : top ≤ m) where
     -- the call in numbers
     decomposed : after r out′ ≡ drawnFor refused (values (length ks) 0) ks m W out
     decomposed = drawn-crossed ofDecomposed decomposed-as.Refused (decomposed-as.Done (length ks)) ks m W out (decompose-within m top W out cap) call
 
-    pub decompose-says : r ≡ answer refused (drawnRefusals m W (length ks) (length out)) (values (length ks) 0)
-    decompose-says = drawn-says (length ks) ks m W out decomposed
-
     pub decompose-numbered : r .refusal ≤ 8
     decompose-numbered = drawn-numbered (length ks) ks m W out decomposed
 
-    pub decompose-answered : (r .refusal ≡ 0) ↔ ((m ≤ 12) × Inside m W × (length ks ≤ length out))
-    decompose-answered = drawn-answered (length ks) ks m W out decomposed
+    within : (r .refusal ≡ 0) ↔ ((m ≤ 12) × Inside m W × (length ks ≤ length out))
+    within = drawn-answered (length ks) ks m W out decomposed
 
     -- 4 (w + h) cells and as many as there is room for tiles are always enough
     pub decompose-enough : m ≤ 12 → Inside m W → 4 * (W .w + W .h) + W .w * W .h / 4 ^ top ≤ length out → r .refusal ≡ 0
-    decompose-enough l I room = decompose-answered .1 (l, I, omega (arith, keys-length m top W, blocks-capped W top I))
+    decompose-enough l I room = within .1 (l, I, omega (arith, keys-length m top W, blocks-capped W top I))
 
     -- and without a tile 4 (w + h)
     pub decompose-enough-whole : top ≡ m → m ≤ 12 → Inside m W → 4 * (W .w + W .h) ≤ length out → r .refusal ≡ 0
-    decompose-enough-whole e l I room = decompose-answered .1 (l, I, omega (arith, keys-length m top W, blocks-few W top (rw e I)))
+    decompose-enough-whole e l I room = within .1 (l, I, omega (arith, keys-length m top W, blocks-few W top (rw e I)))
+
+  -- answered exactly when the tile is no larger than the picture, the window inside, and there is room for its blocks
+  pub decompose-answered : (r .refusal ≡ 0) ↔ ((top ≤ m) × (m ≤ 12) × Inside m W × (length ks ≤ length out))
+  decompose-answered = (λ z. let t = within (capped z) .0 z in (capped z, t .0, t .1, t .2), λ t. within (t .0) .1 (t .1, t .2, t .3))
 
   pub decompose-17 : (r .refusal ≡ 17) ↔ ((m ≤ 12) × (m < top))
   decompose-17 = tiling-17 decomposed-as.Refused (λ n p. refl) m top out _ (decompose-is m top W out) call (λ cap. decompose-numbered cap)
@@ -106,8 +112,8 @@ module _ (m top : ℕ) (W : Window) (out : List ℕ) {out′ : List ℕ} {r : An
   pub decompose-promise : r .refusal ≡ 0 → DecomposePromise m top W out r out′
   unfolding listed sized
   decompose-promise z =
-      let cap = decompose-cap z in
-      let I = decompose-answered cap .0 z .1 in
+      let cap = capped z in
+      let I = within cap .0 z .1 in
       let done = drawn-done (length ks) ks m W out (decomposed cap) z in
       let many : length ks ≡ length (listed m top W) = keys-length m top W ∙ sym (blocks-listed m top W) in
       record {

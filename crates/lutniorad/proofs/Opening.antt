@@ -8,6 +8,7 @@ use native.Mathlib.Decide.{decLe}
 use native.Mathlib.Omega.{arith}
 use lib.ListN.{length, take}
 use Rattle.answers.specs.Refusals.{answer}
+use Rattle.answers.specs.Sizes.{tileRefusals}
 use Rattle.answers.specs.Cells.{overwrite}
 use Rattle.answers.specs.After.{after, roomRefusals}
 use Rattle.answers.proofs.Laws.{take-overwrite}
@@ -25,17 +26,24 @@ use Rattle.lutniorad.specs.Numbers.{values, refused, ofOpened}
 use Rattle.lutniorad.specs.Calls.{Open, OpenTiled}
 use Rattle.lutniorad.specs.Promises.{RefusalLeaves, OpenPromise}
 use Rattle.lutniorad.proofs.Crossing.{call-one}
-use Rattle.lutniorad.proofs.Using.{used-crossed, used-says, used-numbered, used-answered, used-leaves, used-kept}
-use Rattle.lutniorad.proofs.Tiling.{tiling-cap, tiling-17, tiling-leaves}
+use Rattle.lutniorad.proofs.Using.{used-numbers, used-crossed, used-numbered, used-answered, used-leaves, used-kept}
+use Rattle.lutniorad.proofs.Tiling.{tiling-says, tiling-cap, tiling-17, tiling-leaves}
 
 module _ (m top : ℕ) (keys classes : List ℕ) (W : Window) (border out : List ℕ) {r : Answer} {border′ out′ : List ℕ}
     (call : OpenTiled m top keys classes W border out r border′ out′) where
   abbrev os : List Opening
   os = openings m top keys W
 
-  -- a tile over m is refused
-  pub open-cap : r .refusal ≡ 0 → top ≤ m
-  open-cap z =
+  -- the first of refusals 1 and 17, and of 1 to 8, that holds, or the numbers of openings and records; of the two slices only the lengths count
+  pub open-says : r
+      ≡ answer refused (tileRefusals m top ++ (useRefusals m keys (length classes) W (length border) ++ roomRefusals (length out) (length (cellsOf os))))
+      (values (length os) (handedCount os))
+  open-says =
+      tiling-says Refused (λ n p. refl) m top (border, out) _ (open-is m top keys (length classes) W border out) call _ _
+      (used-numbers ofOpened Refused (Done (length os) (handedCount os)) (cellsOf os) m keys (length classes) W border out)
+
+  capped : r .refusal ≡ 0 → top ≤ m
+  capped z =
       tiling-cap Refused (λ n p. refl) m top (border, out) _ (open-is m top keys (length classes) W border out) call (λ e. omega (arith, e, z)) (λ e. omega (arith, e, z))
 
   module _ (cap : top ≤ m) where
@@ -45,29 +53,28 @@ module _ (m top : ℕ) (keys classes : List ℕ) (W : Window) (border out : List
         let numbers = Done (length os) (handedCount os) in
         used-crossed ofOpened Refused numbers (cellsOf os) m keys (length classes) W border out (open-within m top keys (length classes) W border out cap) call
 
-    pub open-says : r
-        ≡ answer refused (useRefusals m keys (length classes) W (length border) ++ roomRefusals (length out) (length (cellsOf os))) (values (length os) (handedCount os))
-    open-says = used-says (length os) (handedCount os) (cellsOf os) m keys (length classes) W border out opened
-
-    -- answered exactly when the map is sound, the window inside, and there is room in the border and for the openings
-    pub open-answered : (r .refusal ≡ 0) ↔ (Answerable m keys (length classes) W (length border) × (3 * length os ≤ length out))
-    open-answered = rw (← cells-length os) (used-answered (length os) (handedCount os) (cellsOf os) m keys (length classes) W border out opened)
+    within : (r .refusal ≡ 0) ↔ (Answerable m keys (length classes) W (length border) × (3 * length os ≤ length out))
+    within = rw (← cells-length os) (used-answered (length os) (handedCount os) (cellsOf os) m keys (length classes) W border out opened)
 
     module _ (A : Answerable m keys (length classes) W (length border)) where
       -- as it is with 12 (w + h) cells and three for each tile that there is room for
       pub open-enough : 3 * (4 * (W .w + W .h) + W .w * W .h / 4 ^ top) ≤ length out → r .refusal ≡ 0
-      open-enough l = open-answered .1 (A, omega (arith, openings-capped (spaced (A .sound .records)) (A .inside) cap))
+      open-enough l = within .1 (A, omega (arith, openings-capped (spaced (A .sound .records)) (A .inside) cap))
 
       -- without a tile, with 12 (w + h) cells
       pub open-enough-whole : top ≡ m → 12 * (W .w + W .h) ≤ length out → r .refusal ≡ 0
-      open-enough-whole e l = open-answered .1 (A, rw e (omega (arith, openings-few (spaced (A .sound .records)) (A .inside))))
+      open-enough-whole e l = within .1 (A, rw e (omega (arith, openings-few (spaced (A .sound .records)) (A .inside))))
 
       -- and in any case with three cells for each record
       pub open-enough-records : 3 * length keys ≤ length out → r .refusal ≡ 0
-      open-enough-records l = open-answered .1 (A, omega (arith, openings-records (A .sound .records) (A .inside) cap))
+      open-enough-records l = within .1 (A, omega (arith, openings-records (A .sound .records) (A .inside) cap))
 
     pub open-numbered : r .refusal ≤ 8
     open-numbered = used-numbered (length os) (handedCount os) (cellsOf os) m keys (length classes) W border out opened
+
+  -- answered exactly when the tile is no larger than the picture, the map sound, the window inside, and there is room in the border and for the openings
+  pub open-answered : (r .refusal ≡ 0) ↔ ((top ≤ m) × Answerable m keys (length classes) W (length border) × (3 * length os ≤ length out))
+  open-answered = (λ z. let t = within (capped z) .0 z in (capped z, t .0, t .1), λ t. within (t .0) .1 (t .1, t .2))
 
   pub open-17 : (r .refusal ≡ 17) ↔ ((m ≤ 12) × (m < top))
   open-17 = tiling-17 Refused (λ n p. refl) m top (border, out) _ (open-is m top keys (length classes) W border out) call (λ cap. open-numbered cap)
@@ -81,7 +88,7 @@ module _ (m top : ℕ) (keys classes : List ℕ) (W : Window) (border out : List
 
   module _ (z : r .refusal ≡ 0) where
     left : (r ≡ values (length os) (handedCount os)) × (border′ ≡ spent W border) × (out′ ≡ overwrite (cellsOf os) out)
-    left = used-leaves (length os) (handedCount os) (cellsOf os) m keys (length classes) W border out (opened (open-cap z)) z
+    left = used-leaves (length os) (handedCount os) (cellsOf os) m keys (length classes) W border out (opened (capped z)) z
 
     stand : openingsIn (take (3 * r .first) out′) ≡ os
     stand =
@@ -90,8 +97,8 @@ module _ (m top : ℕ) (keys classes : List ℕ) (W : Window) (border out : List
 
     pub open-promise : OpenPromise m top keys W border out (openingsIn (take (3 * r .first) out′)) r border′ out′
     open-promise =
-        let cap = open-cap z in
-        let A = open-answered cap .0 z .0 in
+        let cap = capped z in
+        let A = within cap .0 z .0 in
         let F = A .sound .records in
         rw stand (record {
           all = hands-all (spaced F) (A .inside) cap;

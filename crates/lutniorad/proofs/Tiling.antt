@@ -1,16 +1,16 @@
--- A call with a cap on the exponent of blocks: what it answers and leaves where the cap is over m.
+-- A call with a cap on the exponent of blocks: which four numbers it returns, and what it leaves where the cap is over m.
 -- Assumes nothing.
-use mathlib.Core.Path.{_≡_, ap, _∙_}
+use mathlib.Core.Path.{_≡_, sym, ap, _∙_}
 use mathlib.Core.Logic.{_↔_}
-use mathlib.Core.List.{List}
+use mathlib.Core.List.{List, _++_}
 use Prim.Native.Nat.{ℕ, _≤_, _<_}
 use native.Mathlib.Decide.{decLe, decLt}
 use native.Mathlib.Omega.{arith}
 use Rattle.answers.specs.declared.Verdict.the-variants.{Refused}
-use Rattle.answers.specs.Refusals.{verdict}
+use Rattle.answers.specs.Refusals.{Refusal, answer, verdict}
 use Rattle.answers.specs.Sizes.{tileRefusals}
 use Rattle.answers.specs.After.{After, tiledFor}
-use Rattle.answers.proofs.Laws.{tile-large, tile-over, tiled-refused}
+use Rattle.answers.proofs.Laws.{answer-append, tile-large, tile-over, tiled-refused, tiled-part}
 use Rattle.window.specs.declared.Window.{Window}
 use Rattle.lutniorad.specs.declared.Answer.{Answer}
 use Rattle.lutniorad.specs.Numbers.{refused}
@@ -24,6 +24,16 @@ module _ {A S : Type 0} {say : A → Answer} (refuse : ℕ → ℕ → A) (says 
       let d = is ∙ tiled-refused m top refuse lent o e in
       let number = call .answer ∙ ap (λ (x : After A S). say (x .answer)) d ∙ says n p in
       (ap (λ (x : Answer). x .refusal) number, call .cells ∙ ap (λ (x : After A S). x .lent) d)
+
+  -- the four numbers: the first of refusals 1 and 17 that holds, or what is said without them
+  pub tiling-says : (rs : List Refusal) (v : Answer) → say (o .answer) ≡ answer refused rs v → r ≡ answer refused (tileRefusals m top ++ rs) v
+  tiling-says rs v said =
+      call .answer
+      ∙ ap (λ (x : After A S). say (x .answer)) is
+      ∙ tiled-part m top refuse lent o (λ (x : After A S). say (x .answer))
+      ∙ (λ t. answer (λ n p. says n p t) (tileRefusals m top) (say (o .answer)))
+      ∙ ap (λ (x : Answer). answer refused (tileRefusals m top) x) said
+      ∙ sym (answer-append refused (tileRefusals m top) rs v)
 
   -- where the cap is over m: refusal 1 or 17
   data Over : Type 0 where
