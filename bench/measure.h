@@ -29,8 +29,10 @@ bool takes_window(int operation);
 /* Does it check a map, and then something more? */
 bool checks_first(int operation);
 
-/* The widest border, and out cells enough for one pass of opening with tiles of 32 x 32 pixels, and so of any other
- * call that is made. */
+/*
+ * The widest border, and out cells enough for one pass of opening with tiles of 32 x 32 pixels, and so of any other
+ * call that is made.
+ */
 enum { CELLS = 4096, ROOM = LUTNIORAD_OPEN_TILED_CELLS(5, 4096, 4096) };
 
 typedef struct {

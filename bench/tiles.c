@@ -201,8 +201,10 @@ static bool lies_in_larger(block b, rectangle at)
     return fits(around, at);
 }
 
-/* All maximal blocks are opened, but for those behind the first in one record; of the records of a class the parts are
- * listed. */
+/*
+ * All maximal blocks are opened, but for those behind the first in one record; of the records of a class the parts are
+ * listed.
+ */
 static uint32_t count_all(int operation, rectangle at)
 {
     uint32_t blocks = count_parts(read_key(0), at), skipped = 0, keys = 0;
