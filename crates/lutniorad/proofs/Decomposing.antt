@@ -84,6 +84,7 @@ module _ (m top : ℕ) (W : Window) (out : List ℕ) {out′ : List ℕ} {r : An
     pub decompose-numbered : r .refusal ≤ 8
     decompose-numbered = drawn-numbered (length ks) ks m W out decomposed
 
+    -- when it is answered then
     within : (r .refusal ≡ 0) ↔ ((m ≤ 12) × Inside m W × (length ks ≤ length out))
     within = drawn-answered (length ks) ks m W out decomposed
 

@@ -53,11 +53,12 @@ module _ (m top : ℕ) (keys classes : List ℕ) (W : Window) (border out : List
         let numbers = Done (length os) (handedCount os) in
         used-crossed ofOpened Refused numbers (cellsOf os) m keys (length classes) W border out (open-within m top keys (length classes) W border out cap) call
 
+    -- when it is answered then
     within : (r .refusal ≡ 0) ↔ (Answerable m keys (length classes) W (length border) × (3 * length os ≤ length out))
     within = rw (← cells-length os) (used-answered (length os) (handedCount os) (cellsOf os) m keys (length classes) W border out opened)
 
     module _ (A : Answerable m keys (length classes) W (length border)) where
-      -- as it is with 12 (w + h) cells and three for each tile that there is room for
+      -- it is with 12 (w + h) cells and three for each tile that there is room for
       pub open-enough : 3 * (4 * (W .w + W .h) + W .w * W .h / 4 ^ top) ≤ length out → r .refusal ≡ 0
       open-enough l = within .1 (A, omega (arith, openings-capped (spaced (A .sound .records)) (A .inside) cap))
 

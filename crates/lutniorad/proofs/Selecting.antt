@@ -50,11 +50,12 @@ module _ (m top : ℕ) (keys classes : List ℕ) (W : Window) (class : ℕ) (bor
         let whole = select-within m top keys classes W class border out cap in
         used-crossed ofSelected selected-as.Refused (selected-as.Done (length ks)) ks m keys (length classes) W border out whole call
 
+    -- when it is answered then
     within : (r .refusal ≡ 0) ↔ (Answerable m keys (length classes) W (length border) × (length ks ≤ length out))
     within = used-answered (length ks) 0 ks m keys (length classes) W border out selects
 
     module _ (A : Answerable m keys (length classes) W (length border)) where
-      -- as it is with Q + 4 (w + h) cells and one for each tile that there is room for
+      -- it is with Q + 4 (w + h) cells and one for each tile that there is room for
       pub select-enough : length keys + 4 * (W .w + W .h) + W .w * W .h / 4 ^ top ≤ length out → r .refusal ≡ 0
       select-enough l = within .1 (A, omega (arith, selection-capped (spaced (A .sound .records)) (A .inside) cap classes class))
 
