@@ -45,10 +45,16 @@ module _ (m top : ℕ) where
     unfolding tiledFor
     tiled-passed e = on-passed (λ n p. after (refuse n p) lent) (tileRefusals m top) o e
 
-    -- one part of the outcome, by itself
-    pub tiled-part : {B : Type 0} (part : After A S → B) → part (tiledFor refuse m top lent o) ≡ answer (λ n p. part (after (refuse n p) lent)) (tileRefusals m top) (part o)
+    -- the answer is the first of the two, or what is answered behind them
+    pub tiled-answer : tiledFor refuse m top lent o .answer ≡ answer refuse (tileRefusals m top) (o .answer)
     unfolding tiledFor
-    tiled-part part = answer-part part (λ n p. after (refuse n p) lent) (tileRefusals m top) o
+    tiled-answer = answer-part (λ (x : After A S). x .answer) (λ n p. after (refuse n p) lent) (tileRefusals m top) o
+
+    -- the same outcome, its answer said in other words
+    pub tiled-said : {B : Type 0} (say : A → B) → (let t = tiledFor refuse m top lent o in after (say (t .answer)) (t .lent))
+        ≡ tiledFor (λ n p. say (refuse n p)) m top lent (after (say (o .answer)) (o .lent))
+    unfolding tiledFor
+    tiled-said say = answer-part (λ (x : After A S). after (say (x .answer)) (x .lent)) (λ n p. after (refuse n p) lent) (tileRefusals m top) o
 
     -- blocks no larger than the picture change no refusal of what gives 1 by itself
     pub tiled-within : top ≤ m → (12 < m → o ≡ after (refuse 1 0) lent) → tiledFor refuse m top lent o ≡ o

@@ -11,7 +11,7 @@ use Rattle.lists.proofs.Laws.{ordered-map, map-same}
 use Rattle.answers.specs.Refusals.{answer}
 use Rattle.answers.specs.Sizes.{tileRefusals}
 use Rattle.answers.specs.Cells.{overwrite}
-use Rattle.answers.specs.After.{after}
+use Rattle.answers.specs.After.{after, tiledFor}
 use Rattle.key.specs.Picture.{Px}
 use Rattle.key.specs.Key.{blockKey}
 use Rattle.window.specs.declared.Window.{Window}
@@ -20,7 +20,7 @@ use Rattle.window.specs.Drawn.{drawnRefusals, drawnFor}
 use Rattle.window.specs.Blocks.{exponent, maximal}
 use Rattle.window.specs.Promises.{Maximal}
 use Rattle.window.specs.Keys.{keysOf}
-use Rattle.window.proofs.Laws.{maximal-listed, listed-ordered, blocks-capped, blocks-few, keys-of, keys-length, key-at}
+use Rattle.window.proofs.Laws.{maximal-listed, listed-ordered, blocks-capped, blocks-few, keys-of, keys-length, key-at, drawn-said, drawn-by-length}
 use Rattle.decompose.specs.declared.Decomposed.the-variants as decomposed-as
 use Rattle.decompose.proofs.Laws.{decompose-is, decompose-within}
 use Rattle.lutniorad.specs.declared.Answer.{Answer}
@@ -28,8 +28,8 @@ use Rattle.lutniorad.specs.Numbers.{values, refused, ofDecomposed}
 use Rattle.lutniorad.specs.Calls.{Decompose, DecomposeTiled}
 use Rattle.lutniorad.specs.Promises.{DecomposePromise}
 use Rattle.lutniorad.proofs.Crossing.{call-one}
-use Rattle.lutniorad.proofs.Drawing.{drawn-numbers, drawn-crossed, drawn-numbered, drawn-answered, drawn-kept, drawn-done}
-use Rattle.lutniorad.proofs.Tiling.{tiling-says, tiling-cap, tiling-kept, tiling-17}
+use Rattle.lutniorad.proofs.Drawing.{drawn-crossed, drawn-numbered, drawn-answered, drawn-kept, drawn-done}
+use Rattle.lutniorad.proofs.Capped.{tiled-crossed, capped-says, capped-kept, capped-answered, capped-17}
 
 module _ (m top : ℕ) (W : Window) where
   sized : Px → ℕ × Px
@@ -67,55 +67,52 @@ module _ (m top : ℕ) (W : Window) (out : List ℕ) {out′ : List ℕ} {r : An
   abbrev ks : List ℕ
   ks = keysOf m top W
 
-  -- the first of refusals 1 and 17, and of 1, 6 and 8, that holds, or the number of blocks; of the slice only the length counts
+  -- the call in numbers
+  decomposed : after r out′ ≡ tiledFor refused m top out (drawnFor refused (values (length ks) 0) ks m W out)
+  decomposed =
+      tiled-crossed ofDecomposed decomposed-as.Refused m top out _ (decompose-is m top W out) call
+      ∙ ap (tiledFor refused m top out) (drawn-said decomposed-as.Refused (decomposed-as.Done (length ks)) ks m W out ofDecomposed)
+
+  -- the first of refusals 1 and 17, and of 1, 6 and 8, or the number of blocks; of the slice only the length counts
   pub decompose-says : r ≡ answer refused (tileRefusals m top ++ drawnRefusals m W (length ks) (length out)) (values (length ks) 0)
-  decompose-says =
-      tiling-says decomposed-as.Refused (λ n p. refl) m top out _ (decompose-is m top W out) call _ _
-      (drawn-numbers ofDecomposed decomposed-as.Refused (decomposed-as.Done (length ks)) ks m W out)
+  decompose-says = capped-says m top out _ decomposed _ _ (drawn-by-length refused (values (length ks) 0) ks m W out)
 
-  capped : r .refusal ≡ 0 → top ≤ m
-  capped z = tiling-cap decomposed-as.Refused (λ n p. refl) m top out _ (decompose-is m top W out) call (λ e. omega (arith, e, z)) (λ e. omega (arith, e, z))
+  -- with a tile no larger than the picture
+  untiled : top ≤ m → after r out′ ≡ drawnFor refused (values (length ks) 0) ks m W out
+  untiled cap = drawn-crossed ofDecomposed decomposed-as.Refused (decomposed-as.Done (length ks)) ks m W out (decompose-within m top W out cap) call
 
-  module _ (cap : top ≤ m) where
-    -- the call in numbers
-    decomposed : after r out′ ≡ drawnFor refused (values (length ks) 0) ks m W out
-    decomposed = drawn-crossed ofDecomposed decomposed-as.Refused (decomposed-as.Done (length ks)) ks m W out (decompose-within m top W out cap) call
-
-    pub decompose-numbered : r .refusal ≤ 8
-    decompose-numbered = drawn-numbered (length ks) ks m W out decomposed
-
-    -- when it is answered then
-    within : (r .refusal ≡ 0) ↔ ((m ≤ 12) × Inside m W × (length ks ≤ length out))
-    within = drawn-answered (length ks) ks m W out decomposed
-
-    -- 4 (w + h) cells and as many as there is room for tiles are always enough
-    pub decompose-enough : m ≤ 12 → Inside m W → 4 * (W .w + W .h) + W .w * W .h / 4 ^ top ≤ length out → r .refusal ≡ 0
-    decompose-enough l I room = within .1 (l, I, omega (arith, keys-length m top W, blocks-capped W top I))
-
-    -- and without a tile 4 (w + h)
-    pub decompose-enough-whole : top ≡ m → m ≤ 12 → Inside m W → 4 * (W .w + W .h) ≤ length out → r .refusal ≡ 0
-    decompose-enough-whole e l I room = within .1 (l, I, omega (arith, keys-length m top W, blocks-few W top (rw e I)))
-
-  -- answered exactly when the tile is no larger than the picture, the window inside, and there is room for its blocks
-  pub decompose-answered : (r .refusal ≡ 0) ↔ ((top ≤ m) × (m ≤ 12) × Inside m W × (length ks ≤ length out))
-  decompose-answered = (λ z. let t = within (capped z) .0 z in (capped z, t .0, t .1, t .2), λ t. within (t .0) .1 (t .1, t .2, t .3))
+  pub decompose-numbered : top ≤ m → r .refusal ≤ 8
+  decompose-numbered cap = drawn-numbered (length ks) ks m W out (untiled cap)
 
   pub decompose-17 : (r .refusal ≡ 17) ↔ ((m ≤ 12) × (m < top))
-  decompose-17 = tiling-17 decomposed-as.Refused (λ n p. refl) m top out _ (decompose-is m top W out) call (λ cap. decompose-numbered cap)
+  decompose-17 = capped-17 m top out _ decomposed decompose-numbered
+
+  -- answered exactly when the tile is no larger than the picture, the window inside, and there is room for its blocks
+  pub decompose-answered : (r .refusal ≡ 0) ↔ ((top ≤ m) × ((m ≤ 12) × Inside m W × (length ks ≤ length out)))
+  decompose-answered = capped-answered m top out _ decomposed (λ cap. drawn-answered (length ks) ks m W out (untiled cap))
+
+  module _ (cap : top ≤ m) (small : m ≤ 12) (I : Inside m W) where
+    -- as it is with 4 (w + h) cells and one for each tile that there is room for
+    pub decompose-enough : 4 * (W .w + W .h) + W .w * W .h / 4 ^ top ≤ length out → r .refusal ≡ 0
+    decompose-enough room = decompose-answered .1 (cap, (small, I, omega (arith, keys-length m top W, blocks-capped W top I)))
+
+    -- without a tile, with 4 (w + h) cells
+    pub decompose-enough-whole : top ≡ m → 4 * (W .w + W .h) ≤ length out → r .refusal ≡ 0
+    decompose-enough-whole e room = decompose-answered .1 (cap, (small, I, omega (arith, keys-length m top W, blocks-few W top (rw e I))))
 
   pub decompose-kept : (r .refusal ≡ 0 → ⊥) → out′ ≡ out
   decompose-kept held = go (decLe top m)
     where
       go : Dec (top ≤ m) → out′ ≡ out
-      go (yes cap) = drawn-kept (length ks) ks m W out (decomposed cap) held
-      go (no over) = tiling-kept decomposed-as.Refused (λ n p. refl) m top out _ (decompose-is m top W out) call (omega arith)
+      go (yes cap) = drawn-kept (length ks) ks m W out (untiled cap) held
+      go (no over) = capped-kept m top out _ decomposed (omega arith)
 
   pub decompose-promise : r .refusal ≡ 0 → DecomposePromise m top W out r out′
   unfolding listed sized
   decompose-promise z =
-      let cap = capped z in
-      let I = within cap .0 z .1 in
-      let done = drawn-done (length ks) ks m W out (decomposed cap) z in
+      let a = decompose-answered .0 z in
+      let I = a .1 .1 in
+      let done = drawn-done (length ks) ks m W out (untiled (a .0)) z in
       let many : length ks ≡ length (listed m top W) = keys-length m top W ∙ sym (blocks-listed m top W) in
       record {
         blocks = listed m top W;
@@ -128,5 +125,6 @@ module _ (m top : ℕ) (W : Window) (out : List ℕ) {out′ : List ℕ} {r : An
       }
 
 -- with a tile as large as the picture the call answers and leaves what the one without a tile does
-pub decompose-untiled : (m : ℕ) (W : Window) (out : List ℕ) {out′ out″ : List ℕ} {r s : Answer} → DecomposeTiled m m W out r out′ → Decompose m W out s out″ → (r ≡ s) × (out′ ≡ out″)
+pub decompose-untiled : (m : ℕ) (W : Window) (out : List ℕ) {out′ out″ : List ℕ} {r s : Answer}
+    → DecomposeTiled m m W out r out′ → Decompose m W out s out″ → (r ≡ s) × (out′ ≡ out″)
 decompose-untiled m W out a b = call-one a b

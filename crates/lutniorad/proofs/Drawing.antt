@@ -8,7 +8,7 @@ use lib.ListN.{length}
 use Rattle.answers.specs.Refusals.{answer}
 use Rattle.answers.specs.Cells.{overwrite}
 use Rattle.answers.specs.After.{After, after}
-use Rattle.answers.proofs.Laws.{answer-part, on-passed}
+use Rattle.answers.proofs.Laws.{on-passed}
 use Rattle.window.specs.declared.Window.{Window}
 use Rattle.window.specs.Window.{Inside}
 use Rattle.window.specs.Drawn.{drawnRefusals, drawnFor}
@@ -18,12 +18,6 @@ use Rattle.lutniorad.specs.Numbers.{values, refused}
 use Rattle.lutniorad.specs.Calls.{Call}
 use Rattle.lutniorad.proofs.Crossing.{crossed}
 use Rattle.lutniorad.proofs.Told.{told-most, told-when}
-
--- what such an operation answers, in numbers: the first of refusals 1, 6 and 8, or what it says
-pub drawn-numbers : {A : Type 0} (say : A → Answer) (refuse : ℕ → ℕ → A) (done : A) (cells : List ℕ) (m : ℕ) (W : Window) (out : List ℕ)
-    → say (drawnFor refuse done cells m W out .answer) ≡ answer (λ n p. say (refuse n p)) (drawnRefusals m W (length cells) (length out)) (say done)
-drawn-numbers say refuse done cells m W out =
-    ap say (drawn-by-length refuse done cells m W out) ∙ answer-part say refuse (drawnRefusals m W (length cells) (length out)) done
 
 -- from the contract of such a call to one outcome in numbers
 pub drawn-crossed : {A : Type 0} (say : A → Answer) (refuse : ℕ → ℕ → A) (done : A) (cells : List ℕ) (m : ℕ) (W : Window) (out : List ℕ)

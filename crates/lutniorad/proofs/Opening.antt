@@ -4,13 +4,12 @@ use mathlib.Core.Path.{_≡_, refl, sym, ap, _∙_}
 use mathlib.Core.Logic.{_↔_}
 use mathlib.Core.List.{List, _++_}
 use Prim.Native.Nat.{ℕ, _+_, _*_, _/_, _^_, _≤_, _<_}
-use native.Mathlib.Decide.{decLe}
 use native.Mathlib.Omega.{arith}
 use lib.ListN.{length, take}
 use Rattle.answers.specs.Refusals.{answer}
 use Rattle.answers.specs.Sizes.{tileRefusals}
 use Rattle.answers.specs.Cells.{overwrite}
-use Rattle.answers.specs.After.{after, roomRefusals}
+use Rattle.answers.specs.After.{after, roomRefusals, tiledFor}
 use Rattle.answers.proofs.Laws.{take-overwrite}
 use Rattle.window.specs.declared.Window.{Window}
 use Rattle.map.proofs.Laws.{spaced}
@@ -20,76 +19,60 @@ use Rattle.border.proofs.Laws.{openings-in, cells-length, hands-count, hands-al
 use Rattle.used.specs.Used.{useRefusals, spent, usedFor}
 use Rattle.used.specs.Promises.{Answerable}
 use Rattle.open.specs.declared.Opened.the-variants.{Done, Refused}
-use Rattle.open.proofs.Laws.{open-is, open-within, openings-records}
+use Rattle.open.proofs.Laws.{open-is, openings-records}
 use Rattle.lutniorad.specs.declared.Answer.{Answer}
 use Rattle.lutniorad.specs.Numbers.{values, refused, ofOpened}
 use Rattle.lutniorad.specs.Calls.{Open, OpenTiled}
 use Rattle.lutniorad.specs.Promises.{RefusalLeaves, OpenPromise}
 use Rattle.lutniorad.proofs.Crossing.{call-one}
-use Rattle.lutniorad.proofs.Using.{used-numbers, used-crossed, used-numbered, used-answered, used-leaves, used-kept}
-use Rattle.lutniorad.proofs.Tiling.{tiling-says, tiling-cap, tiling-17, tiling-leaves}
+use Rattle.lutniorad.proofs.TiledUse.{tiled-use-crossed, tiled-says, tiled-numbered, tiled-17, tiled-answered, tiled-leaves, tiled-kept}
 
 module _ (m top : ℕ) (keys classes : List ℕ) (W : Window) (border out : List ℕ) {r : Answer} {border′ out′ : List ℕ}
     (call : OpenTiled m top keys classes W border out r border′ out′) where
   abbrev os : List Opening
   os = openings m top keys W
 
-  -- the first of refusals 1 and 17, and of 1 to 8, that holds, or the numbers of openings and records; of the two slices only the lengths count
+  -- the call in numbers
+  opened : after r (border′, out′)
+      ≡ tiledFor refused m top (border, out) (usedFor refused (values (length os) (handedCount os)) (cellsOf os) m keys (length classes) W border out)
+  opened =
+      let numbers = Done (length os) (handedCount os) in
+      tiled-use-crossed ofOpened Refused numbers (cellsOf os) m top keys (length classes) W border out (open-is m top keys (length classes) W border out) call
+
   pub open-says : r
       ≡ answer refused (tileRefusals m top ++ (useRefusals m keys (length classes) W (length border) ++ roomRefusals (length out) (length (cellsOf os))))
       (values (length os) (handedCount os))
-  open-says =
-      tiling-says Refused (λ n p. refl) m top (border, out) _ (open-is m top keys (length classes) W border out) call _ _
-      (used-numbers ofOpened Refused (Done (length os) (handedCount os)) (cellsOf os) m keys (length classes) W border out)
+  open-says = tiled-says (length os) (handedCount os) (cellsOf os) m top keys (length classes) W border out opened
 
-  capped : r .refusal ≡ 0 → top ≤ m
-  capped z =
-      tiling-cap Refused (λ n p. refl) m top (border, out) _ (open-is m top keys (length classes) W border out) call (λ e. omega (arith, e, z)) (λ e. omega (arith, e, z))
-
-  module _ (cap : top ≤ m) where
-    -- the call in numbers
-    opened : after r (border′, out′) ≡ usedFor refused (values (length os) (handedCount os)) (cellsOf os) m keys (length classes) W border out
-    opened =
-        let numbers = Done (length os) (handedCount os) in
-        used-crossed ofOpened Refused numbers (cellsOf os) m keys (length classes) W border out (open-within m top keys (length classes) W border out cap) call
-
-    -- when it is answered then
-    within : (r .refusal ≡ 0) ↔ (Answerable m keys (length classes) W (length border) × (3 * length os ≤ length out))
-    within = rw (← cells-length os) (used-answered (length os) (handedCount os) (cellsOf os) m keys (length classes) W border out opened)
-
-    module _ (A : Answerable m keys (length classes) W (length border)) where
-      -- it is with 12 (w + h) cells and three for each tile that there is room for
-      pub open-enough : 3 * (4 * (W .w + W .h) + W .w * W .h / 4 ^ top) ≤ length out → r .refusal ≡ 0
-      open-enough l = within .1 (A, omega (arith, openings-capped (spaced (A .sound .records)) (A .inside) cap))
-
-      -- without a tile, with 12 (w + h) cells
-      pub open-enough-whole : top ≡ m → 12 * (W .w + W .h) ≤ length out → r .refusal ≡ 0
-      open-enough-whole e l = within .1 (A, rw e (omega (arith, openings-few (spaced (A .sound .records)) (A .inside))))
-
-      -- and in any case with three cells for each record
-      pub open-enough-records : 3 * length keys ≤ length out → r .refusal ≡ 0
-      open-enough-records l = within .1 (A, omega (arith, openings-records (A .sound .records) (A .inside) cap))
-
-    pub open-numbered : r .refusal ≤ 8
-    open-numbered = used-numbered (length os) (handedCount os) (cellsOf os) m keys (length classes) W border out opened
-
-  -- answered exactly when the tile is no larger than the picture, the map sound, the window inside, and there is room in the border and for the openings
-  pub open-answered : (r .refusal ≡ 0) ↔ ((top ≤ m) × Answerable m keys (length classes) W (length border) × (3 * length os ≤ length out))
-  open-answered = (λ z. let t = within (capped z) .0 z in (capped z, t .0, t .1), λ t. within (t .0) .1 (t .1, t .2))
+  pub open-numbered : top ≤ m → r .refusal ≤ 8
+  open-numbered = tiled-numbered (length os) (handedCount os) (cellsOf os) m top keys (length classes) W border out opened
 
   pub open-17 : (r .refusal ≡ 17) ↔ ((m ≤ 12) × (m < top))
-  open-17 = tiling-17 Refused (λ n p. refl) m top (border, out) _ (open-is m top keys (length classes) W border out) call (λ cap. open-numbered cap)
+  open-17 = tiled-17 (length os) (handedCount os) (cellsOf os) m top keys (length classes) W border out opened
+
+  -- answered exactly when the tile is no larger than the picture, the map sound, the window inside, and there is room in the border and for the openings
+  pub open-answered : (r .refusal ≡ 0) ↔ ((top ≤ m) × (Answerable m keys (length classes) W (length border) × (3 * length os ≤ length out)))
+  open-answered = rw (← cells-length os) (tiled-answered (length os) (handedCount os) (cellsOf os) m top keys (length classes) W border out opened)
+
+  module _ (cap : top ≤ m) (A : Answerable m keys (length classes) W (length border)) where
+    -- as it is with 12 (w + h) cells and three for each tile that there is room for
+    pub open-enough : 3 * (4 * (W .w + W .h) + W .w * W .h / 4 ^ top) ≤ length out → r .refusal ≡ 0
+    open-enough l = open-answered .1 (cap, (A, omega (arith, openings-capped (spaced (A .sound .records)) (A .inside) cap)))
+
+    -- without a tile, with 12 (w + h) cells
+    pub open-enough-whole : top ≡ m → 12 * (W .w + W .h) ≤ length out → r .refusal ≡ 0
+    open-enough-whole e l = open-answered .1 (cap, (A, rw e (omega (arith, openings-few (spaced (A .sound .records)) (A .inside)))))
+
+    -- and in any case with three cells for each record
+    pub open-enough-records : 3 * length keys ≤ length out → r .refusal ≡ 0
+    open-enough-records l = open-answered .1 (cap, (A, omega (arith, openings-records (A .sound .records) (A .inside) cap)))
 
   pub open-kept : (r .refusal ≡ 0 → ⊥) → RefusalLeaves W border out r border′ out′
-  open-kept held = go (decLe top m)
-    where
-      go : Dec (top ≤ m) → RefusalLeaves W border out r border′ out′
-      go (yes cap) = used-kept (length os) (handedCount os) (cellsOf os) m keys (length classes) W border out (opened cap) held
-      go (no over) = tiling-leaves Refused (λ n p. refl) m top W border out _ (open-is m top keys (length classes) W border out) call (omega arith)
+  open-kept = tiled-kept (length os) (handedCount os) (cellsOf os) m top keys (length classes) W border out opened
 
   module _ (z : r .refusal ≡ 0) where
     left : (r ≡ values (length os) (handedCount os)) × (border′ ≡ spent W border) × (out′ ≡ overwrite (cellsOf os) out)
-    left = used-leaves (length os) (handedCount os) (cellsOf os) m keys (length classes) W border out (opened (capped z)) z
+    left = tiled-leaves (length os) (handedCount os) (cellsOf os) m top keys (length classes) W border out opened z
 
     stand : openingsIn (take (3 * r .first) out′) ≡ os
     stand =
@@ -98,8 +81,8 @@ module _ (m top : ℕ) (keys classes : List ℕ) (W : Window) (border out : List
 
     pub open-promise : OpenPromise m top keys W border out (openingsIn (take (3 * r .first) out′)) r border′ out′
     open-promise =
-        let cap = capped z in
-        let A = within cap .0 z .0 in
+        let cap = open-answered .0 z .0 in
+        let A = open-answered .0 z .1 .0 in
         let F = A .sound .records in
         rw stand (record {
           all = hands-all (spaced F) (A .inside) cap;

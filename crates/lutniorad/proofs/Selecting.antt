@@ -4,13 +4,12 @@ use mathlib.Core.Path.{_≡_, refl, ap}
 use mathlib.Core.Logic.{_↔_}
 use mathlib.Core.List.{List, _++_}
 use Prim.Native.Nat.{ℕ, _+_, _*_, _/_, _^_, _≤_, _<_}
-use native.Mathlib.Decide.{decLe}
 use native.Mathlib.Omega.{arith}
 use lib.ListN.{length, take}
 use Rattle.answers.specs.Refusals.{answer}
 use Rattle.answers.specs.Sizes.{tileRefusals}
 use Rattle.answers.specs.Cells.{overwrite}
-use Rattle.answers.specs.After.{after, roomRefusals}
+use Rattle.answers.specs.After.{after, roomRefusals, tiledFor}
 use Rattle.answers.proofs.Laws.{take-overwrite}
 use Rattle.window.specs.declared.Window.{Window}
 use Rattle.map.proofs.Laws.{spaced}
@@ -18,79 +17,62 @@ use Rattle.used.specs.Used.{useRefusals, spent, usedFor}
 use Rattle.used.specs.Promises.{Answerable}
 use Rattle.select.specs.declared.Selected.the-variants as selected-as
 use Rattle.select.specs.Select.{selection}
-use Rattle.select.proofs.Laws.{select-is, select-within, selection-pixels, selection-one, selection-once, selection-capped, selection-few}
+use Rattle.select.proofs.Laws.{select-is, selection-pixels, selection-one, selection-once, selection-capped, selection-few}
 use Rattle.lutniorad.specs.declared.Answer.{Answer}
 use Rattle.lutniorad.specs.Numbers.{values, refused, ofSelected}
 use Rattle.lutniorad.specs.Calls.{Select, SelectTiled}
 use Rattle.lutniorad.specs.Promises.{RefusalLeaves, SelectPromise}
 use Rattle.lutniorad.proofs.Crossing.{call-one}
-use Rattle.lutniorad.proofs.Using.{used-numbers, used-crossed, used-numbered, used-answered, used-leaves, used-kept}
-use Rattle.lutniorad.proofs.Tiling.{tiling-says, tiling-cap, tiling-17, tiling-leaves}
+use Rattle.lutniorad.proofs.TiledUse.{tiled-use-crossed, tiled-says, tiled-numbered, tiled-17, tiled-answered, tiled-leaves, tiled-kept}
 
 module _ (m top : ℕ) (keys classes : List ℕ) (W : Window) (class : ℕ) (border out : List ℕ) {r : Answer} {border′ out′ : List ℕ}
     (call : SelectTiled m top keys classes W class border out r border′ out′) where
   abbrev ks : List ℕ
   ks = selection m top keys classes W class
 
-  -- the first of refusals 1 and 17, and of 1 to 8, that holds, or the number of keys; of the two slices only the lengths count
+  -- the call in numbers
+  selects : after r (border′, out′) ≡ tiledFor refused m top (border, out) (usedFor refused (values (length ks) 0) ks m keys (length classes) W border out)
+  selects =
+      let numbers = selected-as.Done (length ks) in
+      tiled-use-crossed ofSelected selected-as.Refused numbers ks m top keys (length classes) W border out (select-is m top keys classes W class border out) call
+
   pub select-says : r
       ≡ answer refused (tileRefusals m top ++ (useRefusals m keys (length classes) W (length border) ++ roomRefusals (length out) (length ks))) (values (length ks) 0)
-  select-says =
-      tiling-says selected-as.Refused (λ n p. refl) m top (border, out) _ (select-is m top keys classes W class border out) call _ _
-      (used-numbers ofSelected selected-as.Refused (selected-as.Done (length ks)) ks m keys (length classes) W border out)
+  select-says = tiled-says (length ks) 0 ks m top keys (length classes) W border out selects
 
-  capped : r .refusal ≡ 0 → top ≤ m
-  capped z =
-      tiling-cap selected-as.Refused (λ n p. refl) m top (border, out) _ (select-is m top keys classes W class border out) call (λ e. omega (arith, e, z)) (λ e. omega (arith, e, z))
-
-  module _ (cap : top ≤ m) where
-    -- the call in numbers
-    selects : after r (border′, out′) ≡ usedFor refused (values (length ks) 0) ks m keys (length classes) W border out
-    selects =
-        let whole = select-within m top keys classes W class border out cap in
-        used-crossed ofSelected selected-as.Refused (selected-as.Done (length ks)) ks m keys (length classes) W border out whole call
-
-    -- when it is answered then
-    within : (r .refusal ≡ 0) ↔ (Answerable m keys (length classes) W (length border) × (length ks ≤ length out))
-    within = used-answered (length ks) 0 ks m keys (length classes) W border out selects
-
-    module _ (A : Answerable m keys (length classes) W (length border)) where
-      -- it is with Q + 4 (w + h) cells and one for each tile that there is room for
-      pub select-enough : length keys + 4 * (W .w + W .h) + W .w * W .h / 4 ^ top ≤ length out → r .refusal ≡ 0
-      select-enough l = within .1 (A, omega (arith, selection-capped (spaced (A .sound .records)) (A .inside) cap classes class))
-
-      -- without a tile, with Q + 4 (w + h) cells
-      pub select-enough-whole : top ≡ m → length keys + 4 * (W .w + W .h) ≤ length out → r .refusal ≡ 0
-      select-enough-whole e l = within .1 (A, rw e (omega (arith, selection-few (spaced (A .sound .records)) (A .inside) classes class)))
-
-    pub select-numbered : r .refusal ≤ 8
-    select-numbered = used-numbered (length ks) 0 ks m keys (length classes) W border out selects
-
-  -- answered exactly when the tile is no larger than the picture, the map sound, the window inside, and there is room in the border and for the keys
-  pub select-answered : (r .refusal ≡ 0) ↔ ((top ≤ m) × Answerable m keys (length classes) W (length border) × (length ks ≤ length out))
-  select-answered = (λ z. let t = within (capped z) .0 z in (capped z, t .0, t .1), λ t. within (t .0) .1 (t .1, t .2))
+  pub select-numbered : top ≤ m → r .refusal ≤ 8
+  select-numbered = tiled-numbered (length ks) 0 ks m top keys (length classes) W border out selects
 
   pub select-17 : (r .refusal ≡ 17) ↔ ((m ≤ 12) × (m < top))
-  select-17 = tiling-17 selected-as.Refused (λ n p. refl) m top (border, out) _ (select-is m top keys classes W class border out) call (λ cap. select-numbered cap)
+  select-17 = tiled-17 (length ks) 0 ks m top keys (length classes) W border out selects
+
+  -- answered exactly when the tile is no larger than the picture, the map sound, the window inside, and there is room in the border and for the keys
+  pub select-answered : (r .refusal ≡ 0) ↔ ((top ≤ m) × (Answerable m keys (length classes) W (length border) × (length ks ≤ length out)))
+  select-answered = tiled-answered (length ks) 0 ks m top keys (length classes) W border out selects
+
+  module _ (cap : top ≤ m) (A : Answerable m keys (length classes) W (length border)) where
+    -- as it is with Q + 4 (w + h) cells and one for each tile that there is room for
+    pub select-enough : length keys + 4 * (W .w + W .h) + W .w * W .h / 4 ^ top ≤ length out → r .refusal ≡ 0
+    select-enough l = select-answered .1 (cap, (A, omega (arith, selection-capped (spaced (A .sound .records)) (A .inside) cap classes class)))
+
+    -- without a tile, with Q + 4 (w + h) cells
+    pub select-enough-whole : top ≡ m → length keys + 4 * (W .w + W .h) ≤ length out → r .refusal ≡ 0
+    select-enough-whole e l = select-answered .1 (cap, (A, rw e (omega (arith, selection-few (spaced (A .sound .records)) (A .inside) classes class))))
 
   pub select-kept : (r .refusal ≡ 0 → ⊥) → RefusalLeaves W border out r border′ out′
-  select-kept held = go (decLe top m)
-    where
-      go : Dec (top ≤ m) → RefusalLeaves W border out r border′ out′
-      go (yes cap) = used-kept (length ks) 0 ks m keys (length classes) W border out (selects cap) held
-      go (no over) = tiling-leaves selected-as.Refused (λ n p. refl) m top W border out _ (select-is m top keys classes W class border out) call (omega arith)
+  select-kept = tiled-kept (length ks) 0 ks m top keys (length classes) W border out selects
 
   module _ (z : r .refusal ≡ 0) where
     left : (r ≡ values (length ks) 0) × (border′ ≡ spent W border) × (out′ ≡ overwrite ks out)
-    left = used-leaves (length ks) 0 ks m keys (length classes) W border out (selects (capped z)) z
+    left = tiled-leaves (length ks) 0 ks m top keys (length classes) W border out selects z
 
     stand : take (r .first) out′ ≡ ks
     stand = rw (ap (λ (x : Answer). x .first) (left .0), left .2) (take-overwrite ks out)
 
     pub select-promise : SelectPromise m top keys classes W class border out (take (r .first) out′) r border′ out′
     select-promise =
-        let cap = capped z in
-        let A = within cap .0 z .0 in
+        let cap = select-answered .0 z .0 in
+        let A = select-answered .0 z .1 .0 in
         let F = A .sound .records in
         rw stand (record {
           pixels = λ p v. selection-pixels F (A .inside) cap classes class v;

@@ -2,7 +2,7 @@
 -- Assumes nothing.
 use mathlib.Core.Path.{_≡_, refl, ap, _∙_}
 use mathlib.Core.Logic.{_↔_}
-use mathlib.Core.List.{List, [], _++_}
+use mathlib.Core.List.{List, _++_}
 use Prim.Native.Nat.{ℕ, _≤_, _<_}
 use native.Mathlib.Decide.{decLt}
 use native.Mathlib.Omega.{arith}
@@ -12,7 +12,7 @@ use Rattle.answers.specs.declared.Verdict.the-variants as verdict-of
 use Rattle.answers.specs.Refusals.{refusal, answer, verdict}
 use Rattle.answers.specs.Cells.{overwrite}
 use Rattle.answers.specs.After.{After, after, roomRefusals}
-use Rattle.answers.proofs.Laws.{answer-part, on-refused}
+use Rattle.answers.proofs.Laws.{on-refused}
 use Rattle.window.specs.declared.Window.{Window}
 use Rattle.used.specs.Used.{useRefusals, spent, usedFor}
 use Rattle.used.specs.Promises.{Answerable}
@@ -23,14 +23,6 @@ use Rattle.lutniorad.specs.Calls.{Call}
 use Rattle.lutniorad.specs.Promises.{RefusalLeaves}
 use Rattle.lutniorad.proofs.Crossing.{crossed}
 use Rattle.lutniorad.proofs.Told.{told-most, told-when}
-
--- what such an operation answers, in numbers: the first of refusals 1 to 8, or what it says
-pub used-numbers : {A : Type 0} (say : A → Answer) (refuse : ℕ → ℕ → A) (done : A) (cells : List ℕ) (m : ℕ) (keys : List ℕ) (classes : ℕ) (W : Window) (border out : List ℕ)
-    → say (usedFor refuse done cells m keys classes W border out .answer)
-    ≡ answer (λ n p. say (refuse n p)) (useRefusals m keys classes W (length border) ++ roomRefusals (length out) (length cells)) (say done)
-used-numbers say refuse done cells m keys classes W border out =
-    ap say (used-by-lengths refuse done cells m keys classes W border out)
-    ∙ answer-part say refuse (useRefusals m keys classes W (length border) ++ roomRefusals (length out) (length cells)) done
 
 -- from the contract of such a call to one outcome in numbers
 pub used-crossed : {A : Type 0} (say : A → Answer) (refuse : ℕ → ℕ → A) (done : A) (cells : List ℕ) (m : ℕ) (keys : List ℕ) (classes : ℕ) (W : Window) (border out : List ℕ)

@@ -51,7 +51,8 @@ selecting-last {m} {top} {keys} {classes} {W} {class} S g e =
 
 -- ---- one block on
 
-pub selecting-pixel : {m top : ℕ} {W : Window} → Inside m W → top ≤ m → {s : Px} {answer : Next} {r c i d : ℕ} → Goes W top s answer → answer ≡ Block r c i d → (i ≤ m) × Pixel m r c
+pub selecting-pixel : {m top : ℕ} {W : Window} → Inside m W → top ≤ m → {s : Px} {answer : Next} {r c i d : ℕ}
+    → Goes W top s answer → answer ≡ Block r c i d → (i ≤ m) × Pixel m r c
 selecting-pixel {top = top} {W} I small {s} {r = r} {c = c} {i = i} {d = d} g e =
     let on : Goes W top s (Block r c i d) = rw e at g in
     (omega (arith, goes-exponent on, exponent-le W top (r, c)), pixel-in I (goes-in on))
