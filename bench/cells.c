@@ -48,7 +48,7 @@ int64_t told_before(const char *operation, const char *on, const char *window)
     return -1;
 }
 
-static int64_t before(const cell *c, const char *where)
+int64_t cell_before(const cell *c, const char *where)
 {
     int64_t count = told_before(operation_names[c->operation], map_name(c), window_name(c));
     if (count < 0 && c->operation < ADD_FIRST)
@@ -123,7 +123,7 @@ cell measure_cell(int operation, const map *a, int map_number, int window_number
 {
     static result r;
     bool adds = operation >= ADD_FIRST;
-    cell c = {operation, map_number, window_number, a->q, 0, 0, 0, 0, 0, 0};
+    cell c = {operation, map_number, window_number, a->q, 0, 0, 0, 0, 0, 0, 0};
     rectangle at = make_window(a->m, window_number);
     char where[LONGEST_LINE], name[LONGEST_NAME];
     name_cell(&c, name);
@@ -142,7 +142,7 @@ cell measure_cell(int operation, const map *a, int map_number, int window_number
     }
     c.library = r.instructions;
     c.plain = measure_same(&plain, operation, a, at, &r, where);
-    c.before = before(&c, where);
+    c.before = cell_before(&c, where);
     if (adds)
         return c;
     c.fastest = measure_same(&fastest, operation, a, at, &r, where);

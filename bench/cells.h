@@ -4,17 +4,18 @@
 
 #include "measure.h"
 
-enum { MOST_CELLS = OPERATIONS * MAPS * WINDOWS };
+enum { MOST_CELLS = OPERATIONS * MAPS * BATCHES };
 
 /*
- * Instructions. Those past the check are 0 where a call checks no map or does nothing else. Of adding a map to a month
- * there are those of the library and of plain C, and those before only if the file has them; the others are 0.
+ * Instructions. Those past the check are 0 where a call checks no map or does nothing else, and of adding a map to a
+ * month. Of that and of many windows those of fastest C are 0, and those before too unless the file has them. Singles:
+ * what opening the same windows one by one takes; 0 but of many windows.
  */
 typedef struct {
     int operation, map, window;
     size_t records;
     int64_t library, plain, fastest, before;
-    int64_t past_library, past_plain;
+    int64_t past_library, past_plain, past_singles;
 } cell;
 
 /* Reads what each cell took before: a file with a line "operation | map | window | instructions" for each. In lines of
@@ -23,6 +24,9 @@ void read_before(const char *file);
 
 /* What such a line says; -1 where there is none. */
 int64_t told_before(const char *operation, const char *on, const char *window);
+
+/* The same of a cell; 0 where it is not told, as it need not be of a month or of many windows. */
+int64_t cell_before(const cell *c, const char *where);
 
 /* The map is that of the number. */
 cell measure_cell(int operation, const map *a, int map_number, int window_number);

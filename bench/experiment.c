@@ -14,31 +14,20 @@ static const struct {
 
 static double openings[RATIOS], blocks[RATIOS]; /* on average, for each ratio */
 
-static uint64_t random_state = 1;
-
-static uint32_t below(uint32_t n)
-{
-    random_state = random_state * 6364136223846793005u + 1442695040888963407u;
-    return (uint32_t)((random_state >> 33) % n);
-}
-
 /* A window of nearly that part of the picture, up to four times as long as broad, anywhere. */
-static rectangle random_window(uint32_t side, int i)
+static rectangle random_window(uint32_t m, int i)
 {
-    uint32_t root = (uint32_t)(ratios[i].side * side + .5), h = root / 2 + below(root / 2 * 3 + 1), w = root * root / h;
-    rectangle at = {0, 0, (uint16_t)h, (uint16_t)w};
-    at.r0 = (uint16_t)below(side - h + 1);
-    at.c0 = (uint16_t)below(side - w + 1);
-    return at;
+    static uint64_t state = 1;
+    uint32_t root = (uint32_t)(ratios[i].side * (1 << m) + .5), h = root / 2 + below(&state, root / 2 * 3 + 1);
+    return anywhere(m, h, root * root / h, &state);
 }
 
 static void try_windows(const map *a, int i)
 {
     static result r;
-    uint32_t side = (uint32_t)1 << a->m;
     openings[i] = blocks[i] = 0;
     for (int n = 0; n < TRIES; n++) {
-        rectangle at = random_window(side, i);
+        rectangle at = random_window(a->m, i);
         lutniorad_answer opened = call(&library, OPEN, a, at, &r), cut = call(&library, DECOMPOSE, a, at, &r);
         if (opened.refusal != 0 || cut.refusal != 0 || opened.first > cut.first)
             wrong("a window is refused, or has more openings than blocks", "experiment");

@@ -7,7 +7,7 @@ const char *const map_names[MAPS] = {
     "65,536 pixels", "65,536 squares", "lake", "64 large blocks", "one record", "strip",
 };
 
-const char *const window_names[WINDOWS] = {"tiny", "medium", "long", "whole"};
+const char *const window_names[BATCHES] = {"tiny", "medium", "long", "whole", "mixed"};
 
 /* ---- Windows ---- */
 
@@ -24,6 +24,21 @@ rectangle make_window(uint32_t m, int number)
     windows[LONG] = (rectangle){(uint16_t)(side / 2 - 7), 1, 14, (uint16_t)(side - 2)};
     windows[WHOLE] = (rectangle){1, 1, (uint16_t)(side - 2), (uint16_t)(side - 2)};
     return windows[number];
+}
+
+uint32_t below(uint64_t *state, uint32_t n)
+{
+    *state = *state * 6364136223846793005u + 1442695040888963407u;
+    return (uint32_t)((*state >> 33) % n);
+}
+
+rectangle anywhere(uint32_t m, uint32_t h, uint32_t w, uint64_t *state)
+{
+    uint32_t side = (uint32_t)1 << m;
+    rectangle at = {0, 0, (uint16_t)h, (uint16_t)w};
+    at.r0 = (uint16_t)below(state, side - h + 1);
+    at.c0 = (uint16_t)below(state, side - w + 1);
+    return at;
 }
 
 /* ---- Shapes: the class of a block, or CUT where it is cut in four ---- */

@@ -28,10 +28,16 @@ typedef struct {
     uint16_t r0, c0, h, w;
 } rectangle;
 
-enum { TINY, MEDIUM, LONG, WHOLE, WINDOWS };
-extern const char *const window_names[WINDOWS];
+enum { TINY, MEDIUM, LONG, WHOLE, WINDOWS, MIXED = WINDOWS /* of many, some of each */, BATCHES };
+extern const char *const window_names[BATCHES];
 
 rectangle make_window(uint32_t m, int number);
+
+/* A number below n. From the same state on there come the same numbers. */
+uint32_t below(uint64_t *state, uint32_t n);
+
+/* A window of h rows and w columns, anywhere. */
+rectangle anywhere(uint32_t m, uint32_t h, uint32_t w, uint64_t *state);
 
 /* Of rows or of columns: do the `side` from `from` on lie apart from the `count` from `start` on, or within them? */
 bool apart(int from, int side, int start, int count);

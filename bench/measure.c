@@ -12,23 +12,23 @@
 #include <unistd.h>
 
 const program library = {
-    "library",        lutniorad_check,  lutniorad_decompose, lutniorad_open,  lutniorad_exist,
-    lutniorad_report, lutniorad_select, lutniorad_read,      lutniorad_write, lutniorad_month_add,
+    "library",        lutniorad_check, lutniorad_decompose, lutniorad_open,      lutniorad_exist,   lutniorad_report,
+    lutniorad_select, lutniorad_read,  lutniorad_write,     lutniorad_month_add, lutniorad_windows,
 };
 const program plain = {
-    "plain C",    plain_check,  plain_decompose, plain_open,  plain_exist,
-    plain_report, plain_select, plain_read,      plain_write, plain_month_add,
+    "plain C",    plain_check, plain_decompose, plain_open,      plain_exist,   plain_report,
+    plain_select, plain_read,  plain_write,     plain_month_add, plain_windows,
 };
 const program fastest = {
-    "fastest C",    fastest_check,  fastest_decompose, fastest_open,  fastest_exist,
-    fastest_report, fastest_select, fastest_read,      fastest_write, NULL,
+    "fastest C",    fastest_check, fastest_decompose, fastest_open, fastest_exist, fastest_report,
+    fastest_select, fastest_read,  fastest_write,     NULL,         NULL,
 };
-const program growing = {"growing list", NULL, NULL, growing_open, NULL, NULL, NULL, NULL, NULL, NULL};
-const program every = {"every block", NULL, NULL, every_open, NULL, NULL, NULL, NULL, NULL, NULL};
+const program growing = {"growing list", NULL, NULL, growing_open, NULL, NULL, NULL, NULL, NULL, NULL, NULL};
+const program every = {"every block", NULL, NULL, every_open, NULL, NULL, NULL, NULL, NULL, NULL, NULL};
 
 const char *const operation_names[OPERATIONS] = {
-    "check",  "decompose", "open",  "exist",                "report",
-    "select", "read",      "write", "month_add, first map", "month_add, next map",
+    "check", "decompose", "open",                 "exist",               "report",  "select",
+    "read",  "write",     "month_add, first map", "month_add, next map", "windows",
 };
 
 bool takes_window(int operation)
@@ -104,31 +104,31 @@ static counted minus(counted x, counted y)
 }
 
 typedef struct {
-    tiled_call *f;
-    uint32_t tile;
+    direct_call *f;
+    uint32_t number;
     size_t room;
-} tiling;
+} direct;
 
 /*
  * The counts are read after the second mark, so that nothing but the call stands between the two. The anchor holds the
  * stack at a multiple of 64 bytes: what copying takes, from and to the stack, would else hang on the environment.
  * Inlined, so that with NOTHING the marks stand alone.
  */
-__attribute__((always_inline)) static inline counted marked(const program *p, int operation, const tiling *with,
+__attribute__((always_inline)) static inline counted marked(const program *p, int operation, const direct *with,
                                                             const map *a, rectangle at, result *r)
 {
     char anchor[64] __attribute__((aligned(64)));
     counted before;
     __asm__ volatile("" : : "r"(anchor) : "memory");
     syscall(MARK);
-    r->answer = with == NULL ? call(p, operation, a, at, r) : with->f(a, at, with->tile, with->room, r);
+    r->answer = with == NULL ? call(p, operation, a, at, r) : with->f(a, at, with->number, with->room, r);
     syscall(MARK);
     before = next_counts();
     return minus(next_counts(), before);
 }
 
-/* Inlined too, so that it is known whether there is a tile. */
-__attribute__((always_inline)) static inline void measure_either(const program *p, int operation, const tiling *with,
+/* Inlined too, so that it is known whether the call is made directly. */
+__attribute__((always_inline)) static inline void measure_either(const program *p, int operation, const direct *with,
                                                                  const map *a, rectangle at, result *r)
 {
     static counted around; /* the marks */
@@ -150,9 +150,9 @@ void measure(const program *p, int operation, const map *a, rectangle at, result
     measure_either(p, operation, NULL, a, at, r);
 }
 
-void measure_tiled(tiled_call *f, const map *a, rectangle at, uint32_t tile, size_t room, result *r)
+void measure_direct(direct_call *f, const map *a, rectangle at, uint32_t number, size_t room, result *r)
 {
-    tiling with = {f, tile, room};
+    direct with = {f, number, room};
     measure_either(&library, NOTHING, &with, a, at, r);
 }
 

@@ -17,11 +17,13 @@ typedef struct {
     read_function *read;
     write_function *write;
     month_add_function *month_add;
+    windows_function *windows;
 } program;
 
-extern const program library, plain, fastest, growing, every; /* fastest adds no map, and the last two only open */
+/* Fastest adds no map and takes no list of windows, and the last two only open. */
+extern const program library, plain, fastest, growing, every;
 
-enum { CHECK, DECOMPOSE, OPEN, EXIST, REPORT, SELECT, READ, WRITE, ADD_FIRST, ADD_NEXT, OPERATIONS, NOTHING };
+enum { CHECK, DECOMPOSE, OPEN, EXIST, REPORT, SELECT, READ, WRITE, ADD_FIRST, ADD_NEXT, MANY, OPERATIONS, NOTHING };
 extern const char *const operation_names[OPERATIONS];
 
 bool takes_window(int operation);
@@ -54,11 +56,14 @@ void begin_measuring(const char *counts);
  */
 void measure(const program *p, int operation, const map *a, rectangle at, result *r);
 
-/* A call of the library's with a tile and so many out cells, or beside that, without a tile. */
-typedef lutniorad_answer tiled_call(const map *a, rectangle at, uint32_t tile, size_t room, result *r);
+/*
+ * A call that is made directly, with a number and so many out cells. The number is the tile of a call that has one, or
+ * how many cells a list of windows has.
+ */
+typedef lutniorad_answer direct_call(const map *a, rectangle at, uint32_t number, size_t room, result *r);
 
 /* As measure, of such a call. */
-void measure_tiled(tiled_call *f, const map *a, rectangle at, uint32_t tile, size_t room, result *r);
+void measure_direct(direct_call *f, const map *a, rectangle at, uint32_t number, size_t room, result *r);
 
 bool same_answers(const result *x, const result *y);
 

@@ -1,6 +1,6 @@
 /* The library's algorithm in plain C: the operations. */
-#include "openings.h"
 #include "programs.h"
+#include "totals.h"
 
 /* ---- Check and decompose ---- */
 

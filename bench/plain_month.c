@@ -1,6 +1,6 @@
 /* The library's algorithm in plain C: adding a map to a month. */
-#include "openings.h"
 #include "programs.h"
+#include "totals.h"
 
 enum { MAPS_ADDED = 5, ROWS, MONTH_CELLS = ROWS + 4 * 256, MOST_MAPS = 1000 };
 

@@ -48,6 +48,13 @@ typedef lutniorad_answer month_add_function(uint32_t m,
                                             uint16_t *border, size_t n_border,
                                             uint64_t *table, size_t n_table);
 
+typedef lutniorad_answer windows_function(uint32_t m,
+                                          const uint32_t *keys, size_t n_keys,
+                                          const uint8_t *classes, size_t n_classes,
+                                          const uint16_t *windows, size_t n_windows,
+                                          uint16_t *border, size_t n_border,
+                                          uint32_t *out, size_t n_out);
+
 typedef lutniorad_answer read_function(const uint8_t *file, size_t n,
                                        uint32_t *keys, size_t n_keys,
                                        uint8_t *classes, size_t n_classes);
@@ -66,5 +73,6 @@ select_function plain_select, fastest_select;
 read_function plain_read, fastest_read;
 write_function plain_write, fastest_write;
 month_add_function plain_month_add;
+windows_function plain_windows;
 
 #endif

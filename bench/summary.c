@@ -144,6 +144,18 @@ static void print_want_of_adding(const cell *cells, int n, int operation)
     print_want(what, "thousands", MOST_BEYOND / 1e3, most / 1e3);
 }
 
+static void print_want_of_many(const cell *cells, int n)
+{
+    double most = 0;
+    for (const cell *c = cells; c < cells + n; c++)
+        if (c->operation == MANY) {
+            double times = (double)c->past_library / (double)c->past_singles;
+            if (times > most)
+                most = times;
+        }
+    print_want("windows, past the check: of opening", "times", MOST_OF_SINGLES, most);
+}
+
 void print_wanted(const cell *cells, int n)
 {
     static const struct {
@@ -157,7 +169,8 @@ void print_wanted(const cell *cells, int n)
     };
     printf("\nTotals that are wanted. Each record: the whole call by the number of records. Each further record: "
            "without what the call takes on a map of one. Beyond report: what adding a map takes beyond %.2f times "
-           "report of the same map and window, where that is most.\n\n"
+           "report of the same map and window, where that is most. Of opening: how many times what opening the windows "
+           "one by one takes past the check, where that is most.\n\n"
            "| wanted                                     | in           | at most |      is |         |\n"
            "| :----------------------------------------- | :----------- | ------: | ------: | :------ |\n",
            MOST_OF_REPORT);
@@ -168,4 +181,5 @@ void print_wanted(const cell *cells, int n)
                    (double)find_cell(cells, n, wants[i].operation, wants[i].map, WHOLE)->library / 1e6);
     for (int operation = ADD_FIRST; operation <= ADD_NEXT; operation++)
         print_want_of_adding(cells, n, operation);
+    print_want_of_many(cells, n);
 }

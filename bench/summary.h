@@ -10,6 +10,9 @@
 #define MOST_OF_BEFORE 1.02
 enum { FEW = 1000 };
 
+/* Many windows in one call: at most so many times what opening them one by one takes, past the check, on every map. */
+#define MOST_OF_SINGLES 1.05
+
 /* The ratios of each operation. */
 void print_summaries(const cell *cells, int n);
 

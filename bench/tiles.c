@@ -56,7 +56,7 @@ static lutniorad_answer select(const map *on, rectangle at, uint32_t tile, size_
 
 typedef struct {
     int operation;
-    tiled_call *with, *without;
+    direct_call *with, *without;
     uint32_t cells; /* that an opening or a key takes of out */
 } tiled;
 
@@ -84,8 +84,8 @@ static pair measure_whole_tile(const tiled *t, const cell *c)
     pair p = {c, 0, 0, 0};
     char name[LONGEST_NAME];
     name_cell(c, name);
-    measure_tiled(t->without, &a, at, a.m, ROOM, &without);
-    measure_tiled(t->with, &a, at, a.m, ROOM, &with);
+    measure_direct(t->without, &a, at, a.m, ROOM, &without);
+    measure_direct(t->with, &a, at, a.m, ROOM, &with);
     if (!same_answers(&with, &without))
         wrong("with tile = m there is another answer", name);
     p.with = with.instructions;
@@ -248,10 +248,10 @@ static void print_tiled(const tiled *t, int window)
 {
     static result twice;
     rectangle at = make_window(a.m, window);
-    measure_tiled(t->without, &a, at, TILE, ROOM, &without);
-    measure_tiled(t->with, &a, at, TILE, ROOM, &with);
+    measure_direct(t->without, &a, at, TILE, ROOM, &without);
+    measure_direct(t->with, &a, at, TILE, ROOM, &with);
     hold_tiled(t, at, window_names[window]);
-    measure_tiled(t->with, &a, at, TILE, with.answer.first * t->cells, &twice);
+    measure_direct(t->with, &a, at, TILE, with.answer.first * t->cells, &twice);
     if (!same_answers(&twice, &with))
         wrong("two passes give another answer than one", window_names[window]);
     printf("| %-9s | %-6s | %8" PRId64 " | %8" PRId64 " |", operation_names[t->operation], window_names[window],

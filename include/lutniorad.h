@@ -36,9 +36,9 @@
  * with a pixel in the window is handed out once, and no other is; and no choice of maximal blocks that meets all of
  * these records has fewer blocks than there are openings.
  *
- * The BORDER is lent for opening a window, for each question about its classes and for adding a map to a month: a
- * 16-bit cell for each column of the window. It holds how far down the column has been handed out. So in the end each
- * of the first w cells is r0 + h.
+ * The BORDER is lent for opening a window, or many, for each question about its classes and for adding a map to a
+ * month: a 16-bit cell for each column of the window. It holds how far down the column has been handed out. So in the
+ * end each of the first w cells is r0 + h; after many windows, by the last of them that reached the cell.
  *
  * A MONTH is a table of what maps of one m, added one after another, have in one window: 1,030 cells of 64 bits, which
  * the caller keeps from one call to the next.
@@ -94,7 +94,7 @@
  * WHAT A CALL COSTS. Each call that takes a map, but for lutniorad_write, checks the whole of it first, whatever was
  * checked before: some 21 instructions for each record, 1.4 million for the longest map, which take a fraction of a
  * millisecond. Behind that it goes by the records and blocks of the window and not by its pixels; but with tiles of one
- * pixel each of these is a block.
+ * pixel each of these is a block. lutniorad_windows checks the map once for up to 256 windows.
  *
  * CLASSES are numbers of the caller's own. Which of them is scum the library does not know; 255 alone has a meaning.
  *
@@ -108,9 +108,9 @@
 
 /* The version of this header and of the library that belongs to it, as numbers and as text. */
 #define LUTNIORAD_VERSION_MAJOR 1 /* rises when a program made for the last one may have to be changed */
-#define LUTNIORAD_VERSION_MINOR 1 /* rises when there are more calls */
+#define LUTNIORAD_VERSION_MINOR 2 /* rises when there are more calls */
 #define LUTNIORAD_VERSION_PATCH 0
-#define LUTNIORAD_VERSION "1.1.0"
+#define LUTNIORAD_VERSION "1.2.0"
 
 /* The limits. */
 #define LUTNIORAD_MOST_M 12
@@ -122,6 +122,7 @@
 #define LUTNIORAD_PROGRAM_FILE_BYTES 5020 /* of one that the window program takes */
 #define LUTNIORAD_MONTH_CELLS 1030        /* of a month's table */
 #define LUTNIORAD_MOST_MAPS 1000          /* in a month */
+#define LUTNIORAD_MOST_WINDOWS 256        /* in one call of lutniorad_windows */
 
 /*
  * Cells that are always enough, for a window of h rows and w columns and a map of q records. Where the arguments are
@@ -136,6 +137,7 @@
 #define LUTNIORAD_OPEN_TILED_CELLS(tile, h, w) (3 * LUTNIORAD_DECOMPOSE_TILED_CELLS(tile, h, w))
 #define LUTNIORAD_SELECT_TILED_CELLS(tile, q, h, w) ((size_t)(q) + LUTNIORAD_DECOMPOSE_TILED_CELLS(tile, h, w))
 #define LUTNIORAD_FILE_BYTES(q) (20 + 5 * (size_t)(q)) /* just so many */
+#define LUTNIORAD_WINDOWS_CELLS(windows) (5 * (size_t)(windows)) /* just so many, for so many windows */
 
 #ifdef __cplusplus
 extern "C" {
@@ -161,13 +163,14 @@ typedef struct {
     REFUSAL(LUTNIORAD_OVERLAP, 4, "a record starts before the last one ended") /* index, from 0 */ \
     REFUSAL(LUTNIORAD_GAP, 5, "a record starts after the last one ended, or the list ends early") /* index, or Q */ \
     REFUSAL(LUTNIORAD_BAD_WINDOW, 6, "the window is empty or not inside the picture") \
-    REFUSAL(LUTNIORAD_SHORT_BORDER, 7, "the border has fewer cells than the window has columns") /* w */ \
+    REFUSAL(LUTNIORAD_SHORT_BORDER, 7, "the border has fewer cells than the window has columns") /* w, the widest */ \
     REFUSAL(LUTNIORAD_SHORT_ROOM, 8, "a slice that would be written is too short") /* cells needed */ \
     REFUSAL(LUTNIORAD_BAD_LAYOUT, 9, "the layout of the file is wrong") /* offset of the header field */ \
     REFUSAL(LUTNIORAD_LEFT_OVER, 10, "bytes are left over behind the last window") /* how many */ \
     REFUSAL(LUTNIORAD_OTHER_M, 15, "the m of the map is not that of the table") \
     REFUSAL(LUTNIORAD_MONTH_FULL, 16, "the table has 1,000 maps already") \
     REFUSAL(LUTNIORAD_BAD_TILE, 17, "the tile is larger than the picture") \
+    REFUSAL(LUTNIORAD_BAD_WINDOW_LIST, 25, "the list of windows is not in fours, or has more than 256 windows") \
     REFUSAL(LUTNIORAD_BAD_TABLE, 26, "the table is no month's: its window, count of maps or a class cannot be")
 
 enum {
@@ -269,6 +272,36 @@ lutniorad_answer lutniorad_open_tiled(uint32_t m, uint32_t tile,
                                       uint16_t r0, uint16_t c0, uint16_t h, uint16_t w,
                                       uint16_t *border, size_t n_border,
                                       uint32_t *out, size_t n_out);
+
+/*
+ * Many windows on one map, which is checked once: how many openings, records and pixels has each of them?
+ *
+ * `windows` has four numbers for each window, r0, c0, h, w, one window after another. There are up to 256 of them, or
+ * none. Answers `first` = the number of windows, `second` = 0. The first 5 * `first` cells of `out` are then five for
+ * each window, in the order of the list:
+ *
+ *     0, 0, openings, records, pixels     for a window inside the picture: the numbers of openings and of records are
+ *                                         what lutniorad_open returns for it with room enough, and h * w follows
+ *     6, 0, 0, 0, 0                       for any other, which lutniorad_open would refuse by 6
+ *
+ * One border serves all. In the end each of its cells is r0 + h of the last window in the list that is inside the
+ * picture and wide enough to reach it; a cell that no such window reaches keeps its content. So where no window is
+ * inside, no border is needed. The classes' content does not matter.
+ *
+ * On the map of lutniorad_open's example, the windows 0 1 3 3, 2 0 3 1, 3 0 1 1 and a border of four cells 9 9 9 9 give
+ * `first` = 3, the cells 0 0 4 7 9, 6 0 0 0 0, 0 0 1 1 1, and the border 4 3 3 9.
+ *
+ * Refuses by 1; 2; then record by record 3, 4, 5, and 5 at Q, as lutniorad_check does; 25 when `n_windows` is no
+ * multiple of 4, or over 1,024; 7, with the width of the widest window inside the picture as place, when `border` is
+ * shorter than that; and 8, with five times the number of windows as place, when `out` is shorter than that. A refusal
+ * writes nothing, neither border nor out.
+ */
+lutniorad_answer lutniorad_windows(uint32_t m,
+                                   const uint32_t *keys, size_t n_keys,
+                                   const uint8_t *classes, size_t n_classes,
+                                   const uint16_t *windows, size_t n_windows,
+                                   uint16_t *border, size_t n_border,
+                                   uint32_t *out, size_t n_out);
 
 /* What lutniorad_exist answers. */
 enum {

@@ -10,6 +10,7 @@
  */
 #include "harness.h"
 #include "keys.h"
+#include "many.h"
 #include "maps.h"
 #include "months.h"
 #include "queries.h"
@@ -583,6 +584,14 @@ static const group groups[] = {
     {"refusals of tiles", group_tile_refusals, false},
     {"many tiles", group_many_tiles, false},
     {"random tiles", group_random_tiles, true},
+    {"lists of windows written out", group_lists_written_out, false},
+    {"lengths of lists", group_list_lengths, false},
+    {"small lists", group_small_lists, false},
+    {"refusals of lists", group_list_refusals, false},
+    {"lists on damaged maps", group_lists_on_damaged_maps, false},
+    {"vast lists", group_vast_lists, false},
+    {"large lists", group_large_lists, true},
+    {"random lists", group_random_lists, true},
 };
 
 int main(int argc, char **argv)

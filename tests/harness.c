@@ -66,17 +66,19 @@ typedef struct {
                                    uint16_t, uint16_t, uint16_t, uint16_t *, size_t, uint32_t *, size_t);
     lutniorad_answer (*select_tiled)(uint32_t, uint32_t, const uint32_t *, size_t, const uint8_t *, size_t, uint16_t,
                                      uint16_t, uint16_t, uint16_t, uint8_t, uint16_t *, size_t, uint32_t *, size_t);
+    lutniorad_answer (*windows)(uint32_t, const uint32_t *, size_t, const uint8_t *, size_t, const uint16_t *, size_t,
+                                uint16_t *, size_t, uint32_t *, size_t);
 } program;
 
 static const program library = {
-    lutniorad_check,           lutniorad_decompose,   lutniorad_open,         lutniorad_exist, lutniorad_report,
-    lutniorad_select,          lutniorad_month_clear, lutniorad_month_add,    lutniorad_read,  lutniorad_write,
-    lutniorad_decompose_tiled, lutniorad_open_tiled,  lutniorad_select_tiled,
+    lutniorad_check,           lutniorad_decompose,   lutniorad_open,         lutniorad_exist,   lutniorad_report,
+    lutniorad_select,          lutniorad_month_clear, lutniorad_month_add,    lutniorad_read,    lutniorad_write,
+    lutniorad_decompose_tiled, lutniorad_open_tiled,  lutniorad_select_tiled, lutniorad_windows,
 };
 static const program reference = {
-    reference_check,           reference_decompose,   reference_open,         reference_exist, reference_report,
-    reference_select,          reference_month_clear, reference_month_add,    reference_read,  reference_write,
-    reference_decompose_tiled, reference_open_tiled,  reference_select_tiled,
+    reference_check,           reference_decompose,   reference_open,         reference_exist,   reference_report,
+    reference_select,          reference_month_clear, reference_month_add,    reference_read,    reference_write,
+    reference_decompose_tiled, reference_open_tiled,  reference_select_tiled, reference_windows,
 };
 
 static lutniorad_answer run_check(const program *p, const call *c, const slice *s)
@@ -152,6 +154,12 @@ static lutniorad_answer run_select_tiled(const program *p, const call *c, const 
                            c->at.w, c->of_class, s[2].cells, s[2].length, s[3].cells, s[3].length);
 }
 
+static lutniorad_answer run_windows(const program *p, const call *c, const slice *s)
+{
+    return p->windows(c->m, s[0].cells, s[0].length, s[1].cells, s[1].length, s[2].cells, s[2].length, s[3].cells,
+                      s[3].length, s[4].cells, s[4].length);
+}
+
 typedef struct {
     const char *name;
     size_t cell; /* bytes in a cell */
@@ -189,10 +197,12 @@ const operation SELECT_TILED = {"select_tiled",
                                 M | TILE | WINDOW | CLASS,
                                 4,
                                 {{"keys", 4}, {"classes", 1}, {"border", 2}, {"out", 4}}};
+const operation WINDOWS = {
+    "windows", run_windows, M, 5, {{"keys", 4}, {"classes", 1}, {"windows", 2}, {"border", 2}, {"out", 4}}};
 
-static const operation *const operations[] = {&CHECK,           &DECOMPOSE,   &OPEN,        &EXIST, &REPORT,
-                                              &SELECT,          &MONTH_CLEAR, &MONTH_ADD,   &READ,  &WRITE,
-                                              &DECOMPOSE_TILED, &OPEN_TILED,  &SELECT_TILED};
+static const operation *const operations[] = {&CHECK,           &DECOMPOSE,   &OPEN,         &EXIST,  &REPORT,
+                                              &SELECT,          &MONTH_CLEAR, &MONTH_ADD,    &READ,   &WRITE,
+                                              &DECOMPOSE_TILED, &OPEN_TILED,  &SELECT_TILED, &WINDOWS};
 
 /* ---- Cases, and what is said when one fails ---- */
 

@@ -39,9 +39,9 @@ size_t near_length(size_t right);
 typedef struct operation operation;
 
 extern const operation CHECK, DECOMPOSE, OPEN, EXIST, REPORT, SELECT, MONTH_CLEAR, MONTH_ADD, READ, WRITE;
-extern const operation DECOMPOSE_TILED, OPEN_TILED, SELECT_TILED;
+extern const operation DECOMPOSE_TILED, OPEN_TILED, SELECT_TILED, WINDOWS;
 
-enum { MOST_SLICES = 4 };
+enum { MOST_SLICES = 5 };
 
 /*
  * A slice of a call before it is laid out. Garbage will stand in one without content, as most are that the call writes.

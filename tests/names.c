@@ -38,9 +38,10 @@ static void hold_answer(lutniorad_answer got, uint32_t refusal, uint32_t place, 
 enum { Q = 7, WIDTH = 3 };
 static uint32_t m, tile, keys[Q], totals[LUTNIORAD_CLASSES];
 static uint16_t r0, border[WIDTH];
+static const uint16_t list[] = {0, 1, 3, WIDTH, 3, 0, 1, 1};
 static uint8_t classes[Q], file[LUTNIORAD_FILE_BYTES(Q)];
 static uint64_t table[LUTNIORAD_MONTH_CELLS];
-static size_t n_keys, n_classes, n_border, n_totals;
+static size_t n_keys, n_classes, n_list, n_border, n_totals;
 
 static void begin(void)
 {
@@ -51,6 +52,7 @@ static void begin(void)
     memcpy(keys, some_keys, sizeof keys);
     memcpy(classes, some_classes, sizeof classes);
     n_keys = n_classes = Q;
+    n_list = COUNT(list);
     n_border = WIDTH;
     n_totals = LUTNIORAD_CLASSES;
     lutniorad_write(m, keys, Q, classes, Q, file, sizeof file);
@@ -66,6 +68,11 @@ static lutniorad_answer select_tiled(void)
 {
     return lutniorad_select_tiled(m, tile, keys, n_keys, classes, n_classes, r0, 1, 3, WIDTH, 1, border, n_border,
                                   totals, n_totals);
+}
+
+static lutniorad_answer many(void)
+{
+    return lutniorad_windows(m, keys, n_keys, classes, n_classes, list, n_list, border, n_border, totals, n_totals);
 }
 
 static lutniorad_answer read_file(void)
@@ -128,6 +135,11 @@ static void tile_beyond_picture(void)
     tile = m + 1;
 }
 
+static void list_cut_short(void)
+{
+    n_list = COUNT(list) - 1;
+}
+
 static void table_of_another_m(void)
 {
     lutniorad_month_clear(m + 1, r0, 1, 3, WIDTH, table, COUNT(table));
@@ -160,6 +172,7 @@ static const struct {
     {LUTNIORAD_OTHER_M, 0, table_of_another_m, add},
     {LUTNIORAD_MONTH_FULL, 0, full_table, add},
     {LUTNIORAD_BAD_TILE, 0, tile_beyond_picture, select_tiled},
+    {LUTNIORAD_BAD_WINDOW_LIST, 0, list_cut_short, many},
     {LUTNIORAD_BAD_TABLE, 0, sum_of_no_map, add},
 };
 
@@ -300,6 +313,29 @@ static uint32_t selected[LUTNIORAD_SELECT_CELLS(LUTNIORAD_MOST_RECORDS, SIDE, SI
 static uint32_t tiled_blocks[LUTNIORAD_DECOMPOSE_TILED_CELLS(TILE, SIDE, SIDE)];
 static uint32_t tiled_openings[LUTNIORAD_OPEN_TILED_CELLS(TILE, SIDE, SIDE)];
 static uint32_t tiled_selected[LUTNIORAD_SELECT_TILED_CELLS(TILE, LUTNIORAD_MOST_RECORDS, SIDE, SIDE)];
+static uint32_t counted[LUTNIORAD_WINDOWS_CELLS(LUTNIORAD_MOST_WINDOWS + 1)];
+static uint16_t whole[4 * (LUTNIORAD_MOST_WINDOWS + 1)];
+
+static lutniorad_answer windows(size_t n, size_t n_out)
+{
+    return lutniorad_windows(a.m, a.keys, a.q, a.classes, a.q, whole, 4 * n, wide, 1, counted, n_out);
+}
+
+/* The whole picture, up to as often as a list may have it, with just so much room and with less; and once more. */
+static void hold_windows(void)
+{
+    const uint32_t most = LUTNIORAD_MOST_WINDOWS;
+    make_even_map(&a, 0, 0, 1);
+    for (size_t i = 0; i < COUNT(whole); i++)
+        whole[i] = i % 4 < 2 ? 0 : 1;
+    for (uint32_t n = 0; n <= most; n++) {
+        const size_t cells = LUTNIORAD_WINDOWS_CELLS(n);
+        hold_answer(windows(n, cells), 0, 0, n, "LUTNIORAD_MOST_WINDOWS or LUTNIORAD_WINDOWS_CELLS");
+        if (n > 0)
+            hold_answer(windows(n, cells - 1), LUTNIORAD_SHORT_ROOM, (uint32_t)cells, 0, "LUTNIORAD_WINDOWS_CELLS");
+    }
+    hold_answer(windows(most + 1, COUNT(counted)), LUTNIORAD_BAD_WINDOW_LIST, 0, 0, "LUTNIORAD_MOST_WINDOWS");
+}
 
 static void hold_arguments(void)
 {
@@ -308,7 +344,8 @@ static void hold_arguments(void)
     hold(2 * LUTNIORAD_OPEN_CELLS(h++, w++) == 168, "LUTNIORAD_OPEN_CELLS", "of 3 and 4 it is not 84");
     hold(2 * LUTNIORAD_SELECT_CELLS(q++, h++, w++) == 74, "LUTNIORAD_SELECT_CELLS", "of 1, 4 and 5 it is not 37");
     hold(2 * LUTNIORAD_FILE_BYTES(q++) == 60, "LUTNIORAD_FILE_BYTES", "of 2 it is not 30");
-    hold(q == 3 && h == 5 && w == 6, "room", "an argument is not taken once");
+    hold(2 * LUTNIORAD_WINDOWS_CELLS(1 + q++) == 40, "LUTNIORAD_WINDOWS_CELLS", "of 4 it is not 20");
+    hold(q == 4 && h == 5 && w == 6, "room", "an argument is not taken once");
 }
 
 /* Those with a tile take h and w twice, and the others once. */
@@ -411,6 +448,7 @@ int main(void)
     hold_longest();
     hold_not_seen();
     hold_version();
+    hold_windows();
     hold_arguments();
     hold_arguments_with_tile();
     for (uint32_t of_m = 0; of_m <= 4; of_m++)

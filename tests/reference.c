@@ -474,6 +474,82 @@ lutniorad_answer reference_open(uint32_t m,
     return reference_open_tiled(m, m, keys, n_keys, classes, n_classes, r0, c0, h, w, border, n_border, out, n_out);
 }
 
+/* ---- Many windows ---- */
+
+enum { MOST_WINDOWS = 256, CELLS_OF_WINDOW = 5 };
+
+/* A list has four numbers for each window: r0, c0, h, w. */
+static window window_of_list(const uint16_t *windows, uint64_t i)
+{
+    window at = {windows[4 * i], windows[4 * i + 1], windows[4 * i + 2], windows[4 * i + 3]};
+    return at;
+}
+
+/* The width of the widest window inside the picture, or 0 where there is none. */
+static uint64_t widest_inside(const uint16_t *windows, uint64_t n, uint64_t side_of_all)
+{
+    uint64_t widest = 0;
+    for (uint64_t i = 0; i < n; i++) {
+        window at = window_of_list(windows, i);
+        if (is_inside(at, side_of_all))
+            widest = greater(widest, at.w);
+    }
+    return widest;
+}
+
+/* What stands in this cell of the border in the end: some window inside the picture is wide enough to reach it. */
+static uint64_t last_to_reach(uint64_t column, const uint16_t *windows, uint64_t n, uint64_t side_of_all)
+{
+    for (uint64_t i = n; i > 0; i--) {
+        window at = window_of_list(windows, i - 1);
+        if (is_inside(at, side_of_all) && at.w > column)
+            return (uint64_t)at.r0 + at.h;
+    }
+    abort();
+}
+
+/* The five cells of a window on a sound map of q records. */
+static void count_window(uint32_t m, const uint32_t *keys, uint64_t q, window at, uint32_t cells[CELLS_OF_WINDOW])
+{
+    static opening openings[MOST_BLOCKS];
+    for (uint64_t i = 0; i < CELLS_OF_WINDOW; i++)
+        cells[i] = 0;
+    if (!is_inside(at, side_of_picture(m))) {
+        cells[0] = 6;
+        return;
+    }
+    paint_records(m, keys, q, at);
+    uint64_t n = make_openings(m, m, q, at, openings);
+    cells[2] = (uint32_t)n;
+    for (uint64_t i = 0; i < n; i++)
+        cells[3] += (uint32_t)openings[i].count;
+    cells[4] = (uint32_t)at.h * at.w;
+}
+
+lutniorad_answer reference_windows(uint32_t m,
+                                   const uint32_t *keys, size_t n_keys,
+                                   const uint8_t *classes, size_t n_classes,
+                                   const uint16_t *windows, size_t n_windows,
+                                   uint16_t *border, size_t n_border,
+                                   uint32_t *out, size_t n_out)
+{
+    lutniorad_answer check = reference_check(m, keys, n_keys, classes, n_classes);
+    if (check.refusal != 0)
+        return check;
+    if (n_windows % 4 != 0 || n_windows > 4 * MOST_WINDOWS)
+        return refused(25, 0);
+    uint64_t n = n_windows / 4, side_of_all = side_of_picture(m), widest = widest_inside(windows, n, side_of_all);
+    if (n_border < widest)
+        return refused(7, widest);
+    if (n_out < CELLS_OF_WINDOW * n)
+        return refused(8, CELLS_OF_WINDOW * n);
+    for (uint64_t i = 0; i < n; i++)
+        count_window(m, keys, n_keys, window_of_list(windows, i), out + CELLS_OF_WINDOW * i);
+    for (uint64_t column = 0; column < widest; column++)
+        border[column] = (uint16_t)last_to_reach(column, windows, n, side_of_all);
+    return answered(n, 0);
+}
+
 /* ---- Queries ---- */
 
 /* The pixels of each class in the window at hand. */

@@ -42,6 +42,13 @@ lutniorad_answer reference_open_tiled(uint32_t m, uint32_t tile,
                                       uint16_t *border, size_t n_border,
                                       uint32_t *out, size_t n_out);
 
+lutniorad_answer reference_windows(uint32_t m,
+                                   const uint32_t *keys, size_t n_keys,
+                                   const uint8_t *classes, size_t n_classes,
+                                   const uint16_t *windows, size_t n_windows,
+                                   uint16_t *border, size_t n_border,
+                                   uint32_t *out, size_t n_out);
+
 lutniorad_answer reference_exist(uint32_t m,
                                  const uint32_t *keys, size_t n_keys,
                                  const uint8_t *classes, size_t n_classes,

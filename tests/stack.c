@@ -28,6 +28,7 @@ enum { MOST_BOUND = 20000 };
 enum { TILE = 4 };
 static even_map a;
 static window at;
+static uint16_t twice[8]; /* the window, as a list */
 static lutniorad_answer answer;
 
 static uint16_t border[LUTNIORAD_MOST_SIDE];
@@ -106,6 +107,12 @@ static void run_select_tiled(void)
                                     COUNT(border), out, COUNT(out));
 }
 
+static void run_windows(void)
+{
+    answer = lutniorad_windows(a.m, a.keys, a.q, a.classes, a.q, twice, COUNT(twice), border, COUNT(border), out,
+                               COUNT(out));
+}
+
 static const struct {
     const char *name;
     void (*run)(void);
@@ -123,6 +130,7 @@ static const struct {
     {"decompose_tiled", run_decompose_tiled},
     {"open_tiled", run_open_tiled},
     {"select_tiled", run_select_tiled},
+    {"windows", run_windows},
 };
 
 /* ---- The depths ---- */
@@ -169,6 +177,17 @@ static void begin_month(void)
     table[TABLE_W] = at.w;
 }
 
+/* A list of the window and of the same again. */
+static void begin_list(void)
+{
+    for (size_t i = 0; i < COUNT(twice); i += 4) {
+        twice[i] = at.r0;
+        twice[i + 1] = at.c0;
+        twice[i + 2] = at.h;
+        twice[i + 3] = at.w;
+    }
+}
+
 /* On the longest maps and on one record, a strip across the middle of the picture and all of it but its edge. */
 static bool hold_depth(size_t i, size_t most_of_first)
 {
@@ -180,6 +199,7 @@ static bool hold_depth(size_t i, size_t most_of_first)
         for (size_t k = 0; k < COUNT(windows); k++) {
             at = windows[k];
             begin_month();
+            begin_list();
             look(calls[i].run, &first, &next);
         }
     }

@@ -1,5 +1,6 @@
 #include "windows.h"
 
+#include "many.h"
 #include "months.h"
 #include "questions.h"
 
@@ -488,6 +489,7 @@ static void call_everything(void)
         try_month_and_tile(thin_window(sound.m, i));
     for (int i = 0; i < 2; i++)
         try_month_and_tile(random_window(sound.m, (size_t)1 << 16));
+    try_many(&sound);
 }
 
 void group_stack(void)

@@ -160,6 +160,41 @@ step 'tiles sees that the class is missing' example_says '' "$usage" 2 tiles sou
 step 'tiles sees that it cannot write' sees_failed_output tiles sound 2 0 0 4 2 1
 step 'tiles sees that it cannot write a refusal' sees_failed_output tiles short 2 0 0 4 2 1
 
+usage='usage: many FILE N, with a house file and N up to 16'
+grid='row 0, column 0, 2 by 2: openings 1, records 1, pixels 4
+row 0, column 2, 2 by 2: openings 1, records 4, pixels 4
+row 2, column 0, 2 by 2: openings 1, records 1, pixels 4
+row 2, column 2, 2 by 2: openings 1, records 1, pixels 4'
+of_pixel="row 0, column 0, 0 by 0: $bad_window
+row 0, column 0, 0 by 1: $bad_window
+row 0, column 0, 1 by 0: $bad_window
+row 0, column 0, 1 by 1: openings 1, records 1, pixels 1"
+
+# In as many windows as it is asked for, up to 16 by 16, which is all that a call takes.
+covers_lake() {
+    for along in 1 3 7 16; do
+        run many examples/lake.map "$along" >"$files/grid" || return 1
+        counted=$(awk '{ pixels += $NF } END { print NR, pixels }' "$files/grid")
+        [ "$counted" = "$((along * along)) 1024" ] && continue
+        echo "many examples/lake.map $along has lines and pixels: $counted"
+        return 1
+    done
+}
+
+step 'the example many is built' build many examples/many.c
+step 'many says each window of a grid' example_says "$grid" '' 0 many sound 2
+step 'many says which windows are refused' example_says "$of_pixel" '' 0 many pixel 2
+step 'many says nothing of no window' example_says '' '' 0 many sound 0
+step 'many has each pixel of the picture in one window' covers_lake
+step 'many refuses a file cut short' example_says "$bad_layout" '' 1 many short 2
+step 'many refuses an unsound map' example_says "$bad_key" '' 1 many unsound 2
+step 'many sees that a file is missing' example_says '' 'missing: cannot be opened' 2 many missing 2
+step 'many sees that there would be too many windows' example_says '' "$usage" 2 many sound 17
+step 'many sees that a number is none' example_says '' "$usage" 2 many sound -1
+step 'many sees that the number is missing' example_says '' "$usage" 2 many sound
+step 'many sees that it cannot write' sees_failed_output many sound 2
+step 'many sees that it cannot write a refusal' sees_failed_output many short 2
+
 house_file 5 1 3 3 1 1 1 2 >"$files/second"
 house_file 5 1 2 2 2 1 2 255 >"$files/third"
 one_record 12 1 >"$files/garbled"

@@ -10,7 +10,7 @@ use native.Mathlib.Numerals.{add-one}
 use native.Mathlib.Omega.{arith}
 use lib.Dec.{eqb, ltb}
 use lib.ListN.{length, take, drop, getD, set, length-append, length-drop}
-use lib.Seq.{getD-take, take-at, drop-at, set-at, drop-drop, drop-cons, drop-length, sets, sets-eq}
+use lib.Seq.{getD-take, getD-drop, take-at, drop-at, set-at, drop-drop, drop-cons, drop-length, sets, sets-eq}
 use borrow.Author.Tests.{ltb-false, eqb-false, eqb-true, lt-ltb, le-ltb, eq-eqb, ne-eqb, not-false}
 use Rattle.lists.proofs.Laws.{neither}
 use Rattle.answers.specs.declared.Verdict.the-variants.{Passed, Refused}
@@ -90,6 +90,11 @@ module _ (xs zs : List ℕ) where
       let e : length xs + (n - length xs) ≡ n = omega arith in
       subst (λ (k : ℕ). drop k (overwrite xs zs) ≡ drop k zs) e
       (sym (drop-drop (n - length xs) (length xs) (overwrite xs zs)) ∙ ap (drop (n - length xs)) drop-overwrite ∙ drop-drop (n - length xs) (length xs) zs)
+
+  pub overwrite-beyond : (i : ℕ) → length xs ≤ i → getD (overwrite xs zs) i 0 ≡ getD zs i 0
+  overwrite-beyond i l =
+      let z : i + 0 ≡ i = omega arith in
+      rw z at (sym (getD-drop i (overwrite xs zs) 0 0) ∙ ap (λ (t : List ℕ). getD t 0 0) (drop-beyond i l) ∙ getD-drop i zs 0 0)
 
   -- what is written behind an answer goes on with it
   pub overwrite-append : (ys : List ℕ) → take (length xs) (overwrite xs zs) ++ overwrite ys (drop (length xs) (overwrite xs zs)) ≡ overwrite (xs ++ ys) zs

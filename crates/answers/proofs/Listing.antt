@@ -1,14 +1,15 @@
 -- Numbers that are written one behind another, those for which there is room.
 -- Assumes nothing.
 use mathlib.Core.Path.{_≡_, refl, sym, ap, _∙_}
-use mathlib.Core.List.{List, [], _∷_, _++_, append-assoc, append-nil}
+use mathlib.Core.List.{List, [], _∷_, _++_}
 use Prim.Native.Nat.{ℕ, suc, _+_, _≤_}
 use native.Mathlib.Decide.{decLt}
 use native.Mathlib.Omega.{arith}
 use lib.ListN.{length, set, length-append, length-set}
+use lib.Seq.{sets}
 use borrow.Author.Tests.{lt-ltb, le-ltb}
 use Rattle.answers.specs.Cells.{overwrite, put, listed, Listed}
-use Rattle.answers.proofs.Filling.{Filling, filling-first, filling-cell}
+use Rattle.answers.proofs.Cells.{overwrite-sets}
 
 -- ---- one number
 
@@ -40,15 +41,11 @@ unfolding listed
 listed-append n [] xs′ out = let e : n + 0 ≡ n = omega arith in rw e
 listed-append n (x ∷ xs) xs′ out = let e : n + suc (length xs) ≡ suc n + length xs = omega arith in rw e (listed-append (suc n) xs xs′ (put n x out))
 
--- with room for all, they are the first cells
-listed-filling : (xs : List ℕ) {part out₀ out : List ℕ} (n : ℕ) → Filling part out₀ out → length part ≡ n → n + length xs ≤ length out₀
-    → Filling (part ++ xs) out₀ (listed n xs out)
+-- with room for all, each is stored
+listed-sets : (n : ℕ) (xs out : List ℕ) → n + length xs ≤ length out → listed n xs out ≡ sets out n xs
 unfolding listed
-listed-filling [] {part} n f e l = rw (append-nil part) f
-listed-filling (x ∷ xs) {part} {out₀} {out} n f e l =
-    let there : put n x out ≡ set out n x = put-there n x out (omega (arith, f .same)) in
-    let next : Filling (part ++ (x ∷ [])) out₀ (put n x out) = rw there (filling-cell f n e x (omega arith)) in
-    rw (append-assoc part (x ∷ []) xs) at (listed-filling xs (suc n) next (simp length-append (omega (arith, e))) (omega arith))
+listed-sets n [] out l = refl
+listed-sets n (x ∷ xs) out l = rw (put-there n x out (omega arith)) (listed-sets (suc n) xs (set out n x) (omega (arith, length-set out n x)))
 
 -- ---- as a function says that it has listed them
 
@@ -79,4 +76,4 @@ listed-nothing {out′ = []} L out = refl
 listed-nothing {out′ = y ∷ out′} L out = absurd (omega (arith, listed-same L))
 
 pub listed-all : {xs out out′ : List ℕ} {k : ℕ} → Listed 0 xs out k out′ → length xs ≤ length out → out′ ≡ overwrite xs out
-listed-all {xs} {out} L l = L .cells ∙ listed-filling xs 0 (filling-first out) refl (omega arith) .is
+listed-all {xs} {out} L l = L .cells ∙ listed-sets 0 xs out (omega arith) ∙ overwrite-sets xs out l

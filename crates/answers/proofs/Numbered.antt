@@ -1,6 +1,6 @@
 -- Refusals have numbers from 1 on, so the number 0 tells an answer that is no refusal.
 -- Assumes nothing.
-use mathlib.Core.Path.{_≡_, refl}
+use mathlib.Core.Path.{_≡_, refl, sym}
 use mathlib.Core.Logic.{_↔_}
 use mathlib.Core.Bool.{Bool, true, false, cond}
 use mathlib.Core.List.{List, [], _∷_, _++_}
@@ -36,6 +36,16 @@ module _ {most : ℕ} where
   pub numbered-room : (room needed : ℕ) → 8 ≤ most → Numbered most (roomRefusals room needed)
   unfolding roomRefusals
   numbered-room room needed h = numbered-next 8 (omega arith) h none
+
+-- a refusal that such a table gives has one of these numbers
+pub refused-most : {most : ℕ} {rs : List Refusal} → Numbered most rs → {n p : ℕ} → verdict rs ≡ Refused n p → n ≤ most
+unfolding answer
+refused-most none e = absurd (refused-not-passed (sym e))
+refused-most {most} (more {r} {rs} l h N) {n} {p} e = go (r .holds) e (refused-most N)
+  where
+    go : (t : Bool) → cond t (Refused (r .number) (r .place)) (verdict rs) ≡ Refused n p → (verdict rs ≡ Refused n p → n ≤ most) → n ≤ most
+    go true d ih = let same : r .number ≡ n = cc in omega (arith, h, same)
+    go false d ih = ih d
 
 -- an outcome tells by its number whether it is a refusal
 module _ {A : Type 0} (refuse : ℕ → ℕ → A) (number : A → ℕ) (tells : (n p : ℕ) → number (refuse n p) ≡ n) {most : ℕ} where

@@ -1,11 +1,12 @@
 -- The least and the greatest number of a list: each is one of them, none is less or greater, and what they become with one number more. By induction over the list.
 -- Assumes nothing.
-use mathlib.Core.Path.{_≡_, refl}
+use mathlib.Core.Path.{_≡_, refl, _∙_}
 use mathlib.Core.List.{List, [], _∷_, _++_, List·Memᴰ, List·Memᴰ·head, List·Memᴰ·tail, List·Memᴰ·not-nil}
 use Prim.Native.Nat.{ℕ, min, max, _≤_, _<_}
 use native.Mathlib.Decide.{decLt}
 use native.Mathlib.Omega.{arith}
-use Rattle.lists.specs.Promises.{leastOf, greatestOf}
+use Rattle.lists.specs.Promises.{leastOf}
+use Rattle.lists.specs.Lists.{greatestOf}
 
 -- ---- least
 
@@ -44,6 +45,10 @@ pub greatest-none : greatestOf [] ≡ 0
 unfolding greatestOf
 greatest-none = refl
 
+pub greatest-next : (n : ℕ) (ns : List ℕ) → greatestOf (n ∷ ns) ≡ max n (greatestOf ns)
+unfolding greatestOf
+greatest-next n ns = refl
+
 pub greatest-in : (n : ℕ) (ns : List ℕ) → List·Memᴰ (greatestOf (n ∷ ns)) (n ∷ ns)
 unfolding greatestOf
 greatest-in n [] = let e : max n 0 ≡ n = omega arith in List·Memᴰ·head e
@@ -59,7 +64,11 @@ greatest-all [] x l = absurd (List·Memᴰ·not-nil l)
 greatest-all (n ∷ ns) x (List·Memᴰ·head e) = omega (arith, e)
 greatest-all (n ∷ ns) x (List·Memᴰ·tail l) = omega (arith, greatest-all ns x l)
 
+pub greatest-append : (ns ks : List ℕ) → greatestOf (ns ++ ks) ≡ max (greatestOf ns) (greatestOf ks)
+unfolding greatestOf
+greatest-append [] ks = omega arith
+greatest-append (n ∷ ns) ks = omega (arith, greatest-append ns ks)
+
 pub greatest-behind : (ns : List ℕ) (x : ℕ) → greatestOf (ns ++ x ∷ []) ≡ max (greatestOf ns) x
 unfolding greatestOf
-greatest-behind [] x = omega arith
-greatest-behind (n ∷ ns) x = omega (arith, greatest-behind ns x)
+greatest-behind ns x = greatest-append ns (x ∷ []) ∙ omega arith

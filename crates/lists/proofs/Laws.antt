@@ -8,7 +8,7 @@ pub use Rattle.lists.proofs.Kept.{keep-empty, keep-taken, keep-passed, 
 pub use Rattle.lists.proofs.Kept.{keep-map, keep-most, keep-append, keep-none, keep-all, keep-same, keep-run}
 pub use Rattle.lists.proofs.Any.{any-none, any-next, any-has, has-any, any-append, getD-in}
 pub use Rattle.lists.proofs.Counts.{sum-none, sum-next, sum-append, many-empty, many-next, many-same, many-none, many-all, many-most, many-some, many-append, each-once}
-pub use Rattle.lists.proofs.Extremes.{least-in, least-all, least-none, least-first, least-behind, greatest-in, greatest-all, greatest-none, greatest-behind}
+pub use Rattle.lists.proofs.Extremes.{least-in, least-all, least-none, least-first, least-behind, greatest-in, greatest-all, greatest-none, greatest-next, greatest-append, greatest-behind}
 pub use Rattle.lists.proofs.Stretches.{Stretch, stretch-of, stretch-begins, stretch-counts, before-none}
 pub use Rattle.lists.proofs.Greatest.{greatest-le, greatest-holds, greatest-over}
 pub use Rattle.lists.proofs.Multiples.{down-le, down-lt, down-eq, down-zero, down-nested, down-up}

@@ -1,7 +1,7 @@
 -- The words in which promises about numbers of a list are said.
 -- Assumes nothing.
 use mathlib.Core.List.{List, [], _∷_}
-use Prim.Native.Nat.{ℕ, min, max, _+_}
+use Prim.Native.Nat.{ℕ, min, _+_}
 
 -- numbers, added up
 unfoldable pub sum : List ℕ → ℕ
@@ -13,8 +13,3 @@ unfoldable pub leastOf : List ℕ → ℕ
 leastOf [] = 0
 leastOf (n ∷ []) = n
 leastOf (n ∷ k ∷ ns) = min n (leastOf (k ∷ ns))
-
--- the greatest
-unfoldable pub greatestOf : List ℕ → ℕ
-greatestOf [] = 0
-greatestOf (n ∷ ns) = max n (greatestOf ns)

@@ -12,7 +12,7 @@ use Rattle.answers.specs.declared.Verdict.the-variants as verdict-of
 use Rattle.answers.specs.Refusals.{refusal, answer, verdict}
 use Rattle.answers.specs.Cells.{overwrite}
 use Rattle.answers.specs.After.{After, after, roomRefusals}
-use Rattle.answers.proofs.Laws.{on-refused}
+use Rattle.answers.proofs.Laws.{refused-most}
 use Rattle.window.specs.declared.Window.{Window}
 use Rattle.used.specs.Used.{useRefusals, spent, usedFor}
 use Rattle.used.specs.Promises.{Answerable}
@@ -57,11 +57,6 @@ module _ (first second : ℕ) (cells : List ℕ) (m : ℕ) (keys : List ℕ) (cl
   pub used-kept : (r .refusal ≡ 0 → ⊥) → RefusalLeaves W border out r border′ out′
   used-kept held = go (verdict (useRefusals m keys classes W (length border))) refl
     where
-      small : {n p : ℕ} → verdict (useRefusals m keys classes W (length border)) ≡ verdict-of.Refused n p → n ≤ 7
-      small e =
-          rw (ap (λ (x : Answer). x .refusal) (on-refused refused (useRefusals m keys classes W (length border)) (values 0 0) e))
-          at (told-most {most = 7} (values 0 0) refl (numbered-use m keys classes W (length border) (omega arith)) refl)
-
       room : verdict (useRefusals m keys classes W (length border)) ≡ verdict-of.Passed → Dec (length out < length cells)
           → RefusalLeaves W border out r border′ out′
       room e (yes l) =
@@ -81,6 +76,6 @@ module _ (first second : ℕ) (cells : List ℕ) (m : ℕ) (keys : List ℕ) (cl
           let number : r .refusal ≡ n = ap (λ (x : After Answer (List ℕ × List ℕ)). x .answer .refusal) d in
           record {
             out-kept = ap (λ (x : After Answer (List ℕ × List ℕ)). x .lent .1) d;
-            border-spent = λ h. absurd (omega (arith, small e, number, h));
+            border-spent = λ h. absurd (omega (arith, refused-most (numbered-use m keys classes W (length border) {most = 7} (omega arith)) e, number, h));
             border-kept = λ h. ap (λ (x : After Answer (List ℕ × List ℕ)). x .lent .0) d;
           }

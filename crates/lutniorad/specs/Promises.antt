@@ -14,7 +14,7 @@ use Rattle.key.specs.Picture.{place, Px}
 use Rattle.key.specs.Key.{blockKey}
 use Rattle.key.specs.Form.{formOf}
 use Rattle.window.specs.declared.Window.{Window}
-use Rattle.window.specs.Window.{In}
+use Rattle.window.specs.Window.{In, Inside}
 use Rattle.window.specs.Promises.{Maximal, Before}
 use Rattle.map.specs.Spans.{holds}
 use Rattle.map.specs.Records.{pixelRecord}
@@ -22,6 +22,8 @@ use Rattle.map.specs.Classes.{notSeen}
 use Rattle.border.specs.Openings.{Opening, openings, cellsOf, allHands}
 use Rattle.border.specs.Promises.{Overlaps, HandedOut, Apart, Enough}
 use Rattle.used.specs.Used.{spent}
+use Rattle.many.specs.Many.{windowAt, windowsIn}
+use Rattle.many.specs.Promises.{LeftIn}
 use Rattle.house.specs.File.{fileOf, fileM, fileQ, fileKeys, fileClasses}
 use Rattle.totals.specs.Totals.{total}
 use Rattle.select.specs.Select.{selection}
@@ -30,7 +32,7 @@ use Rattle.month.specs.Month.{mIn, windowIn, mapsIn}
 use Rattle.month.specs.Promises.{Map, monthOf, Sane}
 use Rattle.lutniorad.specs.declared.Answer.{Answer}
 use Rattle.lutniorad.specs.Numbers.{values}
-use Rattle.lutniorad.specs.Calls.{MonthClear, MonthAdd}
+use Rattle.lutniorad.specs.Calls.{Open, Report, MonthClear, MonthAdd}
 
 -- what opening, report or select leaves where it is refused: the answer slice as it was, and the border too, but that 8 leaves it as an answered call does. Other calls leave all
 -- lent cells as they were
@@ -73,6 +75,35 @@ pub record OpenPromise (m top : ℕ) (keys : List ℕ) (W : Window) (border out 
   -- cells beyond keep their content, and the first w border cells hold r0 + h
   pub cells : out′ ≡ overwrite (cellsOf os) out
   pub border-after : border′ ≡ spent W border
+
+-- a call on a window had room enough: it is refused neither for its border nor for its slice
+abbrev pub Roomy : Answer → Type 0
+Roomy r = (r .refusal ≡ 7 → ⊥) × (r .refusal ≡ 8 → ⊥)
+
+-- many windows, of which window i has five cells from 5i on
+pub record WindowsPromise (m : ℕ) (keys classes windows border out : List ℕ) (r : Answer) (border′ out′ : List ℕ) : Type 0 where
+  -- `first` is their number
+  pub number : r ≡ values (length (windowsIn windows)) 0
+  pub fours : length windows ≡ 4 * r .first
+  -- the first four cells are what opening that window returns, called with any slices that have room enough
+  pub opened : (i : ℕ) → i < r .first → (b o : List ℕ) {s : Answer} {b′ o′ : List ℕ} → Open m keys classes (windowAt windows i) b o s b′ o′ → Roomy s
+      → take 4 (drop (5 * i) out′) ≡ s .refusal ∷ s .place ∷ s .first ∷ s .second ∷ []
+  -- the fifth is the number of pixels that report returns, called so
+  pub reported : (i : ℕ) → i < r .first → (b o : List ℕ) {s : Answer} {b′ o′ : List ℕ} → Report m keys classes (windowAt windows i) b o s b′ o′ → Roomy s
+      → getD out′ (5 * i + 4) 0 ≡ s .first
+  -- a window that does not lie inside the picture is refused alone
+  pub refused-alone : (i : ℕ) → i < r .first → ¬ Inside m (windowAt windows i) → take 5 (drop (5 * i) out′) ≡ 6 ∷ 0 ∷ 0 ∷ 0 ∷ 0 ∷ []
+  -- cells beyond keep their content
+  pub beyond : drop (5 * r .first) out′ ≡ drop (5 * r .first) out
+  -- each border cell is what the last window left there that lies inside the picture and reaches it, or what was there
+  pub border-after : (j : ℕ) → LeftIn m (windowsIn windows) border j (getD border′ j 0)
+  pub border-long : length border′ ≡ length border
+
+-- a list of windows and its two parts, called one after the other with one border: the lines of the whole are those of the parts, and the border is the same
+pub record WindowsJoined (r : Answer) (border out : List ℕ) (r₁ : Answer) (one : List ℕ) (r₂ : Answer) (border₂ two : List ℕ) : Type 0 where
+  pub numbers : r .first ≡ r₁ .first + r₂ .first
+  pub lines : take (5 * r .first) out ≡ take (5 * r₁ .first) one ++ take (5 * r₂ .first) two
+  pub border-after : border ≡ border₂
 
 -- the class of a pixel is that of its record
 abbrev pub classAt : ℕ → List ℕ → List ℕ → Px → ℕ

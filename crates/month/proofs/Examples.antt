@@ -6,8 +6,8 @@ use mathlib.Core.List.{List, [], _∷_, _++_}
 use Prim.Native.Nat.{ℕ}
 use lib.ListN.{take, replicate}
 use Rattle.lists.specs.Promises as numbers
-use Rattle.lists.specs.Promises.{leastOf, greatestOf}
-use Rattle.lists.specs.Lists.{upFrom, any, before, howMany}
+use Rattle.lists.specs.Promises.{leastOf}
+use Rattle.lists.specs.Lists.{upFrom, greatestOf, any, before, howMany}
 use Rattle.answers.specs.declared.Verdict.the-variants as verdict-of
 use Rattle.answers.specs.Refusals.{answer, verdict}
 use Rattle.answers.specs.Sizes.{wrongCount, sizeRefusals, pictureRefusals, countRefusals}

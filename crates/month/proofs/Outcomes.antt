@@ -12,7 +12,7 @@ use borrow.Author.Tests.{eqb-true, eqb-false}
 use Rattle.answers.specs.declared.Verdict.{Verdict}
 use Rattle.answers.specs.declared.Verdict.the-variants.{Passed, Refused}
 use Rattle.answers.specs.Refusals.{Refusal, verdict}
-use Rattle.answers.proofs.Laws.{number-most, refused-not-passed}
+use Rattle.answers.proofs.Laws.{refused-most, refused-not-passed}
 use Rattle.map.specs.Check.{mapRefusals}
 use Rattle.map.specs.Sound.{SoundMap}
 use Rattle.map.proofs.Laws.{sound-map, numbered-map}
@@ -27,10 +27,6 @@ pub data Outcome (m : ℕ) (keys : List ℕ) (classes border : ℕ) (table : Lis
   full : SoundMap m keys classes → mIn table ≡ m → mapsIn table ≡ 1000 → Outcome m keys classes border table (Refused 16 0)
   narrow : {p : ℕ} → mapsIn table < 1000 → Outcome m keys classes border table (Refused 7 p)
   taken : mapsIn table < 1000 → Outcome m keys classes border table Passed
-
-numberOf : Verdict → ℕ
-numberOf Passed = 0
-numberOf (Refused n p) = n
 
 module _ (m : ℕ) (keys : List ℕ) (classes border : ℕ) (table : List ℕ) (long : 1030 ≤ length table) (s : Sane (mIn table) table) where
   abbrev vs : List Refusal
@@ -66,12 +62,10 @@ module _ (m : ℕ) (keys : List ℕ) (classes border : ℕ) (table : List ℕ) (
         rw (add-unfit m keys classes border table e (table-other m table long differs)) (other differs)
 
   pub outcome : Outcome m keys classes border table (verdict (addRefusals m keys classes border table))
-  unfolding numberOf
   outcome = go (verdict (mapRefusals m keys classes)) refl
     where
-      small : {n p : ℕ} → verdict (mapRefusals m keys classes) ≡ Refused n p → n ≤ 5
-      small e = rw e at (number-most Refused numberOf (λ n p. refl) {a = Passed} (numbered-map {most = 5} (omega arith) m keys classes) refl)
-
       go : (v : Verdict) → verdict (mapRefusals m keys classes) ≡ v → Outcome m keys classes border table (verdict vs)
       go Passed e = by-size e (eqb (mIn table) m) refl
-      go (Refused n p) e = rw (add-unsound m keys classes border table e) (unsound (small e) (λ S. refused-not-passed (sym e ∙ sound-map m keys classes .1 S)))
+      go (Refused n p) e =
+          let small = refused-most (numbered-map {most = 5} (omega arith) m keys classes) e in
+          rw (add-unsound m keys classes border table e) (unsound small (λ S. refused-not-passed (sym e ∙ sound-map m keys classes .1 S)))

@@ -89,19 +89,19 @@ module _ (m : ℕ) (keys : List ℕ) (classes border : ℕ) (table : List ℕ) w
     add-unfit d = append-passed Refused (mapRefusals m keys classes) _ _ e ∙ append-refused Refused (tableRefusals m table) _ _ d
 
     module _ (d : verdict (tableRefusals m table) ≡ Passed) where
-      fit : verdict (addRefusals m keys classes border table) ≡ verdict (borderRefusals (windowIn table) border)
+      fit : verdict (addRefusals m keys classes border table) ≡ verdict (borderRefusals (windowIn table .w) border)
       unfolding addRefusals
       fit = append-passed Refused (mapRefusals m keys classes) _ _ e ∙ append-passed Refused (tableRefusals m table) _ _ d
 
       pub add-narrow : border < windowIn table .w → verdict (addRefusals m keys classes border table) ≡ Refused 7 (windowIn table .w)
-      add-narrow l = fit ∙ border-refused (windowIn table) border l
+      add-narrow l = fit ∙ border-refused (windowIn table .w) border l
 
       pub add-passes : windowIn table .w ≤ border → verdict (addRefusals m keys classes border table) ≡ Passed
-      add-passes l = fit ∙ border-passed (windowIn table) border .1 l
+      add-passes l = fit ∙ border-passed (windowIn table .w) border .1 l
 
   pub numbered-add : Numbered 26 (addRefusals m keys classes border table)
   unfolding addRefusals
-  numbered-add = numbered-append (numbered-map (omega arith) m keys classes) (numbered-append (numbered-table m table) (numbered-border (windowIn table) border (omega arith)))
+  numbered-add = numbered-append (numbered-map (omega arith) m keys classes) (numbered-append (numbered-table m table) (numbered-border (windowIn table .w) border (omega arith)))
 
   -- they pass exactly what can be added
   pub add-addable : (verdict (addRefusals m keys classes border table) ≡ Passed) ↔ Addable m keys classes border table
@@ -112,7 +112,7 @@ module _ (m : ℕ) (keys : List ℕ) (classes border : ℕ) (table : List ℕ) w
       to e =
           let a = passed-append (mapRefusals m keys classes) _ .0 e in
           let b = passed-append (tableRefusals m table) _ .0 (a .1) in
-          record { sound = sound-map m keys classes .0 (a .0); ongoing = table-passed m table (b .0); wide = border-passed (windowIn table) border .0 (b .1) }
+          record { sound = sound-map m keys classes .0 (a .0); ongoing = table-passed m table (b .0); wide = border-passed (windowIn table .w) border .0 (b .1) }
 
       from : Addable m keys classes border table → verdict (addRefusals m keys classes border table) ≡ Passed
       from A =

@@ -69,7 +69,7 @@ tableRefusals m table =
 
 -- the refusals of adding: those of the map, of the table, and of the border, by the table's window
 unfoldable pub addRefusals : ℕ → List ℕ → ℕ → ℕ → List ℕ → List Refusal
-addRefusals m keys classes border table = mapRefusals m keys classes ++ (tableRefusals m table ++ borderRefusals (windowIn table) border)
+addRefusals m keys classes border table = mapRefusals m keys classes ++ (tableRefusals m table ++ borderRefusals (windowIn table .w) border)
 
 -- adding: how many maps there are now; the border spent and the table with the map. A refusal leaves both as they were
 unfoldable pub addOf : ℕ → List ℕ → List ℕ → List ℕ → List ℕ → After Added (List ℕ × List ℕ)

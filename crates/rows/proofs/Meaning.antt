@@ -10,8 +10,7 @@ use lib.Dec.{eqb, ltb}
 use lib.ListN.{length}
 use borrow.Author.Tests.{eq-eqb, ne-eqb, le-ltb, lt-ltb}
 use Rattle.lists.specs.Promises as numbers
-use Rattle.lists.specs.Promises.{greatestOf}
-use Rattle.lists.specs.Lists.{howMany}
+use Rattle.lists.specs.Lists.{greatestOf, howMany}
 use Rattle.lists.proofs.Laws.{sum-none, sum-next, sum-append, many-empty, many-next, many-append, least-none, least-first, least-behind, greatest-none, greatest-behind}
 use Rattle.rows.specs.Rows.{Row, row, withMap}
 use Rattle.rows.specs.Promises.{rowOf}

@@ -5,6 +5,7 @@ use mathlib.Core.Bool.{Bool, true, false, cond}
 use mathlib.Core.List.{List, [], _∷_, _++_, map, map-append, append-assoc, append-nil}
 use Prim.Native.Nat.{ℕ, zero, suc, _+_, _*_, _≤_, _<_}
 use native.Mathlib.Nat.{zero-add, add-zero}
+use native.Mathlib.Numerals.{unary-clauses}
 use native.Mathlib.Omega.{arith}
 use lib.Dec.{eqb}
 use lib.ListN.{length, getD, take, drop, replicate, length-append, length-map}
@@ -12,7 +13,7 @@ use lib.Seq.{length-take-le}
 use Rattle.lists.specs.Lists.{upFrom}
 use Rattle.lists.proofs.Laws.{up-none, up-next, up-one, up-append, up-length}
 use Rattle.answers.specs.Cells.{overwrite}
-use Rattle.answers.proofs.Laws.{Filling, filling-front, filling-beyond, filling-cell}
+use Rattle.answers.proofs.Laws.{Filling, filling-front, filling-beyond, filling-sets}
 use Rattle.rows.specs.Rows.{Row, row, rowCells, rowIn, withMap}
 use Rattle.rows.specs.Growing.{putRow, grown, growRows}
 
@@ -75,13 +76,7 @@ module _ {part table₀ table : List ℕ} (f : Filling part table₀ table) (cla
 
   row-put : (x : Row) → 10 + 4 * class ≤ length table₀ → Filling (part ++ rowCells (x ∷ [])) table₀ (putRow class x table)
   unfolding putRow rowCells
-  row-put x l =
-      let at : ℕ = 6 + 4 * class in
-      let one = filling-cell f at e (x .least) (omega arith) in
-      let two = filling-cell one (at + 1) (simp length-append (omega (arith, e))) (x .greatest) (omega arith) in
-      let three = filling-cell two (at + 2) (simp length-append (omega (arith, e))) (x .sum) (omega arith) in
-      let four = filling-cell three (at + 3) (simp length-append (omega (arith, e))) (x .maps) (omega arith) in
-      rw (append-assoc, append-assoc, append-assoc) at four
+  row-put x l = simp unary-clauses (filling-sets f (6 + 4 * class) e (rowCells (x ∷ [])) (omega arith))
 
 -- ---- the loop
 

@@ -4,8 +4,8 @@ use mathlib.Core.List.{List}
 use Prim.Native.Nat.{ℕ}
 use lib.Dec.{ltb}
 use Rattle.lists.specs.Promises as numbers
-use Rattle.lists.specs.Promises.{leastOf, greatestOf}
-use Rattle.lists.specs.Lists.{howMany}
+use Rattle.lists.specs.Promises.{leastOf}
+use Rattle.lists.specs.Lists.{greatestOf, howMany}
 use Rattle.rows.specs.Rows.{Row, row}
 
 -- the row of a class, from the numbers of its pixels, map by map

@@ -1,6 +1,6 @@
 -- Refusals 1 to 7, test by test; which calls they pass, and what is known of those.
 -- Assumes nothing.
-use mathlib.Core.Path.{_≡_, _∙_}
+use mathlib.Core.Path.{_≡_, ap, _∙_}
 use mathlib.Core.Logic.{_↔_}
 use mathlib.Core.Bool.{true, false}
 use mathlib.Core.List.{List, []}
@@ -10,8 +10,8 @@ use lib.Dec.{ltb}
 use lib.ListN.{length}
 use borrow.Author.Tests.{lt-ltb, le-ltb, ltb-false}
 use Rattle.answers.specs.declared.Verdict.the-variants as verdict-of
-use Rattle.answers.specs.Refusals.{verdict}
-use Rattle.answers.proofs.Laws.{refusal-held, append-passed, append-refused, passed-one, passed-append, Numbered, none, numbered-next, numbered-append}
+use Rattle.answers.specs.Refusals.{answer, verdict}
+use Rattle.answers.proofs.Laws.{refusal-held, answer-append, append-passed, append-refused, passed-one, passed-append, Numbered, none, numbered-next, numbered-append}
 use Rattle.window.specs.declared.Window.{Window}
 use Rattle.window.specs.Window.{outside, windowRefusals}
 use Rattle.window.proofs.Laws.{window-refused, window-passed, window-inside, numbered-window}
@@ -21,16 +21,16 @@ use Rattle.map.proofs.Laws.{sound-map, spaced, numbered-map}
 use Rattle.used.specs.Used.{Usable, borderRefusals, useRefusals}
 use Rattle.used.specs.Promises.{Answerable}
 
-module _ (W : Window) (cells : ℕ) where
-  pub border-passed : (verdict (borderRefusals W cells) ≡ verdict-of.Passed) ↔ (W .w ≤ cells)
+module _ (w cells : ℕ) where
+  pub border-passed : (verdict (borderRefusals w cells) ≡ verdict-of.Passed) ↔ (w ≤ cells)
   unfolding borderRefusals
-  border-passed = let seven = passed-one (ltb cells (W .w)) 7 (W .w) in (λ e. ltb-false cells (W .w) (seven .0 e), λ l. seven .1 (le-ltb cells (W .w) l))
+  border-passed = let seven = passed-one (ltb cells w) 7 w in (λ e. ltb-false cells w (seven .0 e), λ l. seven .1 (le-ltb cells w l))
 
-  pub border-refused : cells < W .w → verdict (borderRefusals W cells) ≡ verdict-of.Refused 7 (W .w)
+  pub border-refused : cells < w → verdict (borderRefusals w cells) ≡ verdict-of.Refused 7 w
   unfolding borderRefusals
-  border-refused l = refusal-held verdict-of.Refused 7 (W .w) [] _ (lt-ltb cells (W .w) l)
+  border-refused l = refusal-held verdict-of.Refused 7 w [] _ (lt-ltb cells w l)
 
-  pub numbered-border : {most : ℕ} → 7 ≤ most → Numbered most (borderRefusals W cells)
+  pub numbered-border : {most : ℕ} → 7 ≤ most → Numbered most (borderRefusals w cells)
   unfolding borderRefusals
   numbered-border h = numbered-next 7 (omega arith) h none
 
@@ -45,15 +45,23 @@ module _ (m : ℕ) (keys : List ℕ) (classes : ℕ) (W : Window) (cells : ℕ) 
     use-outside o = append-passed verdict-of.Refused (mapRefusals m keys classes) _ _ e ∙ append-refused verdict-of.Refused (windowRefusals m W) _ _ (window-refused m W o)
 
     module _ (o : outside m W ≡ false) where
-      behind : verdict (useRefusals m keys classes W cells) ≡ verdict (borderRefusals W cells)
+      behind : verdict (useRefusals m keys classes W cells) ≡ verdict (borderRefusals (W .w) cells)
       unfolding useRefusals
       behind = append-passed verdict-of.Refused (mapRefusals m keys classes) _ _ e ∙ append-passed verdict-of.Refused (windowRefusals m W) _ _ (window-passed m W o)
 
       pub use-narrow : cells < W .w → verdict (useRefusals m keys classes W cells) ≡ verdict-of.Refused 7 (W .w)
-      use-narrow l = behind ∙ border-refused W cells l
+      use-narrow l = behind ∙ border-refused (W .w) cells l
 
       pub use-passed : W .w ≤ cells → verdict (useRefusals m keys classes W cells) ≡ verdict-of.Passed
-      use-passed l = behind ∙ border-passed W cells .1 l
+      use-passed l = behind ∙ border-passed (W .w) cells .1 l
+
+  -- one table after the other
+  pub use-parts : {A : Type 0} (refuse : ℕ → ℕ → A) (a : A) → answer refuse (useRefusals m keys classes W cells) a
+      ≡ answer refuse (mapRefusals m keys classes) (answer refuse (windowRefusals m W) (answer refuse (borderRefusals (W .w) cells) a))
+  unfolding useRefusals
+  use-parts refuse a =
+      answer-append refuse (mapRefusals m keys classes) _ a
+      ∙ ap (answer refuse (mapRefusals m keys classes)) (answer-append refuse (windowRefusals m W) (borderRefusals (W .w) cells) a)
 
   -- they pass exactly a sound map, a window inside and a border of at least w cells
   pub use-answerable : (verdict (useRefusals m keys classes W cells) ≡ verdict-of.Passed) ↔ Answerable m keys classes W cells
@@ -67,17 +75,17 @@ module _ (m : ℕ) (keys : List ℕ) (classes : ℕ) (W : Window) (cells : ℕ) 
           record {
             sound = sound-map m keys classes .0 (a .0);
             inside = window-inside m W .0 (b .0);
-            wide = border-passed W cells .0 (b .1);
+            wide = border-passed (W .w) cells .0 (b .1);
           }
 
       from : Answerable m keys classes W cells → verdict (useRefusals m keys classes W cells) ≡ verdict-of.Passed
       from A =
-          let behind-map = passed-append (windowRefusals m W) _ .1 (window-inside m W .1 (A .inside), border-passed W cells .1 (A .wide)) in
+          let behind-map = passed-append (windowRefusals m W) _ .1 (window-inside m W .1 (A .inside), border-passed (W .w) cells .1 (A .wide)) in
           passed-append (mapRefusals m keys classes) _ .1 (sound-map m keys classes .1 (A .sound), behind-map)
 
   pub numbered-use : {most : ℕ} → 7 ≤ most → Numbered most (useRefusals m keys classes W cells)
   unfolding useRefusals
-  numbered-use h = numbered-append (numbered-map (omega arith) m keys classes) (numbered-append (numbered-window m W (omega arith)) (numbered-border W cells h))
+  numbered-use h = numbered-append (numbered-map (omega arith) m keys classes) (numbered-append (numbered-window m W (omega arith)) (numbered-border (W .w) cells h))
 
   -- what a call may take for granted behind them
   module _ (e : verdict (useRefusals m keys classes W cells) ≡ verdict-of.Passed) where

@@ -1,0 +1,8 @@
+mod Windows
+mod Lines
+mod Border
+mod Tables
+mod Outcome
+mod Loops
+mod Examples
+pub mod Laws
