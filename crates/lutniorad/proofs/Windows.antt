@@ -118,6 +118,6 @@ module _ (m : ℕ) (keys classes windows border out : List ℕ) {r : Answer} {bo
           ∙ report-line m keys classes (windowAt windows i) (A .sound) b o single R;
       refused-alone = λ i l apart. line-at i l ∙ ap lineCells (line-refused m keys (windowAt windows i) apart);
       beyond = rw (whole, cells) (drop-overwrite (linesOf m keys Ws) out);
-      border-after = λ j. rw windows-border (left-cell m Ws border j);
+      border-after = λ j x. rw windows-border (left-cell m Ws border j x);
       border-long = ap length windows-border ∙ left-length m Ws border (widest-wider m Ws (length border) .1 (A .wide));
     }

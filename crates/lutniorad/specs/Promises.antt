@@ -95,8 +95,8 @@ pub record WindowsPromise (m : ℕ) (keys classes windows border out : List ℕ)
   pub refused-alone : (i : ℕ) → i < r .first → ¬ Inside m (windowAt windows i) → take 5 (drop (5 * i) out′) ≡ 6 ∷ 0 ∷ 0 ∷ 0 ∷ 0 ∷ []
   -- cells beyond keep their content
   pub beyond : drop (5 * r .first) out′ ≡ drop (5 * r .first) out
-  -- each border cell is what the last window left there that lies inside the picture and reaches it, or what was there
-  pub border-after : (j : ℕ) → LeftIn m (windowsIn windows) border j (getD border′ j 0)
+  -- in each border cell stands x exactly when it is what the last window left there that lies inside the picture and reaches it, or where there is none what was there
+  pub border-after : (j x : ℕ) → (getD border′ j 0 ≡ x) ↔ LeftIn m (windowsIn windows) border j x
   pub border-long : length border′ ≡ length border
 
 -- a list of windows and its two parts, called one after the other with one border: the lines of the whole are those of the parts, and the border is the same

@@ -4,7 +4,7 @@ use mathlib.Core.Path.{_≡_, refl, sym, ap, _∙_}
 use mathlib.Core.Logic.{_↔_}
 use mathlib.Core.Bool.{Bool, true, false, cond}
 use mathlib.Core.List.{List, [], _∷_, _++_, map, map-append, List·Memᴰ, List·Memᴰ·head, List·Memᴰ·tail, List·Memᴰ·not-nil, Memᴰ·map}
-use Prim.Native.Nat.{ℕ, max, _≤_, _<_}
+use Prim.Native.Nat.{ℕ, max, _+_, _≤_, _<_}
 use native.Mathlib.Decide.{decLt}
 use native.Mathlib.Omega.{arith}
 use lib.ListN.{length, getD}
@@ -49,20 +49,24 @@ module _ (m : ℕ) where
   unfolding widest
   widest-all Ws W l = greatest-all (map (columns m) Ws) (columns m W) (Memᴰ·map (columns m) l)
 
+  none-next : (W : Window) (Ws : List Window) (cells : ℕ) → (Inside m W → W .w ≤ cells) → NoneWider m Ws cells → NoneWider m (W ∷ Ws) cells
+  none-next W Ws cells first none X (List·Memᴰ·head e) = rw e first
+  none-next W Ws cells first none X (List·Memᴰ·tail l) = none X l
+
+  columns-most : (W : Window) (cells : ℕ) → (columns m W ≤ cells) ↔ (Inside m W → W .w ≤ cells)
+  columns-most W cells = (λ l I. omega (arith, l, columns-inside W (not-outside m W I)), λ h. go h (outside m W) refl)
+    where
+      go : (Inside m W → W .w ≤ cells) → (b : Bool) → outside m W ≡ b → columns m W ≤ cells
+      go h true e = omega (arith, columns-outside W e)
+      go h false e = omega (arith, columns-inside W e, h (inside m W e))
+
   -- so many cells are enough exactly when none that 6 lets pass is wider
   pub widest-wider : (Ws : List Window) (cells : ℕ) → (widest m Ws ≤ cells) ↔ NoneWider m Ws cells
-  widest-wider Ws cells = (λ h W l I. omega (arith, h, widest-all Ws W l, columns-inside W (not-outside m W I)), below Ws)
+  widest-wider Ws cells = (λ h W l. columns-most W cells .0 (omega (arith, h, widest-all Ws W l)), below Ws)
     where
-      one : (W : Window) → (Inside m W → W .w ≤ cells) → columns m W ≤ cells
-      one W h = go (outside m W) refl
-        where
-          go : (b : Bool) → outside m W ≡ b → columns m W ≤ cells
-          go true e = omega (arith, columns-outside W e)
-          go false e = omega (arith, columns-inside W e, h (inside m W e))
-
       below : (Xs : List Window) → NoneWider m Xs cells → widest m Xs ≤ cells
       below [] h = omega (arith, widest-none)
-      below (X ∷ Xs) h = omega (arith, widest-next X Xs, one X (h X (List·Memᴰ·head refl)), below Xs (λ W l. h W (List·Memᴰ·tail l)))
+      below (X ∷ Xs) h = omega (arith, widest-next X Xs, columns-most X cells .1 (h X (List·Memᴰ·head refl)), below Xs (λ W l. h W (List·Memᴰ·tail l)))
 
   -- ---- what stands in them
 
@@ -104,25 +108,42 @@ module _ (m : ℕ) where
       let same = passed-length W border (omega (arith, l, n)) in
       ap length (left-next W Ws border) ∙ left-length Ws (passedBy W border) (omega (arith, l, n, same)) ∙ same
 
-  -- in each cell, what the last window leaves there that reaches it
-  pub left-cell : (Ws : List Window) (border : List ℕ) (j : ℕ) → LeftIn m Ws border j (getD (leftBy m Ws border) j 0)
-  left-cell [] border j = rw left-none (kept (λ W l. absurd (List·Memᴰ·not-nil l)) refl)
-  left-cell (W ∷ Ws) border j = rw (left-next W Ws border) (go (left-cell Ws (passedBy W border) j))
+  -- a cell that no window reaches stays as it was
+  left-kept : (Ws : List Window) (border : List ℕ) (j : ℕ) → NoneWider m Ws j → getD (leftBy m Ws border) j 0 ≡ getD border j 0
+  left-kept [] border j none = rw left-none
+  left-kept (W ∷ Ws) border j none =
+      rw (left-next W Ws border) (left-kept Ws (passedBy W border) j (λ X l. none X (List·Memᴰ·tail l)) ∙ go (outside m W) refl)
     where
-      -- where it is reached by none of the others, by whether it is reached by the first
+      go : (b : Bool) → outside m W ≡ b → getD (passedBy W border) j 0 ≡ getD border j 0
+      go true e = rw e
+      go false e = rw e (spent-past W border j (none W (List·Memᴰ·head refl) (inside m W e)))
+
+  -- and otherwise the last that reaches it leaves its row there
+  left-last : (Ws : List Window) (W : Window) (Xs : List Window) (border : List ℕ) (j : ℕ) → Inside m W → j < W .w → NoneWider m Xs j
+      → getD (leftBy m (Ws ++ W ∷ Xs) border) j 0 ≡ W .r0 + W .h
+  left-last Ws W Xs border j I l none =
+      let behind : leftBy m (Ws ++ W ∷ Xs) border ≡ leftBy m Xs (spent W (leftBy m Ws border)) =
+      left-append Ws (W ∷ Xs) border ∙ left-next W Xs (leftBy m Ws border) ∙ rw (not-outside m W I) in
+      rw behind (left-kept Xs (spent W (leftBy m Ws border)) j none ∙ spent-at W (leftBy m Ws border) j l)
+
+  found : (Ws : List Window) (border : List ℕ) (j : ℕ) → LeftIn m Ws border j (getD (leftBy m Ws border) j 0)
+  found [] border j = rw left-none (kept (λ W l. absurd (List·Memᴰ·not-nil l)) refl)
+  found (W ∷ Ws) border j = rw (left-next W Ws border) (go (found Ws (passedBy W border) j))
+    where
+      -- where none of the others reaches it
       first : (x : ℕ) → NoneWider m Ws j → x ≡ getD (passedBy W border) j 0 → (b : Bool) → outside m W ≡ b → Dec (j < W .w) → LeftIn m (W ∷ Ws) border j x
-      first x none e true o d = kept others (e ∙ rw o)
-        where
-          others : NoneWider m (W ∷ Ws) j
-          others X (List·Memᴰ·head q) I = never (sym o ∙ not-outside m W (rw (sym q) I))
-          others X (List·Memᴰ·tail l) I = none X l I
+      first x none e true o d = kept (none-next W Ws j (λ I. never (sym o ∙ not-outside m W I)) none) (e ∙ rw o)
       first x none e false o (yes l) = last [] W Ws refl (inside m W o) l none (e ∙ rw o (spent-at W border j l))
-      first x none e false o (no h) = kept others (e ∙ rw o (spent-past W border j (omega (arith, h))))
-        where
-          others : NoneWider m (W ∷ Ws) j
-          others X (List·Memᴰ·head q) I = rw q (omega (arith, h))
-          others X (List·Memᴰ·tail l) I = none X l I
+      first x none e false o (no h) = kept (none-next W Ws j (λ I. omega (arith, h)) none) (e ∙ rw o (spent-past W border j (omega (arith, h))))
 
       go : {x : ℕ} → LeftIn m Ws (passedBy W border) j x → LeftIn m (W ∷ Ws) border j x
       go (kept none e) = first _ none e (outside m W) refl (decLt j (W .w))
       go (last before X later s I l none e) = last (W ∷ before) X later (ap (λ (t : List Window). W ∷ t) s) I l none e
+
+  -- so of these two just one stands in a cell
+  pub left-cell : (Ws : List Window) (border : List ℕ) (j x : ℕ) → (getD (leftBy m Ws border) j 0 ≡ x) ↔ LeftIn m Ws border j x
+  left-cell Ws border j x = (λ e. rw e at (found Ws border j), only)
+    where
+      only : LeftIn m Ws border j x → getD (leftBy m Ws border) j 0 ≡ x
+      only (kept none e) = left-kept Ws border j none ∙ sym e
+      only (last before W later s I l none e) = ap (λ (t : List Window). getD (leftBy m t border) j 0) s ∙ left-last before W later border j I l none ∙ sym e

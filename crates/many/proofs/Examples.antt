@@ -3,12 +3,14 @@
 use mathlib.Core.Path.{_≡_, refl}
 use mathlib.Core.List.{List, [], _∷_, _++_}
 use Prim.Native.Nat.{ℕ}
+use native.Mathlib.Omega.{arith}
 use lib.ListN.{take, replicate}
 use Rattle.lists.specs.Lists.{upFrom, greatestOf, any, keep, before, howMany, greatest}
 use Rattle.answers.specs.Refusals.{answer}
 use Rattle.answers.specs.Sizes.{wrongCount, sizeRefusals, pictureRefusals, countRefusals}
 use Rattle.answers.specs.Cells.{overwrite}
 use Rattle.answers.specs.After.{after, roomRefusals}
+use Rattle.answers.proofs.Laws.{refused-not-passed}
 use Rattle.answers.proofs.P1.{keys, old}
 use Rattle.key.specs.Spread.{spreadTo, spread}
 use Rattle.key.specs.Picture.{place}
@@ -26,6 +28,9 @@ use Rattle.border.specs.Openings.{isHanded, opening, openFrom, openings, handed
 use Rattle.used.specs.Used.{spent, borderRefusals}
 use Rattle.many.specs.declared.Many.the-variants.{Done, Refused}
 use Rattle.many.specs.Many.{windowsIn, wrongList, listRefusals, columns, lineOf, linesOf, leftBy, widest, manyRefusals, manyOf}
+use Rattle.many.specs.Promises.{InFours, Askable, LeftIn}
+use Rattle.many.proofs.Border.{left-cell}
+use Rattle.many.proofs.Tables.{list-right, many-askable}
 
 -- P1's window; one that reaches below the picture, and is wider; and the pixel in the last row and the first column
 abbrev drawn : List ℕ
@@ -49,9 +54,16 @@ pub record Examples : Type 0 where
   pub not-fours : manyOf 2 keys 7 (drawn ++ 0 ∷ []) [] [] ≡ after (Refused 25 0) ([], [])
   pub narrow : manyOf 2 keys 7 (pixel ++ drawn ++ below) (old 2) [] ≡ after (Refused 7 3) (old 2, [])
   pub short : manyOf 2 keys 7 (pixel ++ drawn ++ below) (old 3) (old 14) ≡ after (Refused 8 15) (old 3, old 14)
+  pub askable : Askable 2 keys 7 (pixel ++ drawn ++ below) 3 15
+  pub not-askable : Askable 2 keys 7 (pixel ++ drawn ++ below) 2 15 → ⊥
   -- 256 windows are taken, and one more is not
   pub most : listRefusals 1024 ≡ listRefusals 0
+  pub in-fours : InFours (replicate 1024 0)
   pub too-many : manyOf 2 keys 7 (replicate 1028 0) [] [] ≡ after (Refused 25 0) ([], [])
+  -- what stands in the first border cell and in the last, and nothing else does
+  pub left-first : LeftIn 2 (windowsIn (drawn ++ below ++ pixel)) (old 4) 0 4
+  pub left-beyond : LeftIn 2 (windowsIn (drawn ++ below ++ pixel)) (old 4) 3 99
+  pub not-the-first : LeftIn 2 (windowsIn (drawn ++ below ++ pixel)) (old 4) 0 3 → ⊥
 
 pub examples : Examples
 unfolding pictureRefusals countRefusals borderRefusals roomRefusals answer wrongCount sizeRefusals overwrite upFrom greatestOf spreadTo spread place
@@ -68,6 +80,12 @@ examples = record {
   not-fours = refl;
   narrow = refl;
   short = refl;
+  askable = many-askable 2 keys 7 (pixel ++ drawn ++ below) 3 15 .0 refl;
+  not-askable = λ A. refused-not-passed (many-askable 2 keys 7 (pixel ++ drawn ++ below) 2 15 .1 A);
   most = refl;
+  in-fours = list-right (replicate 1024 0) .0 refl;
   too-many = refl;
+  left-first = left-cell 2 (windowsIn (drawn ++ below ++ pixel)) (old 4) 0 4 .0 refl;
+  left-beyond = left-cell 2 (windowsIn (drawn ++ below ++ pixel)) (old 4) 3 99 .0 refl;
+  not-the-first = λ L. let other : _≡_ {A = ℕ} 4 3 = left-cell 2 (windowsIn (drawn ++ below ++ pixel)) (old 4) 0 3 .1 L in omega arith;
 }
