@@ -21,7 +21,7 @@ use Rattle.map.specs.Check.{mapRefusals}
 use Rattle.map.specs.Sound.{SoundMap}
 use Rattle.map.proofs.Laws.{sound-map, numbered-map}
 use Rattle.used.specs.Used.{borderRefusals}
-use Rattle.used.proofs.Laws.{border-passed, border-refused, numbered-border}
+use Rattle.used.proofs.Laws.{border-passed, numbered-border}
 use Rattle.many.specs.Many.{windowsIn, wrongList, listRefusals, widest, manyRefusals}
 use Rattle.many.specs.Promises.{InFours, Askable}
 use Rattle.many.proofs.Windows.{windows-length}
@@ -95,12 +95,13 @@ module _ (m : ℕ) (keys : List ℕ) (classes : ℕ) (windows : List ℕ) (borde
       unfolding manyRefusals
       behind = append-passed Refused (mapRefusals m keys classes) _ _ e ∙ append-passed Refused lists _ _ (list-passed (length windows) .1 d)
 
-      pub many-narrow : border < widest m (windowsIn windows) → verdict (manyRefusals m keys classes windows border out) ≡ Refused 7 (widest m (windowsIn windows))
-      many-narrow l = behind ∙ append-refused Refused borders _ _ (border-refused (widest m Ws) border l)
+      pub many-narrow : {n p : ℕ} → verdict (borderRefusals (widest m (windowsIn windows)) border) ≡ Refused n p
+          → verdict (manyRefusals m keys classes windows border out) ≡ Refused n p
+      many-narrow w = behind ∙ append-refused Refused borders _ _ w
 
-      module _ (l : widest m (windowsIn windows) ≤ border) where
+      module _ (w : verdict (borderRefusals (widest m (windowsIn windows)) border) ≡ Passed) where
         room : verdict (manyRefusals m keys classes windows border out) ≡ verdict (roomRefusals out (5 * length Ws))
-        room = behind ∙ append-passed Refused borders _ _ (border-passed (widest m Ws) border .1 l)
+        room = behind ∙ append-passed Refused borders _ _ w
 
         pub many-short : out < 5 * length (windowsIn windows) → verdict (manyRefusals m keys classes windows border out) ≡ Refused 8 (5 * length (windowsIn windows))
         many-short h = room ∙ room-refused out (5 * length Ws) h
@@ -126,7 +127,7 @@ module _ (m : ℕ) (keys : List ℕ) (classes : ℕ) (windows : List ℕ) (borde
           }
 
       from : Askable m keys classes windows border out → verdict (manyRefusals m keys classes windows border out) ≡ Passed
-      from A = many-passes (sound-map m keys classes .1 (A .sound)) (list-right windows .1 (A .list)) (widest-wider m Ws border .1 (A .wide)) (A .room)
+      from A = many-passes (sound-map m keys classes .1 (A .sound)) (list-right windows .1 (A .list)) (border-passed (widest m Ws) border .1 (widest-wider m Ws border .1 (A .wide))) (A .room)
 
   -- a refusal is by 25 exactly when the map is sound and the list is wrong
   pub many-25 : {n p : ℕ} → verdict (manyRefusals m keys classes windows border out) ≡ Refused n p → (n ≡ 25) ↔ (SoundMap m keys classes × (¬ InFours windows))

@@ -103,12 +103,9 @@ fn askable(
             place: 0,
         };
     }
-    let w = widest(m, windows);
-    if cells < w as usize {
-        return Verdict::Refused {
-            number: 7,
-            place: w as u32,
-        };
+    let wide = used::wide_enough(widest(m, windows), cells);
+    if let Verdict::Refused { number, place } = wide {
+        return Verdict::Refused { number, place };
     }
     let needed = 5 * (windows.len() / 4);
     if room < needed {

@@ -89,15 +89,15 @@ module _ (m : ℕ) (keys : List ℕ) (classes border : ℕ) (table : List ℕ) w
     add-unfit d = append-passed Refused (mapRefusals m keys classes) _ _ e ∙ append-refused Refused (tableRefusals m table) _ _ d
 
     module _ (d : verdict (tableRefusals m table) ≡ Passed) where
-      fit : verdict (addRefusals m keys classes border table) ≡ verdict (borderRefusals (windowIn table .w) border)
+      pub add-fit : verdict (addRefusals m keys classes border table) ≡ verdict (borderRefusals (windowIn table .w) border)
       unfolding addRefusals
-      fit = append-passed Refused (mapRefusals m keys classes) _ _ e ∙ append-passed Refused (tableRefusals m table) _ _ d
+      add-fit = append-passed Refused (mapRefusals m keys classes) _ _ e ∙ append-passed Refused (tableRefusals m table) _ _ d
 
       pub add-narrow : border < windowIn table .w → verdict (addRefusals m keys classes border table) ≡ Refused 7 (windowIn table .w)
-      add-narrow l = fit ∙ border-refused (windowIn table .w) border l
+      add-narrow l = add-fit ∙ border-refused (windowIn table .w) border l
 
       pub add-passes : windowIn table .w ≤ border → verdict (addRefusals m keys classes border table) ≡ Passed
-      add-passes l = fit ∙ border-passed (windowIn table .w) border .1 l
+      add-passes l = add-fit ∙ border-passed (windowIn table .w) border .1 l
 
   pub numbered-add : Numbered 26 (addRefusals m keys classes border table)
   unfolding addRefusals

@@ -147,14 +147,7 @@ fn addable(m: u32, keys: &[u32], classes: &[u8], cells: usize, table: &[u64]) ->
     if let Verdict::Refused { number, place } = fits {
         return Verdict::Refused { number, place };
     }
-    let w = window_in(table).w;
-    if cells < w as usize {
-        return Verdict::Refused {
-            number: 7,
-            place: w as u32,
-        };
-    }
-    Verdict::Passed
+    used::wide_enough(window_in(table).w, cells)
 }
 
 // Adds a map to the table.

@@ -45,15 +45,9 @@ module _ (m : ℕ) (keys : List ℕ) (classes : ℕ) (W : Window) (cells : ℕ) 
     use-outside o = append-passed verdict-of.Refused (mapRefusals m keys classes) _ _ e ∙ append-refused verdict-of.Refused (windowRefusals m W) _ _ (window-refused m W o)
 
     module _ (o : outside m W ≡ false) where
-      behind : verdict (useRefusals m keys classes W cells) ≡ verdict (borderRefusals (W .w) cells)
+      pub use-inside : verdict (useRefusals m keys classes W cells) ≡ verdict (borderRefusals (W .w) cells)
       unfolding useRefusals
-      behind = append-passed verdict-of.Refused (mapRefusals m keys classes) _ _ e ∙ append-passed verdict-of.Refused (windowRefusals m W) _ _ (window-passed m W o)
-
-      pub use-narrow : cells < W .w → verdict (useRefusals m keys classes W cells) ≡ verdict-of.Refused 7 (W .w)
-      use-narrow l = behind ∙ border-refused (W .w) cells l
-
-      pub use-passed : W .w ≤ cells → verdict (useRefusals m keys classes W cells) ≡ verdict-of.Passed
-      use-passed l = behind ∙ border-passed (W .w) cells .1 l
+      use-inside = append-passed verdict-of.Refused (mapRefusals m keys classes) _ _ e ∙ append-passed verdict-of.Refused (windowRefusals m W) _ _ (window-passed m W o)
 
   -- one table after the other
   pub use-parts : {A : Type 0} (refuse : ℕ → ℕ → A) (a : A) → answer refuse (useRefusals m keys classes W cells) a

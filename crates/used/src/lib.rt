@@ -4,7 +4,20 @@ use window::Window;
 ghost use mathlib.Core.Path.{_≡_};
 ghost use lib.ListN.{length};
 ghost use Rattle.answers.specs.Refusals.{verdict};
-ghost use Rattle.used.specs.Used.{useRefusals, tiledRefusals};
+ghost use Rattle.used.specs.Used.{borderRefusals, useRefusals, tiledRefusals};
+
+// Refusal 7: a border of so many cells is shorter than a window of w columns is wide.
+pub fn wide_enough(w: u16, cells: usize) -> Verdict
+    ensures { λ r. ⌜ r ≡ verdict (borderRefusals w cells) ⌝ }
+{
+    if cells < w as usize {
+        return Verdict::Refused {
+            number: 7,
+            place: w as u32,
+        };
+    }
+    Verdict::Passed
+}
 
 // Refusals 1 to 7: whoever uses a map and a window asks this first.
 pub fn usable(m: u32, keys: &[u32], classes: &[u8], window: Window, cells: usize) -> Verdict
@@ -20,14 +33,7 @@ pub fn usable(m: u32, keys: &[u32], classes: &[u8], window: Window, cells: usize
             place: 0,
         };
     }
-    let w = window.w;
-    if cells < w as usize {
-        return Verdict::Refused {
-            number: 7,
-            place: w as u32,
-        };
-    }
-    Verdict::Passed
+    wide_enough(window.w, cells)
 }
 
 // The same with blocks of exponent up to `top`: refusal 17 stands between 1 and 2.

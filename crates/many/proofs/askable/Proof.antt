@@ -2,7 +2,7 @@
 -- Assumes nothing.
 use mathlib.Core.Path.{_≡_, sym, _∙_}
 use mathlib.Core.Bool.{false}
-use Prim.Native.Nat.{_≤_}
+use Prim.Native.Nat.{_/_}
 use native.Mathlib.Omega.{arith}
 use lib.ListN.{length}
 use borrow.Author.Needs.{needs}
@@ -10,6 +10,7 @@ use Rattle.answers.specs.declared.Verdict.the-variants.{Passed}
 use Rattle.answers.specs.Refusals.{verdict}
 use Rattle.map.specs.Check.{mapRefusals}
 use Rattle.map.proofs.Laws.{sound-map}
+use Rattle.used.specs.Used.{borderRefusals}
 use Rattle.many.specs.Many.{windowsIn, wrongList, widest}
 use Rattle.many.proofs.Windows.{windows-length}
 use Rattle.many.proofs.Tables.{wrong-not, many-unsound, many-unlisted, many-narrow, many-short, many-passes}
@@ -53,39 +54,53 @@ module _ (c : tie.Else1) where
 widest-requires : tie.Need-widest-requires
 widest-requires c κs = sound-map _ _ _ .0 (passed (told c)) .sizes .small
 
-cast-if2 : tie.Need-cast-if2
-cast-if2 c = search needs
+wide-enough-requires : tie.Need-wide-enough-requires
+wide-enough-requires c κs = search needs
 
-cast-t15 : tie.Need-cast-t15
-cast-t15 c = search needs
+-- what is said of the border
+border : (c : tie.After-wide-enough)
+    → let k = asked (told (c .before .before)) in
+    verdict (borderRefusals (widest (k .args .m) (windowsIn (k .args .windows .now))) (k .args .cells)) ≡ c .wide-enough .result
+border c = sym (rw (c .before .widest .ensures) at (c .wide-enough .ensures))
+
+enum-known-wide : tie.Need-enum-known-wide
+enum-known-wide c = search needs
 
 returns-3 : tie.Need-returns-3
 returns-3 c =
-    let k = c .before .before in
-    let e = c .before .widest .ensures in
-    rw e (sym (many-narrow _ _ _ _ _ _ (passed (told k)) (fours k) (rw e at (c .if2 .taken))))
+    let w = c .before .before .before in
+    let k = w .before .before in
+    sym (many-narrow _ _ _ _ _ _ (passed (told k)) (fours k) (border w ∙ c .before .wide .given .1))
 
--- and the border wide enough
-wide : (c : tie.Else2) → let k = c .before .before in widest (asked (told k) .args .m) (windowsIn (asked (told k) .args .windows .now)) ≤ asked (told k) .args .cells
-wide c = rw (c .before .widest .ensures) at (c .if2 .left)
+enum-told-2 : tie.Need-enum-told-2
+enum-told-2 c = search needs
+
+-- where it is wide enough
+module _ (c : tie.After-enum-told2) where
+  abbrev drawn : tie.Else1
+  drawn = c .before .before .before .before
+
+  wide : verdict (borderRefusals (widest (asked (told drawn) .args .m) (windowsIn (asked (told drawn) .args .windows .now))) (asked (told drawn) .args .cells)) ≡ Passed
+  wide = border (c .before .before) ∙ c .enum-told2 .given .1
+
+  count : length (windowsIn (asked (told drawn) .args .windows .now)) ≡ length (asked (told drawn) .args .windows .now) / 4
+  count = windows-length (asked (told drawn) .args .windows .now)
 
 mul-needed : tie.Need-mul-needed
 mul-needed c = search needs
 
-cast-t17 : tie.Need-cast-t17
-cast-t17 c = let k = c .before .before .before in omega (arith, wrong-not _ .0 (fours k) .1)
+cast-t19 : tie.Need-cast-t19
+cast-t19 c = omega (arith, wrong-not _ .0 (fours (drawn (c .before))) .1)
 
 returns-4 : tie.Need-returns-4
 returns-4 c =
-    let k = c .before .before .before in
-    let n = windows-length (asked (told k) .args .windows .now) in
-    rw (← n) (sym (many-short _ _ _ _ _ _ (passed (told k)) (fours k) (wide (c .before)) (rw n (c .if3 .taken))))
+    let k = drawn (c .before) in
+    rw (← count (c .before)) (sym (many-short _ _ _ _ _ _ (passed (told k)) (fours k) (wide (c .before)) (rw (count (c .before)) (c .if2 .taken))))
 
 returns-5 : tie.Need-returns-5
 returns-5 c =
-    let k = c .before .before .before in
-    let n = windows-length (asked (told k) .args .windows .now) in
-    sym (many-passes _ _ _ _ _ _ (passed (told k)) (fours k) (wide (c .before)) (rw n (c .if3 .left)))
+    let k = drawn (c .before) in
+    sym (many-passes _ _ _ _ _ _ (passed (told k)) (fours k) (wide (c .before)) (rw (count (c .before)) (c .if2 .left)))
 
 pub askable-spec : {M : Type 1} → statement M
 askable-spec =
@@ -98,10 +113,11 @@ askable-spec =
     wrong-list-requires
     returns-2
     widest-requires
-    cast-if2
-    cast-t15
+    wide-enough-requires
+    enum-known-wide
     returns-3
+    enum-told-2
     mul-needed
-    cast-t17
+    cast-t19
     returns-4
     returns-5)

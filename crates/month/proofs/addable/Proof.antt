@@ -13,7 +13,7 @@ use Rattle.map.proofs.Laws.{sound-map}
 use Rattle.month.specs.Month.{windowIn, tableRefusals}
 use Rattle.month.specs.Promises.{Ongoing}
 use Rattle.month.proofs.Sanity.{narrowed-inside}
-use Rattle.month.proofs.Tables.{table-passed, add-unsound, add-unfit, add-narrow, add-passes}
+use Rattle.month.proofs.Tables.{table-passed, add-unsound, add-unfit, add-fit}
 use Rattle.month.proofs.addable.Statement.{statement}
 use Rattle.month.proofs.addable.Tie as tie
 
@@ -72,23 +72,13 @@ window-in-requires c κs = goes-on c .long
 exact : (c : tie.After-window-in) → c .window-in .result ≡ windowIn (cells (c .before))
 exact c = c .window-in .ensures ∙ narrowed-inside (inside-12 (small (told (c .before))) (goes-on (c .before) .sane .inside))
 
-cast-if1 : tie.Need-cast-if1
-cast-if1 c = search needs
-
-cast-t16 : tie.Need-cast-t16
-cast-t16 c = search needs
+wide-enough-requires : tie.Need-wide-enough-requires
+wide-enough-requires c κs = search needs
 
 returns-3 : tie.Need-returns-3
 returns-3 c =
     let at = c .before .before in
-    let l = rw (exact (c .before)) at (c .if1 .taken) in
-    rw (exact (c .before)) (sym (add-narrow _ _ _ _ _ (passed (told at)) (fit at) l))
-
-returns-4 : tie.Need-returns-4
-returns-4 c =
-    let at = c .before .before in
-    let l = rw (exact (c .before)) at (c .if1 .left) in
-    sym (add-passes _ _ _ _ _ (passed (told at)) (fit at) l)
+    c .wide-enough .ensures ∙ rw (exact (c .before)) (sym (add-fit _ _ _ _ _ (passed (told at)) (fit at)))
 
 pub addable-spec : {M : Type 1} → statement M
 addable-spec =
@@ -103,7 +93,5 @@ addable-spec =
     returns-2
     enum-told-2
     window-in-requires
-    cast-if1
-    cast-t16
-    returns-3
-    returns-4)
+    wide-enough-requires
+    returns-3)
