@@ -280,9 +280,12 @@ lutniorad_answer lutniorad_open_tiled(uint32_t m, uint32_t tile,
  * none. Answers `first` = the number of windows, `second` = 0. The first 5 * `first` cells of `out` are then five for
  * each window, in the order of the list:
  *
- *     0, 0, openings, records, pixels     for a window inside the picture: the numbers of openings and of records are
- *                                         what lutniorad_open returns for it with room enough, and h * w follows
- *     6, 0, 0, 0, 0                       for any other, which lutniorad_open would refuse by 6
+ *     0, 0, openings, records, pixels     for a window inside the picture
+ *     6, 0, 0, 0, 0                       for any other
+ *
+ * The numbers of openings and of records are those that lutniorad_open returns for the window where it has room enough,
+ * and pixels is h * w. A window that is refused by 6, as lutniorad_open would refuse it, is refused alone: the others
+ * are answered all the same.
  *
  * One border serves all. In the end each of its cells is r0 + h of the last window in the list that is inside the
  * picture and wide enough to reach it; a cell that no such window reaches keeps its content. So where no window is

@@ -31,7 +31,8 @@ use Rattle.exist.proofs.Laws.{presence-is, exist-by-lengths, exist-untouched}
 use Rattle.lutniorad.specs.declared.Answer.{Answer}
 use Rattle.lutniorad.specs.Numbers.{values, refused, ofChecked, ofExistence, ofReading, ofWriting}
 use Rattle.lutniorad.specs.Calls.{Check, Exist, Read, Write}
-use Rattle.lutniorad.proofs.Told.{told-most, told-when}
+use Rattle.lutniorad.proofs.Crossing.{both-slices}
+use Rattle.lutniorad.proofs.Told.{told-most, told-when, told-kept}
 
 -- ---- checking
 
@@ -79,8 +80,9 @@ module _ (m : ℕ) (keys classes : List ℕ) (W : Window) (class : ℕ) (border 
       (use-answerable m keys (length classes) W (length border))
 
   pub exist-kept : (r .refusal ≡ 0 → ⊥) → border′ ≡ border
-  exist-kept held =
-      call .cells ∙ exist-untouched m keys classes W class border (λ e. held (exist-answered .1 (use-answerable m keys (length classes) W (length border) .0 e)))
+  exist-kept =
+      told-kept (sayExists m keys classes W class) clear (numbered-use m keys (length classes) W (length border) {most = 7} (omega arith)) exist-says
+      (λ held. call .cells ∙ exist-untouched m keys classes W class border held)
 
 -- ---- files
 
@@ -95,9 +97,7 @@ module _ (file keys classes : List ℕ) {keys′ classes′ : List ℕ} {r : Ans
   read-answered = told-when _ refl (numbered-read file (length keys) (length classes)) read-says (read-passed file (length keys) (length classes))
 
   pub read-kept : (r .refusal ≡ 0 → ⊥) → (keys′ ≡ keys) × (classes′ ≡ classes)
-  read-kept held =
-      let same = call .cells ∙ read-untouched file keys classes (λ R. held (read-answered .1 R)) in
-      (ap (λ (x : List ℕ × List ℕ). x .0) same, ap (λ (x : List ℕ × List ℕ). x .1) same)
+  read-kept held = both-slices (call .cells ∙ read-untouched file keys classes (λ R. held (read-answered .1 R)))
 
 module _ (m : ℕ) (keys classes out : List ℕ) {out′ : List ℕ} {r : Answer} (call : Write m keys classes out r out′) where
   pub write-says : r ≡ answer refused (writeRefusals m (length keys) (length classes) (length out)) (values (20 + 5 * length keys) 0)

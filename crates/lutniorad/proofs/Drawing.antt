@@ -17,7 +17,7 @@ use Rattle.lutniorad.specs.declared.Answer.{Answer}
 use Rattle.lutniorad.specs.Numbers.{values, refused}
 use Rattle.lutniorad.specs.Calls.{Call}
 use Rattle.lutniorad.proofs.Crossing.{crossed}
-use Rattle.lutniorad.proofs.Told.{told-most, told-when}
+use Rattle.lutniorad.proofs.Told.{told-most, told-when, told-kept}
 
 -- from the contract of such a call to one outcome in numbers
 pub drawn-crossed : {A : Type 0} (say : A → Answer) (refuse : ℕ → ℕ → A) (done : A) (cells : List ℕ) (m : ℕ) (W : Window) (out : List ℕ)
@@ -41,9 +41,9 @@ module _ (first : ℕ) (cells : List ℕ) (m : ℕ) (W : Window) (out : List ℕ
 
   -- a refused call leaves the slice as it was
   pub drawn-kept : (r .refusal ≡ 0 → ⊥) → out′ ≡ out
-  drawn-kept held =
-      ap (λ (x : After Answer (List ℕ)). x .lent) call
-      ∙ drawn-untouched refused (values first 0) cells m W out (λ e. held (drawn-answered .1 (drawn-passed m W (length cells) (length out) .0 e)))
+  drawn-kept =
+      told-kept (values first 0) refl (numbered-drawn m W (length cells) (length out)) drawn-says
+      (λ held. ap (λ (x : After Answer (List ℕ)). x .lent) call ∙ drawn-untouched refused (values first 0) cells m W out held)
 
   -- an answered one returns the value and writes the cells
   pub drawn-done : r .refusal ≡ 0 → (r ≡ values first 0) × (out′ ≡ overwrite cells out)

@@ -29,7 +29,8 @@ use Rattle.lutniorad.specs.Numbers.{values, refused, ofCleared, ofAdded}
 use Rattle.lutniorad.specs.Calls.{MonthClear, MonthAdd}
 use Rattle.lutniorad.specs.Promises.{MonthClearPromise, MonthAddPromise}
 use Rattle.lutniorad.proofs.Drawing.{drawn-crossed, drawn-says, drawn-numbered, drawn-answered, drawn-kept, drawn-done}
-use Rattle.lutniorad.proofs.Told.{told-most, told-when}
+use Rattle.lutniorad.proofs.Crossing.{both-slices}
+use Rattle.lutniorad.proofs.Told.{told-most, told-when, told-kept}
 
 -- ---- clearing
 
@@ -76,20 +77,20 @@ module _ (m : ℕ) (keys classes border table : List ℕ) {border′ table′ : 
 
   -- a refused call leaves border and table as they were
   pub month-add-kept : (r .refusal ≡ 0 → ⊥) → (border′ ≡ border) × (table′ ≡ table)
-  month-add-kept held =
-      let same = call .cells ∙ add-untouched m keys classes border table (λ e. held (month-add-answered .1 (add-addable m keys (length classes) (length border) table .0 e))) in
-      (ap (λ (x : List ℕ × List ℕ). x .0) same, ap (λ (x : List ℕ × List ℕ). x .1) same)
+  month-add-kept =
+      told-kept _ refl (numbered-add m keys (length classes) (length border) table) month-add-says
+      (λ held. both-slices (call .cells ∙ add-untouched m keys classes border table held))
 
   -- an answered one writes the table with the map
   module _ (z : r .refusal ≡ 0) where
     passed : verdict rs ≡ verdict-of.Passed
     passed = add-addable m keys (length classes) (length border) table .1 (month-add-answered .0 z)
 
-    left : _≡_ {A = List ℕ × List ℕ} (border′, table′) (spent (windowIn table) border, overwrite (addMap m keys classes table) table)
-    left = call .cells ∙ ap (λ (x : After Added (List ℕ × List ℕ)). x .lent) (add-done m keys classes border table passed)
+    left : (border′ ≡ spent (windowIn table) border) × (table′ ≡ overwrite (addMap m keys classes table) table)
+    left = both-slices (call .cells ∙ ap (λ (x : After Added (List ℕ × List ℕ)). x .lent) (add-done m keys classes border table passed))
 
     pub month-add-table : table′ ≡ overwrite (addMap m keys classes table) table
-    month-add-table = ap (λ (x : List ℕ × List ℕ). x .1) left
+    month-add-table = left .1
 
     pub month-add-promise : MonthAddPromise m keys classes border table r border′ table′
     month-add-promise =
@@ -107,7 +108,7 @@ module _ (m : ℕ) (keys classes border table : List ℕ) {border′ table′ : 
           sane = s;
           small = λ class l. omega (arith, s .sums class l, most);
           beyond = rw n at (drop-overwrite (addMap m keys classes table) table);
-          border-after = ap (λ (x : List ℕ × List ℕ). x .0) left;
+          border-after = left .0;
         })
 
   -- what it says, by the verdict

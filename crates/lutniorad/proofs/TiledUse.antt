@@ -19,6 +19,7 @@ use Rattle.lutniorad.specs.declared.Answer.{Answer}
 use Rattle.lutniorad.specs.Numbers.{values, refused}
 use Rattle.lutniorad.specs.Calls.{Call}
 use Rattle.lutniorad.specs.Promises.{RefusalLeaves}
+use Rattle.lutniorad.proofs.Crossing.{both-slices}
 use Rattle.lutniorad.proofs.Using.{used-numbered, used-answered, used-leaves, used-kept}
 use Rattle.lutniorad.proofs.Capped.{tiled-crossed, capped-says, capped-kept, capped-within, capped-answered, capped-17}
 
@@ -63,10 +64,10 @@ module _ (first second : ℕ) (cells : List ℕ) (m top : ℕ) (keys : List ℕ)
       go : Dec (top ≤ m) → RefusalLeaves W border out r border′ out′
       go (yes cap) = used-kept first second cells m keys classes W border out (untiled cap) held
       go (no over) =
-          let same = capped-kept m top (border, out) _ call (omega arith) in
+          let same = both-slices (capped-kept m top (border, out) _ call (omega arith)) in
           let not-8 : r .refusal ≡ 8 → top ≤ m = λ e. capped-within m top (border, out) _ call (λ z. omega (arith, e, z)) (λ z. omega (arith, e, z)) in
           record {
-            out-kept = ap (λ (x : List ℕ × List ℕ). x .1) same;
+            out-kept = same .1;
             border-spent = λ e. absurd (over (not-8 e));
-            border-kept = λ e. ap (λ (x : List ℕ × List ℕ). x .0) same;
+            border-kept = λ e. same .0;
           }

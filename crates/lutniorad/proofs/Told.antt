@@ -23,3 +23,7 @@ module _ {most : ℕ} {rs : List Refusal} {r : Answer} (a : Answer) (clear : a .
     where
       zero : (answer refused rs a .refusal ≡ 0) ↔ (verdict rs ≡ Passed)
       zero = number-zero refused (λ (x : Answer). x .refusal) (λ n p. refl) N clear
+
+  -- where it is refused, what holds whenever the table has not passed
+  pub told-kept : {Kept : Type 0} → ((verdict rs ≡ Passed → ⊥) → Kept) → (r .refusal ≡ 0 → ⊥) → Kept
+  told-kept kept held = kept (λ e. held (told-when (λ d. d, λ d. d) .1 e))

@@ -25,7 +25,8 @@ use Rattle.lutniorad.specs.declared.Answer.{Answer}
 use Rattle.lutniorad.specs.Numbers.{values, refused, ofMany}
 use Rattle.lutniorad.specs.Calls.{Windows}
 use Rattle.lutniorad.specs.Promises.{WindowsPromise}
-use Rattle.lutniorad.proofs.Told.{told-most, told-when}
+use Rattle.lutniorad.proofs.Crossing.{both-slices}
+use Rattle.lutniorad.proofs.Told.{told-most, told-when, told-kept}
 use Rattle.lutniorad.proofs.Roomy.{open-line, report-line}
 
 module _ (m : ℕ) (keys classes windows border out : List ℕ) {r : Answer} {border′ out′ : List ℕ} (call : Windows m keys classes windows border out r border′ out′) where
@@ -63,10 +64,9 @@ module _ (m : ℕ) (keys classes windows border out : List ℕ) {r : Answer} {bo
 
   -- a refused call leaves border and slice as they were
   pub windows-kept : (r .refusal ≡ 0 → ⊥) → (border′ ≡ border) × (out′ ≡ out)
-  windows-kept held =
-      let askable = many-askable m keys (length classes) windows (length border) (length out) in
-      let same = call .cells ∙ many-untouched m keys (length classes) windows border out (λ e. held (windows-answered .1 (askable .0 e))) in
-      (ap (λ (x : List ℕ × List ℕ). x .0) same, ap (λ (x : List ℕ × List ℕ). x .1) same)
+  windows-kept =
+      told-kept _ refl (numbered-many m keys (length classes) windows (length border) (length out)) windows-says
+      (λ held. both-slices (call .cells ∙ many-untouched m keys (length classes) windows border out held))
 
   module _ (z : r .refusal ≡ 0) where
     abbrev A : Askable m keys (length classes) windows (length border) (length out)
@@ -81,20 +81,17 @@ module _ (m : ℕ) (keys classes windows border out : List ℕ) {r : Answer} {bo
     count : r .first ≡ length Ws
     count = ap (λ (x : Answer). x .first) windows-number
 
-    left : _≡_ {A = List ℕ × List ℕ} (border′, out′) (leftBy m Ws border, overwrite (linesOf m keys Ws) out)
-    left = call .cells ∙ ap (λ (x : After Many (List ℕ × List ℕ)). x .lent) (many-done m keys (length classes) windows border out passed)
+    left : (border′ ≡ leftBy m Ws border) × (out′ ≡ overwrite (linesOf m keys Ws) out)
+    left = both-slices (call .cells ∙ ap (λ (x : After Many (List ℕ × List ℕ)). x .lent) (many-done m keys (length classes) windows border out passed))
 
     pub windows-border : border′ ≡ leftBy m (windowsIn windows) border
-    windows-border = ap (λ (x : List ℕ × List ℕ). x .0) left
-
-    cells : out′ ≡ overwrite (linesOf m keys Ws) out
-    cells = ap (λ (x : List ℕ × List ℕ). x .1) left
+    windows-border = left .0
 
     whole : 5 * r .first ≡ length (linesOf m keys Ws)
     whole = ap (λ (n : ℕ). 5 * n) count ∙ sym (lines-length m keys Ws)
 
     pub windows-lines : take (5 * r .first) out′ ≡ linesOf m keys (windowsIn windows)
-    windows-lines = rw (whole, cells) (take-overwrite (linesOf m keys Ws) out)
+    windows-lines = rw (whole, left .1) (take-overwrite (linesOf m keys Ws) out)
 
     -- the five cells of a window
     line-at : (i : ℕ) → i < r .first → take 5 (drop (5 * i) out′) ≡ lineCells (lineOf m keys (windowAt windows i))
@@ -103,7 +100,7 @@ module _ (m : ℕ) (keys classes windows border out : List ℕ) {r : Answer} {bo
         let long = lines-length m keys Ws in
         let rest = drop-append-le (5 * i) lines (drop (length lines) out) (omega (arith, l, count, long)) in
         let all = take-append-le 5 (drop (5 * i) lines) (drop (length lines) out) (omega (arith, l, count, long, length-drop (5 * i) lines)) in
-        ap (λ (x : List ℕ). take 5 (drop (5 * i) x)) (cells ∙ sym (overwrite-part lines out)) ∙ ap (take 5) rest ∙ all ∙ lines-at m keys windows i (omega (arith, l, count))
+        ap (λ (x : List ℕ). take 5 (drop (5 * i) x)) (left .1 ∙ sym (overwrite-part lines out)) ∙ ap (take 5) rest ∙ all ∙ lines-at m keys windows i (omega (arith, l, count))
 
     pub windows-promise : WindowsPromise m keys classes windows border out r border′ out′
     windows-promise = record {
@@ -117,7 +114,7 @@ module _ (m : ℕ) (keys classes windows border out : List ℕ) {r : Answer} {bo
           ∙ ap (λ (x : List ℕ). getD x 4 0) (line-at i l)
           ∙ report-line m keys classes (windowAt windows i) (A .sound) b o single R;
       refused-alone = λ i l apart. line-at i l ∙ ap lineCells (line-refused m keys (windowAt windows i) apart);
-      beyond = rw (whole, cells) (drop-overwrite (linesOf m keys Ws) out);
+      beyond = rw (whole, left .1) (drop-overwrite (linesOf m keys Ws) out);
       border-after = λ j x. rw windows-border (left-cell m Ws border j x);
       border-long = ap length windows-border ∙ left-length m Ws border (widest-wider m Ws (length border) .1 (A .wide));
     }

@@ -71,7 +71,7 @@ module _ (m : ℕ) where
   -- ---- what stands in them
 
   -- what one window leaves
-  abbrev pub passedBy : Window → List ℕ → List ℕ
+  abbrev passedBy : Window → List ℕ → List ℕ
   passedBy W border = cond (outside m W) border (spent W border)
 
   pub left-none : (border : List ℕ) → leftBy m [] border ≡ border
@@ -126,6 +126,7 @@ module _ (m : ℕ) where
       left-append Ws (W ∷ Xs) border ∙ left-next W Xs (leftBy m Ws border) ∙ rw (not-outside m W I) in
       rw behind (left-kept Xs (spent W (leftBy m Ws border)) j none ∙ spent-at W (leftBy m Ws border) j l)
 
+  -- one of the two is so
   found : (Ws : List Window) (border : List ℕ) (j : ℕ) → LeftIn m Ws border j (getD (leftBy m Ws border) j 0)
   found [] border j = rw left-none (kept (λ W l. absurd (List·Memᴰ·not-nil l)) refl)
   found (W ∷ Ws) border j = rw (left-next W Ws border) (go (found Ws (passedBy W border) j))
@@ -140,7 +141,7 @@ module _ (m : ℕ) where
       go (kept none e) = first _ none e (outside m W) refl (decLt j (W .w))
       go (last before X later s I l none e) = last (W ∷ before) X later (ap (λ (t : List Window). W ∷ t) s) I l none e
 
-  -- so of these two just one stands in a cell
+  -- so each cell holds that and nothing else
   pub left-cell : (Ws : List Window) (border : List ℕ) (j x : ℕ) → (getD (leftBy m Ws border) j 0 ≡ x) ↔ LeftIn m Ws border j x
   left-cell Ws border j x = (λ e. rw e at (found Ws border j), only)
     where
