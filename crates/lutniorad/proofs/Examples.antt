@@ -1,5 +1,5 @@
--- P1 and P2 as calls: the contracts hold of these numbers and cells, so what opening and decomposing promise holds of these very cells. Exist where it cannot tell. And a row
--- of calls of a month.
+-- P1 and P2 as calls: the contracts hold of these numbers and cells, so what opening and decomposing promise holds of these very cells. P1's window among others. Exist where it
+-- cannot tell. And a row of calls of a month.
 -- Assumes nothing.
 use mathlib.Core.Path.{_≡_, refl, sym}
 use mathlib.Core.List.{List, [], _∷_, _++_}
@@ -32,18 +32,21 @@ use Rattle.border.specs.Openings.{isHanded, made, opening, openFrom, openings, 
 use Rattle.border.specs.Promises.{openingsIn, Enough}
 use Rattle.used.specs.Used.{useRefusals, spent, usedFor, borderRefusals}
 use Rattle.open.specs.Open.{openTiled}
+use Rattle.many.proofs.Examples.{drawn, below, pixel, lines}
+use Rattle.many.proofs.Examples as lists
 use Rattle.month.specs.Promises.{monthOf}
 use Rattle.month.proofs.P1.{empty, first-day}
 use Rattle.month.proofs.Examples.{examples}
 use Rattle.exist.proofs.Examples.{glare}
 use Rattle.exist.proofs.Examples as queries
 use Rattle.lutniorad.specs.Numbers.{values, refused}
-use Rattle.lutniorad.specs.Calls.{Decompose, DecomposeTiled, Open, OpenTiled, Exist, MonthClear, MonthAdd}
-use Rattle.lutniorad.specs.Promises.{DecomposePromise, OpenPromise, SomePixel, MonthRow, cleared, added}
+use Rattle.lutniorad.specs.Calls.{Decompose, DecomposeTiled, Open, OpenTiled, Windows, Exist, MonthClear, MonthAdd}
+use Rattle.lutniorad.specs.Promises.{DecomposePromise, OpenPromise, WindowsPromise, SomePixel, MonthRow, cleared, added}
 use Rattle.lutniorad.specs.Promises as promises
 use Rattle.lutniorad.proofs.Crossing.{crossing}
 use Rattle.lutniorad.proofs.Decomposing.{decompose-promise}
 use Rattle.lutniorad.proofs.Opening.{open-promise}
+use Rattle.lutniorad.proofs.Windows.{windows-promise}
 use Rattle.lutniorad.proofs.Asked.{exist-promise}
 use Rattle.lutniorad.proofs.Row.{month-table}
 
@@ -87,6 +90,17 @@ pixels-fewest s = open-promise 2 0 keys classes W (old 3) (old 21) (called .p1-p
 
 p2-promise : DecomposePromise 2 2 W (old 6) (values 6 0) blocks
 p2-promise = decompose-promise 2 2 W (old 6) (called .p2) refl
+
+-- P1's window, one that is refused and one pixel, in one call
+many-call : Windows 2 keys classes (drawn ++ below ++ pixel) (old 4) (old 16) (values 3 0) (4 ∷ 3 ∷ 3 ∷ 99 ∷ []) lines
+many-call = crossing refl refl (sym (lists.examples .done))
+
+many-promise : WindowsPromise 2 keys classes (drawn ++ below ++ pixel) (old 4) (old 16) (values 3 0) (4 ∷ 3 ∷ 3 ∷ 99 ∷ []) lines
+many-promise = windows-promise 2 keys classes (drawn ++ below ++ pixel) (old 4) (old 16) many-call refl
+
+-- so the first line begins as P1 says by itself
+many-first : 0 ∷ 0 ∷ 4 ∷ 7 ∷ [] ≡ values 4 7 .refusal ∷ values 4 7 .place ∷ values 4 7 .first ∷ values 4 7 .second ∷ []
+many-first = many-promise .opened 0 (omega arith) (old 3) (old 12) (called .p1) (λ e. omega (arith, e), λ e. omega (arith, e))
 
 -- class 4 in P1's window, where a part was not seen: none was seen with it, and some pixel was not seen
 exist-call : Exist 2 keys glare W 4 (old 4) (values 2 0) (3 ∷ 3 ∷ 3 ∷ 99 ∷ [])

@@ -33,19 +33,22 @@ use Rattle.many.proofs.Border.{left-cell}
 use Rattle.many.proofs.Tables.{list-right, many-askable}
 
 -- P1's window; one that reaches below the picture, and is wider; and the pixel in the last row and the first column
-abbrev drawn : List ℕ
+abbrev pub drawn : List ℕ
 drawn = 0 ∷ 1 ∷ 3 ∷ 3 ∷ []
 
-abbrev below : List ℕ
+abbrev pub below : List ℕ
 below = 2 ∷ 0 ∷ 3 ∷ 4 ∷ []
 
-abbrev pixel : List ℕ
+abbrev pub pixel : List ℕ
 pixel = 3 ∷ 0 ∷ 1 ∷ 1 ∷ []
+
+-- their lines, and a cell behind them
+abbrev pub lines : List ℕ
+lines = 0 ∷ 0 ∷ 4 ∷ 7 ∷ 9 ∷ 6 ∷ 0 ∷ 0 ∷ 0 ∷ 0 ∷ 0 ∷ 0 ∷ 1 ∷ 1 ∷ 1 ∷ 99 ∷ []
 
 pub record Examples : Type 0 where
   -- the second window is refused alone, and needs no border; the third leaves its row in the cell that it reaches
-  pub done : manyOf 2 keys 7 (drawn ++ below ++ pixel) (old 4) (old 16)
-      ≡ after (Done 3) (4 ∷ 3 ∷ 3 ∷ 99 ∷ [], 0 ∷ 0 ∷ 4 ∷ 7 ∷ 9 ∷ 6 ∷ 0 ∷ 0 ∷ 0 ∷ 0 ∷ 0 ∷ 0 ∷ 1 ∷ 1 ∷ 1 ∷ 99 ∷ [])
+  pub done : manyOf 2 keys 7 (drawn ++ below ++ pixel) (old 4) (old 16) ≡ after (Done 3) (4 ∷ 3 ∷ 3 ∷ 99 ∷ [], lines)
   pub other-order : manyOf 2 keys 7 (pixel ++ drawn) (old 3) (old 10) ≡ after (Done 2) (3 ∷ 3 ∷ 3 ∷ [], 0 ∷ 0 ∷ 1 ∷ 1 ∷ 1 ∷ 0 ∷ 0 ∷ 4 ∷ 7 ∷ 9 ∷ [])
   pub none : manyOf 2 keys 7 [] [] (old 1) ≡ after (Done 0) ([], old 1)
   pub outside-alone : manyOf 2 keys 7 below [] (old 5) ≡ after (Done 1) ([], 6 ∷ 0 ∷ 0 ∷ 0 ∷ 0 ∷ [])

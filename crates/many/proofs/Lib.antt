@@ -4,5 +4,5 @@ mod Border
 mod Tables
 mod Outcome
 mod Loops
-mod Examples
 pub mod Laws
+pub mod Examples
