@@ -10,8 +10,9 @@ use borrow.Author.Tests.{ltb-false, lt-ltb, le-ltb}
 use Rattle.answers.specs.declared.Verdict.the-variants.{Passed, Refused}
 use Rattle.answers.specs.Refusals.{answer, verdict}
 use Rattle.answers.specs.Cells.{overwrite}
-use Rattle.answers.specs.After.{After, after, roomRefusals, roomFor}
-use Rattle.answers.proofs.Tables.{refusal-held, passed-one, on-passed, on-refused, accepted, answer-part}
+use Rattle.answers.specs.After.{After, after, unless, roomRefusals, roomFor}
+use Rattle.answers.proofs.Tables.{refusal-held, passed-one, on-passed, on-refused, accepted}
+use Rattle.answers.proofs.Unless.{unless-answer, unless-said}
 
 module _ (room needed : ℕ) where
   pub room-passed : (verdict (roomRefusals room needed) ≡ Passed) ↔ (needed ≤ room)
@@ -23,30 +24,29 @@ module _ (room needed : ℕ) where
   room-refused l = refusal-held Refused 8 needed [] Passed (lt-ltb room needed l)
 
 module _ {A : Type 0} (refuse : ℕ → ℕ → A) (done : A) (cells out : List ℕ) where
-  pub room-is : roomFor refuse done cells out ≡ answer (λ n p. after (refuse n p) out) (roomRefusals (length out) (length cells)) (after done (overwrite cells out))
+  pub room-is : roomFor refuse done cells out ≡ unless refuse (roomRefusals (length out) (length cells)) out (after done (overwrite cells out))
   unfolding roomFor
   room-is = refl
 
   -- where there is no room
   pub room-short : length out < length cells → roomFor refuse done cells out ≡ after (refuse 8 (length cells)) out
   unfolding roomFor
-  room-short l = on-refused (λ n p. after (refuse n p) out) (roomRefusals (length out) (length cells)) _ (room-refused (length out) (length cells) l)
+  room-short l = on-refused _ (roomRefusals (length out) (length cells)) _ (room-refused (length out) (length cells) l)
 
   -- and where there is
   pub room-done : length cells ≤ length out → roomFor refuse done cells out ≡ after done (overwrite cells out)
   unfolding roomFor
-  room-done l = on-passed (λ n p. after (refuse n p) out) (roomRefusals (length out) (length cells)) _ (room-passed (length out) (length cells) .1 l)
+  room-done l = on-passed _ (roomRefusals (length out) (length cells)) _ (room-passed (length out) (length cells) .1 l)
 
   -- of the slice only the length counts for the answer
   pub room-by-lengths : roomFor refuse done cells out .answer ≡ answer refuse (roomRefusals (length out) (length cells)) done
   unfolding roomFor
-  room-by-lengths = answer-part (λ (x : After A (List ℕ)). x .answer) (λ n p. after (refuse n p) out) (roomRefusals (length out) (length cells)) _
+  room-by-lengths = unless-answer refuse (roomRefusals (length out) (length cells)) out _
 
   -- said in other words
   pub room-said : {B : Type 0} (say : A → B) → (let o = roomFor refuse done cells out in after (say (o .answer)) (o .lent)) ≡ roomFor (λ n p. say (refuse n p)) (say done) cells out
   unfolding roomFor
-  room-said say =
-      answer-part (λ (x : After A (List ℕ)). after (say (x .answer)) (x .lent)) (λ n p. after (refuse n p) out) (roomRefusals (length out) (length cells)) _
+  room-said say = unless-said refuse (roomRefusals (length out) (length cells)) out _ say
 
   -- an answer that is no refusal: there was room
   pub record Told (a : A) (out′ : List ℕ) : Type 0 where
@@ -57,7 +57,7 @@ module _ {A : Type 0} (refuse : ℕ → ℕ → A) (done : A) (cells out : List 
   pub room-told : {a : A} {out′ : List ℕ} → ((n p : ℕ) → refuse n p ≡ a → ⊥) → roomFor refuse done cells out ≡ after a out′ → Told a out′
   unfolding roomFor
   room-told {a} {out′} other e =
-      let x = accepted (λ n p. after (refuse n p) out) (roomRefusals (length out) (length cells)) _ (λ n p q. other n p (ap (λ (t : After A (List ℕ)). t .answer) q)) e in
+      let x = accepted _ (roomRefusals (length out) (length cells)) _ (λ n p q. other n p (ap (λ (t : After A (List ℕ)). t .answer) q)) e in
       record {
         room = room-passed (length out) (length cells) .0 (x .0);
         says = ap (λ (t : After A (List ℕ)). t .answer) (x .1);

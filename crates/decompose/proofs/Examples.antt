@@ -7,7 +7,7 @@ use Rattle.lists.specs.Lists.{keep, greatest}
 use Rattle.answers.specs.Refusals.{answer}
 use Rattle.answers.specs.Sizes.{pictureRefusals, tileRefusals}
 use Rattle.answers.specs.Cells.{overwrite}
-use Rattle.answers.specs.After.{after, roomRefusals, tiledFor}
+use Rattle.answers.specs.After.{after, roomRefusals}
 use Rattle.key.specs.Spread.{spreadTo, spread}
 use Rattle.key.specs.Key.{pixelKey, blockKey}
 use Rattle.window.specs.Window.{window, beyond, outside, windowRefusals}
@@ -34,7 +34,7 @@ pub record Examples : Type 0 where
 
 pub examples : Examples
 unfolding pictureRefusals roomRefusals answer overwrite spreadTo spread pixelKey blockKey beyond outside windowRefusals keep floor lies fits greatest exponent corner across rows
-    isCorner maximal keyOf keysOf drawnRefusals drawnFor tileRefusals tiledFor decomposeTiled
+    isCorner maximal keyOf keysOf drawnRefusals drawnFor tileRefusals decomposeTiled
 examples = record {
   done = refl;
   short = refl;

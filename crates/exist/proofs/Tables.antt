@@ -8,7 +8,7 @@ use lib.ListN.{length}
 use Rattle.answers.specs.declared.Verdict.the-variants as verdict-of
 use Rattle.answers.specs.Refusals.{verdict, answer}
 use Rattle.answers.specs.After.{After, after}
-use Rattle.answers.proofs.Laws.{answer-kept, on-passed, on-refused, answer-part}
+use Rattle.answers.proofs.Laws.{on-passed, on-refused, unless-answer, unless-kept}
 use Rattle.window.specs.declared.Window.{Window}
 use Rattle.map.specs.Classes.{notSeen}
 use Rattle.used.specs.Used.{useRefusals, spent}
@@ -39,8 +39,7 @@ module _ (m : ℕ) (keys classes : List ℕ) (W : Window) (class : ℕ) (border 
   -- and a refused one leaves it as it was
   pub exist-untouched : (verdict (useRefusals m keys (length classes) W (length border)) ≡ verdict-of.Passed → ⊥) → existOf m keys classes W class border .lent ≡ border
   unfolding existOf
-  exist-untouched held =
-      answer-kept (λ (x : After Existence (List ℕ)). x .lent) (λ n p. after (existence.Refused n p) border) (useRefusals m keys (length classes) W (length border)) _ (λ n p. refl) held
+  exist-untouched held = unless-kept existence.Refused (useRefusals m keys (length classes) W (length border)) border _ held
 
   -- each answer, by what is known of the class and of 255
   pub existing-yes : {left : List ℕ} → exists m keys classes W class ≡ true → left ≡ spent W border → after existence.Yes left ≡ existing m keys classes W class border
@@ -57,5 +56,4 @@ pub exist-by-lengths : (m : ℕ) (keys classes : List ℕ) (W : Window) (class :
     → existOf m keys classes W class border .answer
     ≡ answer existence.Refused (useRefusals m keys (length classes) W (length border)) (presence m keys classes W class)
 unfolding existOf existing
-exist-by-lengths m keys classes W class border =
-    answer-part (λ (x : After Existence (List ℕ)). x .answer) (λ n p. after (existence.Refused n p) border) (useRefusals m keys (length classes) W (length border)) _
+exist-by-lengths m keys classes W class border = unless-answer existence.Refused (useRefusals m keys (length classes) W (length border)) border _

@@ -5,8 +5,7 @@ use mathlib.Core.List.{List}
 use Prim.Native.Nat.{ℕ}
 use lib.ListN.{length}
 use Rattle.lists.specs.Lists.{any}
-use Rattle.answers.specs.Refusals.{answer}
-use Rattle.answers.specs.After.{After, after}
+use Rattle.answers.specs.After.{After, after, unless}
 use Rattle.window.specs.declared.Window.{Window}
 use Rattle.window.specs.Blocks.{pixels}
 use Rattle.map.specs.Classes.{hasClass, notSeen}
@@ -30,5 +29,4 @@ existing m keys classes W class border = after (presence m keys classes W class)
 -- exist: refusals 1 to 7 leave the border as it was
 unfoldable pub existOf : ℕ → List ℕ → List ℕ → Window → ℕ → List ℕ → After Existence (List ℕ)
 existOf m keys classes W class border =
-    answer (λ number place. after (existence.Refused number place) border) (useRefusals m keys (length classes) W (length border))
-    (existing m keys classes W class border)
+    unless existence.Refused (useRefusals m keys (length classes) W (length border)) border (existing m keys classes W class border)

@@ -1,6 +1,6 @@
 -- Which calls of reading and writing are answered, and what is known of those.
 -- Assumes nothing.
-use mathlib.Core.Path.{_≡_, refl, ap}
+use mathlib.Core.Path.{_≡_, ap}
 use mathlib.Core.Logic.{_↔_}
 use mathlib.Core.Bool.{Bool, false, _||_}
 use mathlib.Core.List.{List, [], _∷_}
@@ -15,7 +15,7 @@ use Rattle.answers.specs.Refusals.{Refusal, refusal, answer, verdict}
 use Rattle.answers.specs.Sizes.{sizeRefusals, Sized}
 use Rattle.answers.specs.Cells.{overwrite}
 use Rattle.answers.specs.After.{After, after}
-use Rattle.answers.proofs.Laws.{room-passed, answer-none, answer-part, answer-kept, on-passed, accepted, passed-next, passed-append}
+use Rattle.answers.proofs.Laws.{room-passed, answer-none, unless-answer, unless-kept, on-passed, accepted, passed-next, passed-append}
 use Rattle.answers.proofs.Laws.{sized, Numbered, none, numbered-next, numbered-append, numbered-sizes, numbered-room}
 use Rattle.numbers.specs.Numbers.{numbers}
 use Rattle.house.specs.declared.Reading.{Reading}
@@ -63,20 +63,19 @@ module _ (file keys classes : List ℕ) where
   -- of the slices only the lengths count
   pub read-by-lengths : readOf file keys classes .answer ≡ answer reading.Refused (readRefusals file (length keys) (length classes)) (reading.Read (fileM file) (fileQ file))
   unfolding readOf
-  read-by-lengths = answer-part (λ (x : After Reading (List ℕ × List ℕ)). x .answer) (λ n p. after (reading.Refused n p) (keys, classes)) (readRefusals file (length keys) (length classes)) _
+  read-by-lengths = unless-answer reading.Refused (readRefusals file (length keys) (length classes)) (keys, classes) _
 
   -- what an answered call leaves in them
   pub read-leaves : Readable file (length keys) (length classes)
       → readOf file keys classes ≡ after (reading.Read (fileM file) (fileQ file)) (overwrite (fileKeys file) keys, overwrite (fileClasses file) classes)
   unfolding readOf
-  read-leaves R = on-passed (λ n p. after (reading.Refused n p) (keys, classes)) _ _ (read-passed file (length keys) (length classes) .1 R)
+  read-leaves R = on-passed _ _ _ (read-passed file (length keys) (length classes) .1 R)
 
   -- a refusal leaves them as they were
   pub read-untouched : (Readable file (length keys) (length classes) → ⊥) → readOf file keys classes .lent ≡ (keys, classes)
   unfolding readOf
   read-untouched held =
-      answer-kept (λ (x : After Reading (List ℕ × List ℕ)). x .lent) (λ n p. after (reading.Refused n p) (keys, classes)) (readRefusals file (length keys) (length classes)) _ (λ n p. refl)
-      (λ e. held (read-passed file (length keys) (length classes) .0 e))
+      unless-kept reading.Refused (readRefusals file (length keys) (length classes)) (keys, classes) _ (λ e. held (read-passed file (length keys) (length classes) .0 e))
 
 -- what an answer of reading tells
 pub record Taken (file keys classes : List ℕ) (m q : ℕ) (keys′ classes′ : List ℕ) : Type 0 where
@@ -123,21 +122,19 @@ module _ (m : ℕ) (keys classes out : List ℕ) where
   pub write-by-length : writeOf m keys classes out .answer
       ≡ answer writing.Refused (writeRefusals m (length keys) (length classes) (length out)) (writing.Written (20 + 5 * length keys))
   unfolding writeOf
-  write-by-length =
-      answer-part (λ (x : After Writing (List ℕ)). x .answer) (λ n p. after (writing.Refused n p) out) (writeRefusals m (length keys) (length classes) (length out)) _
+  write-by-length = unless-answer writing.Refused (writeRefusals m (length keys) (length classes) (length out)) out _
 
   -- what an answered call leaves in it
   pub write-leaves : Sized m (length keys) (length classes) × (20 + 5 * length keys ≤ length out)
       → writeOf m keys classes out ≡ after (writing.Written (20 + 5 * length keys)) (overwrite (fileOf m keys classes) out)
   unfolding writeOf
-  write-leaves t = on-passed (λ n p. after (writing.Refused n p) out) _ _ (write-passed m (length keys) (length classes) (length out) .1 t)
+  write-leaves t = on-passed _ _ _ (write-passed m (length keys) (length classes) (length out) .1 t)
 
   -- a refusal leaves it as it was
   pub write-untouched : (Sized m (length keys) (length classes) × (20 + 5 * length keys ≤ length out) → ⊥) → writeOf m keys classes out .lent ≡ out
   unfolding writeOf
   write-untouched held =
-      answer-kept (λ (x : After Writing (List ℕ)). x .lent) (λ n p. after (writing.Refused n p) out) (writeRefusals m (length keys) (length classes) (length out)) _ (λ n p. refl)
-      (λ e. held (write-passed m (length keys) (length classes) (length out) .0 e))
+      unless-kept writing.Refused (writeRefusals m (length keys) (length classes) (length out)) out _ (λ e. held (write-passed m (length keys) (length classes) (length out) .0 e))
 
 -- what an answer of writing tells
 pub record Given (m : ℕ) (keys classes out : List ℕ) (n : ℕ) (out′ : List ℕ) : Type 0 where

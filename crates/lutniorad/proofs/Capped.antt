@@ -10,30 +10,22 @@ use Rattle.answers.specs.declared.Verdict.the-variants.{Refused}
 use Rattle.answers.specs.Refusals.{Refusal, answer, verdict}
 use Rattle.answers.specs.Sizes.{tileRefusals}
 use Rattle.answers.specs.After.{After, after, tiledFor}
-use Rattle.answers.proofs.Laws.{answer-append, tile-large, tile-over, tiled-refused, tiled-answer, tiled-said}
+use Rattle.answers.proofs.Laws.{answer-append, on-refused, tile-large, tile-over}
 use Rattle.lutniorad.specs.declared.Answer.{Answer}
 use Rattle.lutniorad.specs.Numbers.{refused}
-use Rattle.lutniorad.specs.Calls.{Call}
-use Rattle.lutniorad.proofs.Crossing.{crossed}
-
--- from the contract of such a call to one outcome in numbers
-pub tiled-crossed : {A S : Type 0} (say : A → Answer) (refuse : ℕ → ℕ → A) (m top : ℕ) (lent : S) (x : After A S) {o : After A S} {r : Answer} {lent′ : S}
-    → o ≡ tiledFor refuse m top lent x → Call say o r lent′ → after r lent′ ≡ tiledFor (λ n p. say (refuse n p)) m top lent (after (say (x .answer)) (x .lent))
-tiled-crossed {A} {S} say refuse m top lent x is call =
-    crossed call ∙ ap (λ (o : After A S). after (say (o .answer)) (o .lent)) is ∙ tiled-said m top refuse lent x say
+use Rattle.lutniorad.proofs.Told.{guarded-says}
 
 module _ {S : Type 0} (m top : ℕ) (lent : S) (o : After Answer S) {r : Answer} {lent′ : S} (call : after r lent′ ≡ tiledFor refused m top lent o) where
   -- the four numbers: the first of refusals 1 and 17 that holds, or what is said without them
   pub capped-says : (rs : List Refusal) (v : Answer) → o .answer ≡ answer refused rs v → r ≡ answer refused (tileRefusals m top ++ rs) v
   capped-says rs v said =
-      ap (λ (x : After Answer S). x .answer) call
-      ∙ tiled-answer m top refused lent o
+      guarded-says (tileRefusals m top) lent o call
       ∙ ap (λ (x : Answer). answer refused (tileRefusals m top) x) said
       ∙ sym (answer-append refused (tileRefusals m top) rs v)
 
   given : {n p : ℕ} → verdict (tileRefusals m top) ≡ Refused n p → (r .refusal ≡ n) × (lent′ ≡ lent)
   given e =
-      let d = call ∙ tiled-refused m top refused lent o e in
+      let d = call ∙ on-refused _ (tileRefusals m top) o e in
       (ap (λ (x : After Answer S). x .answer .refusal) d, ap (λ (x : After Answer S). x .lent) d)
 
   -- where the cap is over m: refusal 1 or 17

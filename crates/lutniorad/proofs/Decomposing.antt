@@ -27,9 +27,9 @@ use Rattle.lutniorad.specs.declared.Answer.{Answer}
 use Rattle.lutniorad.specs.Numbers.{values, refused, ofDecomposed}
 use Rattle.lutniorad.specs.Calls.{Decompose, DecomposeTiled}
 use Rattle.lutniorad.specs.Promises.{DecomposePromise}
-use Rattle.lutniorad.proofs.Crossing.{call-one}
+use Rattle.lutniorad.proofs.Crossing.{call-one, unless-crossed}
 use Rattle.lutniorad.proofs.Drawing.{drawn-crossed, drawn-numbered, drawn-answered, drawn-kept, drawn-done}
-use Rattle.lutniorad.proofs.Capped.{tiled-crossed, capped-says, capped-kept, capped-answered, capped-17}
+use Rattle.lutniorad.proofs.Capped.{capped-says, capped-kept, capped-answered, capped-17}
 
 module _ (m top : ℕ) (W : Window) where
   sized : Px → ℕ × Px
@@ -70,7 +70,7 @@ module _ (m top : ℕ) (W : Window) (out : List ℕ) {out′ : List ℕ} {r : An
   -- the call in numbers
   decomposed : after r out′ ≡ tiledFor refused m top out (drawnFor refused (values (length ks) 0) ks m W out)
   decomposed =
-      tiled-crossed ofDecomposed decomposed-as.Refused m top out _ (decompose-is m top W out) call
+      unless-crossed ofDecomposed decomposed-as.Refused (tileRefusals m top) out _ (decompose-is m top W out) call
       ∙ ap (tiledFor refused m top out) (drawn-said decomposed-as.Refused (decomposed-as.Done (length ks)) ks m W out ofDecomposed)
 
   -- the first of refusals 1 and 17, and of 1, 6 and 8, or the number of blocks; of the slice only the length counts

@@ -10,7 +10,7 @@ use Rattle.lists.specs.Lists.{upFrom, any, keep, before, howMany, greatest}
 use Rattle.answers.specs.Refusals.{answer}
 use Rattle.answers.specs.Sizes.{wrongCount, sizeRefusals, pictureRefusals, countRefusals, tileRefusals}
 use Rattle.answers.specs.Cells.{overwrite}
-use Rattle.answers.specs.After.{roomRefusals, roomFor, tiledFor}
+use Rattle.answers.specs.After.{roomRefusals, roomFor}
 use Rattle.answers.proofs.P1.{keys, classes, old}
 use Rattle.key.specs.Spread.{spreadTo, spread}
 use Rattle.key.specs.Picture.{place}
@@ -69,7 +69,7 @@ record Called : Type 0 where
 called : Called
 unfolding pictureRefusals countRefusals roomRefusals borderRefusals roomFor answer wrongCount sizeRefusals overwrite upFrom spreadTo spread place
     pixelKey blockKey from formOf beyond outside windowRefusals keep floor lies fits greatest exponent corner across rows isCorner maximal keyOf
-    keysOf drawnRefusals drawnFor tileRefusals tiledFor decomposeTiled spans.malformed spans.formExponent spans.start spans.end spans.holds spans.overlap late refusalsFrom
+    keysOf drawnRefusals drawnFor tileRefusals decomposeTiled spans.malformed spans.formExponent spans.start spans.end spans.holds spans.overlap late refusalsFrom
     mapRefusals before howMany recordOf exponentOf runOf any within isHanded opening openFrom openings handedCount cellsOf useRefusals spent usedFor
     openTiled
 called = record {

@@ -10,27 +10,26 @@ use lib.ListN.{length, replicate}
 use Rattle.answers.specs.declared.Verdict.the-variants as verdict-of
 use Rattle.answers.specs.Refusals.{Refusal, answer, verdict}
 use Rattle.answers.specs.Cells.{overwrite}
-use Rattle.answers.specs.After.{After, after}
-use Rattle.answers.proofs.Laws.{answer-part, on-passed, on-refused, drop-overwrite}
+use Rattle.answers.specs.After.{After, after, unless}
+use Rattle.answers.proofs.Laws.{on-passed, on-refused, drop-overwrite}
 use Rattle.window.specs.declared.Window.{Window}
 use Rattle.window.specs.Window.{Inside}
 use Rattle.window.specs.Drawn.{drawnRefusals, drawnFor}
 use Rattle.window.proofs.Laws.{inside-12, pixels-most}
 use Rattle.used.specs.Used.{spent}
 use Rattle.month.specs.declared.Cleared.the-variants as cleared-as
-use Rattle.month.specs.declared.Added.{Added}
 use Rattle.month.specs.declared.Added.the-variants as added-as
 use Rattle.month.specs.Month.{headOf, windowIn, mapsIn, addMap, addRefusals}
 use Rattle.month.specs.Promises.{Addable}
-use Rattle.month.proofs.Laws.{clear-is, empty-length, numbered-add, add-addable, map-length, add-done, add-by-lengths, add-table, add-untouched}
+use Rattle.month.proofs.Laws.{clear-is, empty-length, numbered-add, add-addable, map-length, add-is, add-table}
 use Rattle.month.proofs.Laws.{month-none, next-m, next-window, next-maps, next-row, sane-next}
 use Rattle.lutniorad.specs.declared.Answer.{Answer}
 use Rattle.lutniorad.specs.Numbers.{values, refused, ofCleared, ofAdded}
 use Rattle.lutniorad.specs.Calls.{MonthClear, MonthAdd}
 use Rattle.lutniorad.specs.Promises.{MonthClearPromise, MonthAddPromise}
 use Rattle.lutniorad.proofs.Drawing.{drawn-crossed, drawn-says, drawn-numbered, drawn-answered, drawn-kept, drawn-done}
-use Rattle.lutniorad.proofs.Crossing.{both-slices}
-use Rattle.lutniorad.proofs.Told.{told-most, told-when, told-kept}
+use Rattle.lutniorad.proofs.Crossing.{both-slices, unless-crossed}
+use Rattle.lutniorad.proofs.Told.{told-most, told-when, told-kept, guarded-says, guarded-kept, guarded-leaves}
 
 -- ---- clearing
 
@@ -65,9 +64,14 @@ module _ (m : ℕ) (keys classes border table : List ℕ) {border′ table′ : 
   abbrev rs : List Refusal
   rs = addRefusals m keys (length classes) (length border) table
 
+  -- the call in numbers
+  adds : _≡_ {A = After Answer (List ℕ × List ℕ)} (after r (border′, table′))
+      (unless refused rs (border, table) (after (values (mapsIn table + 1) 0) (spent (windowIn table) border, overwrite (addMap m keys classes table) table)))
+  adds = unless-crossed ofAdded added-as.Refused rs (border, table) _ (add-is m keys classes border table) call
+
   -- the first refusal that holds, or the number of maps; of the border only the length counts
   pub month-add-says : r ≡ answer refused (addRefusals m keys (length classes) (length border) table) (values (mapsIn table + 1) 0)
-  month-add-says = call .answer ∙ ap ofAdded (add-by-lengths m keys classes border table) ∙ answer-part ofAdded added-as.Refused rs _
+  month-add-says = guarded-says rs (border, table) _ adds
 
   pub month-add-numbered : r .refusal ≤ 26
   month-add-numbered = told-most _ refl (numbered-add m keys (length classes) (length border) table) month-add-says
@@ -79,7 +83,7 @@ module _ (m : ℕ) (keys classes border table : List ℕ) {border′ table′ : 
   pub month-add-kept : (r .refusal ≡ 0 → ⊥) → (border′ ≡ border) × (table′ ≡ table)
   month-add-kept =
       told-kept _ refl (numbered-add m keys (length classes) (length border) table) month-add-says
-      (λ held. both-slices (call .cells ∙ add-untouched m keys classes border table held))
+      (λ held. both-slices (guarded-kept rs (border, table) _ adds held))
 
   -- an answered one writes the table with the map
   module _ (z : r .refusal ≡ 0) where
@@ -87,7 +91,7 @@ module _ (m : ℕ) (keys classes border table : List ℕ) {border′ table′ : 
     passed = add-addable m keys (length classes) (length border) table .1 (month-add-answered .0 z)
 
     left : (border′ ≡ spent (windowIn table) border) × (table′ ≡ overwrite (addMap m keys classes table) table)
-    left = both-slices (call .cells ∙ ap (λ (x : After Added (List ℕ × List ℕ)). x .lent) (add-done m keys classes border table passed))
+    left = both-slices (guarded-leaves rs (border, table) _ adds passed)
 
     pub month-add-table : table′ ≡ overwrite (addMap m keys classes table) table
     month-add-table = left .1

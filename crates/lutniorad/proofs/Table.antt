@@ -8,7 +8,7 @@ use Rattle.answers.specs.declared.Verdict.the-variants as verdict-of
 use Rattle.answers.specs.Refusals.{answer, verdict}
 use Rattle.answers.specs.Sizes.{wrongCount, sizeRefusals, pictureRefusals, countRefusals, tileRefusals}
 use Rattle.answers.specs.Cells.{overwrite}
-use Rattle.answers.specs.After.{after, roomRefusals, roomFor, tiledFor}
+use Rattle.answers.specs.After.{after, roomRefusals, roomFor}
 use Rattle.answers.proofs.P1.{keys, classes, old}
 use Rattle.key.specs.Spread.{spreadTo, spread}
 use Rattle.key.specs.Picture.{place}
@@ -59,7 +59,7 @@ unfolding pictureRefusals countRefusals borderRefusals roomRefusals roomFor answ
     pixelKey blockKey from formOf beyond outside windowRefusals keep floor lies fits greatest exponent corner across rows isCorner maximal keyOf
     keysOf spans.malformed spans.formExponent spans.start spans.end spans.holds spans.overlap late refusalsFrom mapRefusals checkOf before howMany
     recordOf exponentOf runOf any within isHanded opening openFrom openings handedCount useRefusals spent total totals around inside selected
-    allSelected selection usedFor reportOf tileRefusals tiledFor selectTiled bytes bytesOf header fileOf
+    allSelected selection usedFor reportOf tileRefusals selectTiled bytes bytesOf header fileOf
 table = record {
   p1-length = refl;
   p1-header = refl;

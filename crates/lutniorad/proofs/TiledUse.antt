@@ -19,9 +19,9 @@ use Rattle.lutniorad.specs.declared.Answer.{Answer}
 use Rattle.lutniorad.specs.Numbers.{values, refused}
 use Rattle.lutniorad.specs.Calls.{Call}
 use Rattle.lutniorad.specs.Promises.{RefusalLeaves}
-use Rattle.lutniorad.proofs.Crossing.{both-slices}
+use Rattle.lutniorad.proofs.Crossing.{both-slices, unless-crossed}
 use Rattle.lutniorad.proofs.Using.{used-numbered, used-answered, used-leaves, used-kept}
-use Rattle.lutniorad.proofs.Capped.{tiled-crossed, capped-says, capped-kept, capped-within, capped-answered, capped-17}
+use Rattle.lutniorad.proofs.Capped.{capped-says, capped-kept, capped-within, capped-answered, capped-17}
 
 -- from the contract of such a call to one outcome in numbers
 pub tiled-use-crossed : {A : Type 0} (say : A → Answer) (refuse : ℕ → ℕ → A) (done : A) (cells : List ℕ) (m top : ℕ) (keys : List ℕ) (classes : ℕ) (W : Window)
@@ -30,7 +30,7 @@ pub tiled-use-crossed : {A : Type 0} (say : A → Answer) (refuse : ℕ → ℕ 
     → after r (border′, out′)
     ≡ tiledFor (λ n p. say (refuse n p)) m top (border, out) (usedFor (λ n p. say (refuse n p)) (say done) cells m keys classes W border out)
 tiled-use-crossed say refuse done cells m top keys classes W border out is call =
-    tiled-crossed say refuse m top (border, out) _ is call
+    unless-crossed say refuse (tileRefusals m top) (border, out) _ is call
     ∙ ap (tiledFor (λ n p. say (refuse n p)) m top (border, out)) (used-said refuse done cells m keys classes W border out say)
 
 module _ (first second : ℕ) (cells : List ℕ) (m top : ℕ) (keys : List ℕ) (classes : ℕ) (W : Window) (border out : List ℕ) {r : Answer} {border′ out′ : List ℕ}

@@ -11,22 +11,21 @@ use Rattle.answers.specs.declared.Verdict.{Verdict}
 use Rattle.answers.specs.declared.Verdict.the-variants as verdict-of
 use Rattle.answers.specs.Refusals.{Refusal, answer, verdict}
 use Rattle.answers.specs.Cells.{overwrite}
-use Rattle.answers.specs.After.{After}
-use Rattle.answers.proofs.Laws.{answer-part, on-passed, on-refused, overwrite-part, take-overwrite, drop-overwrite}
+use Rattle.answers.specs.After.{After, after, unless}
+use Rattle.answers.proofs.Laws.{on-passed, on-refused, overwrite-part, take-overwrite, drop-overwrite}
 use Rattle.window.specs.declared.Window.{Window}
 use Rattle.map.specs.Sound.{SoundMap}
-use Rattle.many.specs.declared.Many.{Many}
 use Rattle.many.specs.declared.Many.the-variants as many-as
 use Rattle.many.specs.Many.{windowAt, windowsIn, lineOf, lineCells, linesOf, leftBy, manyRefusals}
 use Rattle.many.specs.Promises.{InFours, Askable}
 use Rattle.many.proofs.Laws.{line-refused, lines-length, lines-at, widest-wider, left-length, left-cell}
-use Rattle.many.proofs.Laws.{many-askable, many-25, many-done, many-by-lengths, many-untouched, numbered-many}
+use Rattle.many.proofs.Laws.{many-askable, many-25, numbered-many, many-is}
 use Rattle.lutniorad.specs.declared.Answer.{Answer}
 use Rattle.lutniorad.specs.Numbers.{values, refused, ofMany}
 use Rattle.lutniorad.specs.Calls.{Windows}
 use Rattle.lutniorad.specs.Promises.{WindowsPromise}
-use Rattle.lutniorad.proofs.Crossing.{both-slices}
-use Rattle.lutniorad.proofs.Told.{told-most, told-when, told-kept}
+use Rattle.lutniorad.proofs.Crossing.{both-slices, unless-crossed}
+use Rattle.lutniorad.proofs.Told.{told-most, told-when, told-kept, guarded-says, guarded-kept, guarded-leaves}
 use Rattle.lutniorad.proofs.Roomy.{open-line, report-line}
 
 module _ (m : ℕ) (keys classes windows border out : List ℕ) {r : Answer} {border′ out′ : List ℕ} (call : Windows m keys classes windows border out r border′ out′) where
@@ -36,9 +35,14 @@ module _ (m : ℕ) (keys classes windows border out : List ℕ) {r : Answer} {bo
   abbrev Ws : List Window
   Ws = windowsIn windows
 
+  -- the call in numbers
+  counted : _≡_ {A = After Answer (List ℕ × List ℕ)} (after r (border′, out′))
+      (unless refused rs (border, out) (after (values (length Ws) 0) (leftBy m Ws border, overwrite (linesOf m keys Ws) out)))
+  counted = unless-crossed ofMany many-as.Refused rs (border, out) _ (many-is m keys (length classes) windows border out) call
+
   -- the first refusal that holds, or the number of windows; of the two lent slices only the lengths count
   pub windows-says : r ≡ answer refused (manyRefusals m keys (length classes) windows (length border) (length out)) (values (length (windowsIn windows)) 0)
-  windows-says = call .answer ∙ ap ofMany (many-by-lengths m keys (length classes) windows border out) ∙ answer-part ofMany many-as.Refused rs _
+  windows-says = guarded-says rs (border, out) _ counted
 
   pub windows-numbered : r .refusal ≤ 25
   windows-numbered = told-most _ refl (numbered-many m keys (length classes) windows (length border) (length out)) windows-says
@@ -66,7 +70,7 @@ module _ (m : ℕ) (keys classes windows border out : List ℕ) {r : Answer} {bo
   pub windows-kept : (r .refusal ≡ 0 → ⊥) → (border′ ≡ border) × (out′ ≡ out)
   windows-kept =
       told-kept _ refl (numbered-many m keys (length classes) windows (length border) (length out)) windows-says
-      (λ held. both-slices (call .cells ∙ many-untouched m keys (length classes) windows border out held))
+      (λ held. both-slices (guarded-kept rs (border, out) _ counted held))
 
   module _ (z : r .refusal ≡ 0) where
     abbrev A : Askable m keys (length classes) windows (length border) (length out)
@@ -82,7 +86,7 @@ module _ (m : ℕ) (keys classes windows border out : List ℕ) {r : Answer} {bo
     count = ap (λ (x : Answer). x .first) windows-number
 
     left : (border′ ≡ leftBy m Ws border) × (out′ ≡ overwrite (linesOf m keys Ws) out)
-    left = both-slices (call .cells ∙ ap (λ (x : After Many (List ℕ × List ℕ)). x .lent) (many-done m keys (length classes) windows border out passed))
+    left = both-slices (guarded-leaves rs (border, out) _ counted passed)
 
     pub windows-border : border′ ≡ leftBy m (windowsIn windows) border
     windows-border = left .0

@@ -3,5 +3,4 @@
 pub use Rattle.many.proofs.Windows.{windows-length, windows-append}
 pub use Rattle.many.proofs.Lines.{line-is, line-refused, lines-append, lines-length, lines-at}
 pub use Rattle.many.proofs.Border.{widest-append, widest-wider, left-append, left-length, left-cell}
-pub use Rattle.many.proofs.Tables.{many-askable, many-25, numbered-many}
-pub use Rattle.many.proofs.Outcome.{many-done, many-by-lengths, many-untouched}
+pub use Rattle.many.proofs.Tables.{many-askable, many-25, numbered-many, many-is}

@@ -2,7 +2,6 @@ mod Windows
 mod Lines
 mod Border
 mod Tables
-mod Outcome
 mod Loops
 pub mod Laws
 pub mod Examples

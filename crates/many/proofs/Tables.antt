@@ -1,4 +1,4 @@
--- The refusals of many windows: what each decides, and what they pass.
+-- The refusals of many windows: what each decides, what they pass, and what is answered and left behind them.
 -- Assumes nothing.
 use mathlib.Core.Path.{_≡_, refl, sym, _∙_}
 use mathlib.Core.Logic.{_↔_}
@@ -13,7 +13,8 @@ use Rattle.lists.proofs.Laws.{never, neither}
 use Rattle.answers.specs.declared.Verdict.{Verdict}
 use Rattle.answers.specs.declared.Verdict.the-variants.{Passed, Refused}
 use Rattle.answers.specs.Refusals.{Refusal, verdict}
-use Rattle.answers.specs.After.{roomRefusals}
+use Rattle.answers.specs.Cells.{overwrite}
+use Rattle.answers.specs.After.{after, unless, roomRefusals}
 use Rattle.answers.proofs.Laws.{append-passed, append-refused, passed-one, passed-append, refusal-held, room-passed, room-refused}
 use Rattle.answers.proofs.Laws.{Numbered, none, numbered-next, numbered-append, numbered-room, refused-most}
 use Rattle.window.specs.declared.Window.{Window}
@@ -22,7 +23,8 @@ use Rattle.map.specs.Sound.{SoundMap}
 use Rattle.map.proofs.Laws.{sound-map, numbered-map}
 use Rattle.used.specs.Used.{borderRefusals}
 use Rattle.used.proofs.Laws.{border-passed, numbered-border}
-use Rattle.many.specs.Many.{windowsIn, wrongList, listRefusals, widest, manyRefusals}
+use Rattle.many.specs.declared.Many.the-variants as many-as
+use Rattle.many.specs.Many.{windowsIn, wrongList, listRefusals, linesOf, leftBy, widest, manyRefusals, manyOf}
 use Rattle.many.specs.Promises.{InFours, Askable}
 use Rattle.many.proofs.Windows.{windows-length}
 use Rattle.many.proofs.Border.{widest-wider}
@@ -157,3 +159,12 @@ module _ (m : ℕ) (keys : List ℕ) (classes : ℕ) (windows : List ℕ) (borde
       numbered-append (numbered-map (omega arith) m keys classes)
       (numbered-append (numbered-next 25 (omega arith) (omega arith) none)
       (numbered-append (numbered-border (widest m Ws) border (omega arith)) (numbered-room out (5 * length Ws) (omega arith))))
+
+-- ---- what is answered and left, all behind them
+
+pub many-is : (m : ℕ) (keys : List ℕ) (classes : ℕ) (windows border out : List ℕ) → manyOf m keys classes windows border out
+    ≡ (let Ws = windowsIn windows in
+    unless many-as.Refused (manyRefusals m keys classes windows (length border) (length out)) (border, out)
+    (after (many-as.Done (length Ws)) (leftBy m Ws border, overwrite (linesOf m keys Ws) out)))
+unfolding manyOf
+many-is m keys classes windows border out = refl

@@ -30,20 +30,20 @@ module _ (cells : List ℕ) where
   pub windows-first : windowsFrom 0 0 ≡ []
   windows-first = ap (map (windowAt cells)) (up-none 0)
 
+  -- the first i, and then k from there on
+  windows-cut : (i k : ℕ) → windowsFrom 0 (i + k) ≡ windowsFrom 0 i ++ windowsFrom i k
+  windows-cut i k = let e = up-append 0 i k in rw e (rw (zero-add i) (map-append (windowAt cells) (upFrom 0 i) (upFrom i k)))
+
   -- with one window more
   pub windows-next : (i : ℕ) → windowsFrom 0 (i + 1) ≡ windowsFrom 0 i ++ windowAt cells i ∷ []
-  windows-next i =
-      let e : upFrom 0 (i + 1) ≡ upFrom 0 i ++ i ∷ [] = up-append 0 i 1 ∙ rw (zero-add i, up-one i) in
-      rw e (map-append (windowAt cells) (upFrom 0 i) (i ∷ []))
+  windows-next i = windows-cut i 1 ∙ rw (up-one i)
 
   -- window i stands behind the i before it
   pub windows-split : (i : ℕ) → i < length (windowsIn cells) → windowsIn cells ≡ windowsFrom 0 i ++ windowAt cells i ∷ windowsFrom (suc i) (length (windowsIn cells) - suc i)
   windows-split i l =
       let n : ℕ = length (windowsIn cells) in
       let all : length cells / 4 ≡ i + suc (n - suc i) = omega (arith, l, windows-length) in
-      let e : upFrom 0 (length cells / 4) ≡ upFrom 0 i ++ i ∷ upFrom (suc i) (n - suc i) =
-      rw all (up-append 0 i (suc (n - suc i)) ∙ rw (zero-add i, up-next i (n - suc i))) in
-      windows-all ∙ rw e (map-append (windowAt cells) (upFrom 0 i) (i ∷ upFrom (suc i) (n - suc i)))
+      windows-all ∙ ap (windowsFrom 0) all ∙ windows-cut i (suc (n - suc i)) ∙ rw (up-next i (n - suc i))
 
   pub windows-in : (i : ℕ) → i < length (windowsIn cells) → List·Memᴰ (windowAt cells i) (windowsIn cells)
   windows-in i l = rw windows-all (Memᴰ·map (windowAt cells) (up-in 0 (length cells / 4) i .1 (omega (arith, l, windows-length))))
@@ -74,9 +74,8 @@ module _ (xs ys : List ℕ) (n : ℕ) (fours : length xs ≡ 4 * n) where
   windows-append =
       let e : length (xs ++ ys) / 4 ≡ n + length ys / 4 = simp length-append (omega (arith, fours)) in
       let d : length xs / 4 ≡ n = omega (arith, fours) in
-      let z : 0 + n ≡ n + 0 = omega arith in
+      let z : n ≡ n + 0 = omega arith in
       let one : windowsFrom (xs ++ ys) 0 n ≡ windowsIn xs = map-same (upFrom 0 n) (λ i l. front i (omega (arith, up-in 0 n i .0 l))) ∙ rw (windows-all xs, d) in
-      let two : windowsFrom (xs ++ ys) (0 + n) (length ys / 4) ≡ windowsIn ys = rw z (behind-all 0 (length ys / 4) ∙ sym (windows-all ys)) in
-      windows-all (xs ++ ys)
-      ∙ rw (e, up-append 0 n (length ys / 4)) (map-append (windowAt (xs ++ ys)) (upFrom 0 n) (upFrom (0 + n) (length ys / 4)))
-      ∙ ap₂ _++_ one two
+      let two : windowsFrom (xs ++ ys) n (length ys / 4) ≡ windowsIn ys =
+      ap (λ (k : ℕ). windowsFrom (xs ++ ys) k (length ys / 4)) z ∙ behind-all 0 (length ys / 4) ∙ sym (windows-all ys) in
+      windows-all (xs ++ ys) ∙ ap (windowsFrom (xs ++ ys) 0) e ∙ windows-cut (xs ++ ys) n (length ys / 4) ∙ ap₂ _++_ one two

@@ -2,15 +2,15 @@
 -- Assumes nothing.
 use mathlib.Core.Bool.{Bool, cond, not, _||_}
 use mathlib.Core.List.{List, [], _∷_, _++_, map}
-use Prim.Native.Nat.{ℕ, _+_, _*_, _/_, _%_}
+use Prim.Native.Nat.{ℕ, _*_, _/_, _%_}
 use lib.Dec.{eqb, ltb}
-use lib.ListN.{length, getD}
+use lib.ListN.{length}
 use Rattle.lists.specs.Lists.{upFrom, greatestOf}
 use Rattle.answers.specs.Refusals.{Refusal, refusal, answer}
 use Rattle.answers.specs.Cells.{overwrite}
-use Rattle.answers.specs.After.{After, after, roomRefusals}
+use Rattle.answers.specs.After.{After, after, unless, roomRefusals}
 use Rattle.window.specs.declared.Window.{Window}
-use Rattle.window.specs.Window.{window, outside, windowRefusals}
+use Rattle.window.specs.Window.{windowFrom, outside, windowRefusals}
 use Rattle.map.specs.Check.{mapRefusals}
 use Rattle.border.specs.Openings.{openings, handedCount}
 use Rattle.used.specs.Used.{borderRefusals, spent}
@@ -20,9 +20,9 @@ use Rattle.many.specs.declared.Many.the-variants.{Done, Refused}
 
 -- ---- the list of windows
 
--- window i of a list of numbers, from 0, which stands in cells 4i to 4i + 3
+-- window i of a list of numbers, from 0, stands in cells 4i to 4i + 3
 abbrev pub windowAt : List ℕ → ℕ → Window
-windowAt cells i = let at = 4 * i in window (getD cells at 0) (getD cells (at + 1) 0) (getD cells (at + 2) 0) (getD cells (at + 3) 0)
+windowAt cells i = windowFrom cells (4 * i)
 
 -- all of them
 unfoldable pub windowsIn : List ℕ → List Window
@@ -84,5 +84,5 @@ manyRefusals m keys classes windows border out =
 unfoldable pub manyOf : ℕ → List ℕ → ℕ → List ℕ → List ℕ → List ℕ → After Many (List ℕ × List ℕ)
 manyOf m keys classes windows border out =
     let Ws = windowsIn windows in
-    answer (λ number place. after (Refused number place) (border, out)) (manyRefusals m keys classes windows (length border) (length out))
+    unless Refused (manyRefusals m keys classes windows (length border) (length out)) (border, out)
     (after (Done (length Ws)) (leftBy m Ws border, overwrite (linesOf m keys Ws) out))

@@ -10,11 +10,10 @@ use lib.ListN.{length, getD, set, take, drop, length-set, length-map}
 use lib.Seq.{getD-set-other, drop-set-lt}
 use Rattle.lists.specs.Lists.{upFrom}
 use Rattle.lists.proofs.Laws.{up-in, up-length, map-same}
-use Rattle.answers.specs.declared.Verdict.the-variants as verdict-of
-use Rattle.answers.specs.Refusals.{Refusal, answer, verdict}
+use Rattle.answers.specs.Refusals.{answer}
 use Rattle.answers.specs.Cells.{overwrite}
-use Rattle.answers.specs.After.{After, after}
-use Rattle.answers.proofs.Laws.{answer-part, answer-kept, on-passed, on-refused, overwrite-same}
+use Rattle.answers.specs.After.{After, after, unless}
+use Rattle.answers.proofs.Laws.{answer-part, overwrite-same}
 use Rattle.window.specs.declared.Window.{Window}
 use Rattle.window.proofs.Laws.{inside-12, pixels-most}
 use Rattle.used.specs.Used.{spent}
@@ -98,31 +97,16 @@ module _ (m : ℕ) (keys classes table : List ℕ) (long : 1030 ≤ length table
 -- ---- what is answered and left
 
 module _ (m : ℕ) (keys classes border table : List ℕ) where
-  abbrev rs : List Refusal
-  rs = addRefusals m keys (length classes) (length border) table
-
-  pub add-refused : {n p : ℕ} → verdict (addRefusals m keys (length classes) (length border) table) ≡ verdict-of.Refused n p
-      → addOf m keys classes border table ≡ after (Refused n p) (border, table)
+  -- all behind one table of refusals
+  pub add-is : addOf m keys classes border table
+      ≡ unless Refused (addRefusals m keys (length classes) (length border) table) (border, table)
+      (after (Done (mapsIn table + 1)) (spent (windowIn table) border, overwrite (addMap m keys classes table) table))
   unfolding addOf
-  add-refused e = on-refused (λ n p. after (Refused n p) (border, table)) rs _ e
+  add-is = refl
 
-  pub add-done : verdict (addRefusals m keys (length classes) (length border) table) ≡ verdict-of.Passed
-      → addOf m keys classes border table ≡ after (Done (mapsIn table + 1)) (spent (windowIn table) border, overwrite (addMap m keys classes table) table)
-  unfolding addOf
-  add-done e = on-passed (λ n p. after (Refused n p) (border, table)) rs _ e
-
-  -- of the border only the length counts for the answer
-  pub add-by-lengths : addOf m keys classes border table .answer ≡ answer Refused (addRefusals m keys (length classes) (length border) table) (Done (mapsIn table + 1))
-  unfolding addOf
-  add-by-lengths = answer-part (λ (x : After Added (List ℕ × List ℕ)). x .answer) (λ n p. after (Refused n p) (border, table)) rs _
-
-  -- and for the table
+  -- of the border only the length counts for the table
   pub add-table : addOf m keys classes border table .lent .1
       ≡ answer (λ (n p : ℕ). table) (addRefusals m keys (length classes) (length border) table) (overwrite (addMap m keys classes table) table)
-  unfolding addOf
-  add-table = answer-part (λ (x : After Added (List ℕ × List ℕ)). x .lent .1) (λ n p. after (Refused n p) (border, table)) rs _
-
-  -- a refusal leaves border and table as they were
-  pub add-untouched : (verdict (addRefusals m keys (length classes) (length border) table) ≡ verdict-of.Passed → ⊥) → addOf m keys classes border table .lent ≡ (border, table)
-  unfolding addOf
-  add-untouched held = answer-kept (λ (x : After Added (List ℕ × List ℕ)). x .lent) (λ n p. after (Refused n p) (border, table)) rs _ (λ n p. refl) held
+  add-table =
+      ap (λ (x : After Added (List ℕ × List ℕ)). x .lent .1) add-is
+      ∙ answer-part (λ (x : After Added (List ℕ × List ℕ)). x .lent .1) (λ n p. after (Refused n p) (border, table)) (addRefusals m keys (length classes) (length border) table) _

@@ -6,11 +6,11 @@ use Prim.Native.Nat.{ℕ, _+_, _*_}
 use lib.Dec.{eqb, ltb}
 use lib.ListN.{length, getD, replicate}
 use Rattle.lists.specs.Lists.{upFrom}
-use Rattle.answers.specs.Refusals.{Refusal, refusal, answer}
+use Rattle.answers.specs.Refusals.{Refusal, refusal}
 use Rattle.answers.specs.Cells.{overwrite}
-use Rattle.answers.specs.After.{After, after, roomRefusals}
+use Rattle.answers.specs.After.{After, after, unless, roomRefusals}
 use Rattle.window.specs.declared.Window.{Window}
-use Rattle.window.specs.Window.{window, outside}
+use Rattle.window.specs.Window.{windowFrom, outside}
 use Rattle.window.specs.Drawn.{drawnFor}
 use Rattle.map.specs.Check.{mapRefusals}
 use Rattle.used.specs.Used.{borderRefusals, spent}
@@ -36,7 +36,7 @@ abbrev pub mIn : List ℕ → ℕ
 mIn table = getD table 0 0
 
 abbrev pub windowIn : List ℕ → Window
-windowIn table = window (getD table 1 0) (getD table 2 0) (getD table 3 0) (getD table 4 0)
+windowIn table = windowFrom table 1
 
 abbrev pub mapsIn : List ℕ → ℕ
 mapsIn table = getD table 5 0
@@ -74,5 +74,5 @@ addRefusals m keys classes border table = mapRefusals m keys classes ++ (tableRe
 -- adding: how many maps there are now; the border spent and the table with the map. A refusal leaves both as they were
 unfoldable pub addOf : ℕ → List ℕ → List ℕ → List ℕ → List ℕ → After Added (List ℕ × List ℕ)
 addOf m keys classes border table =
-    answer (λ number place. after (added.Refused number place) (border, table)) (addRefusals m keys (length classes) (length border) table)
+    unless added.Refused (addRefusals m keys (length classes) (length border) table) (border, table)
     (after (added.Done (mapsIn table + 1)) (spent (windowIn table) border, overwrite (addMap m keys classes table) table))

@@ -6,7 +6,7 @@ use Rattle.lists.specs.Lists.{upFrom, any, keep, greatest}
 use Rattle.answers.specs.Refusals.{answer}
 use Rattle.answers.specs.Sizes.{wrongCount, sizeRefusals, pictureRefusals, countRefusals, tileRefusals}
 use Rattle.answers.specs.Cells.{overwrite}
-use Rattle.answers.specs.After.{after, roomRefusals, roomFor, tiledFor}
+use Rattle.answers.specs.After.{after, roomRefusals, roomFor}
 use Rattle.answers.proofs.P1.{keys, classes, old}
 use Rattle.key.specs.Spread.{spreadTo, spread}
 use Rattle.key.specs.Key.{pixelKey, blockKey}
@@ -38,7 +38,7 @@ pub examples : Examples
 unfolding pictureRefusals countRefusals borderRefusals roomRefusals roomFor answer wrongCount sizeRefusals overwrite upFrom spreadTo spread pixelKey
     blockKey from formOf beyond outside windowRefusals keep floor lies fits greatest exponent corner across rows isCorner maximal keyOf keysOf
     spans.malformed spans.formExponent spans.start spans.end late refusalsFrom mapRefusals any within useRefusals spent around inside selected
-    allSelected selection usedFor tileRefusals tiledFor selectTiled
+    allSelected selection usedFor tileRefusals selectTiled
 examples = record {
   select-short = refl;
   select-none = refl;

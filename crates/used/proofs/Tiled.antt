@@ -9,7 +9,7 @@ use Rattle.answers.specs.declared.Verdict.the-variants.{Passed, Refused}
 use Rattle.answers.specs.Refusals.{verdict}
 use Rattle.answers.specs.Sizes.{tileRefusals}
 use Rattle.answers.specs.After.{after, tiledFor}
-use Rattle.answers.proofs.Laws.{append-passed, append-refused, passed-append, tile-passed, tiled-refused, tiled-passed, tiled-within}
+use Rattle.answers.proofs.Laws.{append-passed, append-refused, passed-append, on-passed, on-refused, tile-passed, tiled-within}
 use Rattle.window.specs.declared.Window.{Window}
 use Rattle.used.specs.Used.{Usable, useRefusals, tiledRefusals, usedFor}
 use Rattle.used.proofs.Use.{use-capped}
@@ -47,11 +47,11 @@ module _ {A : Type 0} (refuse : ℕ → ℕ → A) (done : A) (cells : List ℕ)
       go : (v : Verdict) → verdict (tileRefusals m top) ≡ v
           → tiledFor refuse m top (border, out) (usedFor refuse done cells m keys classes W border out) ≡ after (refuse n p) (border, out)
       go Passed q =
-          tiled-passed m top refuse (border, out) _ q
+          on-passed _ (tileRefusals m top) _ q
           ∙ used-refused refuse done cells m keys classes W border out (sym (tiled-next m top keys classes W (length border) q) ∙ e)
       go (Refused n′ p′) q =
           let same = sym (tiled-first m top keys classes W (length border) q) ∙ e in
-          tiled-refused m top refuse (border, out) _ (q ∙ same)
+          on-refused _ (tileRefusals m top) _ (q ∙ same)
 
   -- a cap that is no larger than m refuses nothing
   pub used-within : top ≤ m → tiledFor refuse m top (border, out) (usedFor refuse done cells m keys classes W border out) ≡ usedFor refuse done cells m keys classes W border out

@@ -10,9 +10,9 @@ use Rattle.answers.specs.declared.Verdict.{Verdict}
 use Rattle.answers.specs.declared.Verdict.the-variants as verdict-of
 use Rattle.answers.specs.Refusals.{answer, verdict}
 use Rattle.answers.specs.Cells.{overwrite}
-use Rattle.answers.specs.After.{After, after, roomRefusals, roomFor}
+use Rattle.answers.specs.After.{After, after, unless, roomRefusals, roomFor}
 use Rattle.answers.proofs.Laws as Answers
-use Rattle.answers.proofs.Laws.{answer-part, answer-append, on-passed, on-refused, passed-append, room-passed, room-short}
+use Rattle.answers.proofs.Laws.{unless-answer, unless-said, answer-append, on-passed, on-refused, passed-append, room-passed, room-short}
 use Rattle.answers.proofs.Laws.{room-done, room-by-lengths, room-said, room-told, Numbered, numbered-append, numbered-room}
 use Rattle.window.specs.declared.Window.{Window}
 use Rattle.map.proofs.Laws.{map-over}
@@ -49,8 +49,8 @@ module _ {A : Type 0} (refuse : ℕ → ℕ → A) (done : A) (cells : List ℕ)
       ≡ usedFor (λ n p. say (refuse n p)) (say done) cells m keys classes W border out
   unfolding usedFor
   used-said {B} say =
-      answer-part (λ (x : After A (List ℕ × List ℕ)). after (say (x .answer)) (x .lent)) (λ n p. after (refuse n p) (border, out)) (useRefusals m keys classes W (length border)) _
-      ∙ ap (λ (x : After B (List ℕ)). answer (λ n p. after (say (refuse n p)) (border, out)) (useRefusals m keys classes W (length border)) (after (x .answer) (spent W border, x .lent)))
+      unless-said refuse (useRefusals m keys classes W (length border)) (border, out) _ say
+      ∙ ap (λ (x : After B (List ℕ)). unless (λ n p. say (refuse n p)) (useRefusals m keys classes W (length border)) (border, out) (after (x .answer) (spent W border, x .lent)))
       (room-said refuse done cells out say)
 
   -- the answer is the first of refusals 1 to 8, or `done`; of the border and of the answer slice only the lengths count
@@ -58,7 +58,7 @@ module _ {A : Type 0} (refuse : ℕ → ℕ → A) (done : A) (cells : List ℕ)
       ≡ answer refuse (useRefusals m keys classes W (length border) ++ roomRefusals (length out) (length cells)) done
   unfolding usedFor
   used-by-lengths =
-      answer-part (λ (x : After A (List ℕ × List ℕ)). x .answer) (λ n p. after (refuse n p) (border, out)) (useRefusals m keys classes W (length border)) _
+      unless-answer refuse (useRefusals m keys classes W (length border)) (border, out) _
       ∙ ap (λ (a : A). answer refuse (useRefusals m keys classes W (length border)) a) (room-by-lengths refuse done cells out)
       ∙ sym (answer-append refuse (useRefusals m keys classes W (length border)) (roomRefusals (length out) (length cells)) done)
 
@@ -89,7 +89,7 @@ module _ {A : Type 0} (refuse : ℕ → ℕ → A) (done : A) (cells : List ℕ)
   unfolding usedFor
   used-told {a} {border′} {out′} other e =
       let room = roomFor refuse done cells out in
-      let x = Answers.accepted (λ n p. after (refuse n p) (border, out)) (useRefusals m keys classes W (length border)) (after (room .answer) (spent W border, room .lent))
+      let x = Answers.accepted _ (useRefusals m keys classes W (length border)) (after (room .answer) (spent W border, room .lent))
       (λ n p q. other n p (ap (λ (t : After A (List ℕ × List ℕ)). t .answer) q)) e in
       let y = room-told refuse done cells out other (ap (λ (t : After A (List ℕ × List ℕ)). after (t .answer) (t .lent .1)) (x .1)) in
       record { passed = x .0; room = y .room; says = y .says; leaves = ap (λ (t : After A (List ℕ × List ℕ)). t .lent .0) (x .1); writes = y .writes }

@@ -1,6 +1,6 @@
 -- What is asked of a window alone: its refusals, test by test and as a table, and what it answers and leaves.
 -- Assumes nothing.
-use mathlib.Core.Path.{_≡_, refl, ap, _∙_}
+use mathlib.Core.Path.{_≡_, ap, _∙_}
 use mathlib.Core.Logic.{_↔_}
 use mathlib.Core.Bool.{true, false}
 use mathlib.Core.List.{List}
@@ -12,7 +12,7 @@ use Rattle.answers.specs.Refusals.{answer, verdict}
 use Rattle.answers.specs.Sizes.{pictureRefusals}
 use Rattle.answers.specs.Cells.{overwrite}
 use Rattle.answers.specs.After.{After, after, roomRefusals}
-use Rattle.answers.proofs.Laws.{answer-part, answer-kept, on-passed, on-refused, append-passed, append-refused, passed-append, picture-passed, picture-refused}
+use Rattle.answers.proofs.Laws.{unless-answer, unless-kept, unless-said, on-passed, on-refused, append-passed, append-refused, passed-append, picture-passed, picture-refused}
 use Rattle.answers.proofs.Laws.{room-passed, room-refused, Numbered, numbered-append, numbered-picture, numbered-room}
 use Rattle.window.specs.declared.Window.{Window}
 use Rattle.window.specs.Window.{Inside, outside, windowRefusals}
@@ -60,7 +60,7 @@ module _ (m : ℕ) (W : Window) (needed room : ℕ) where
 module _ {A : Type 0} (refuse : ℕ → ℕ → A) (done : A) (cells : List ℕ) (m : ℕ) (W : Window) (out : List ℕ) where
   given : {n p : ℕ} → verdict (drawnRefusals m W (length cells) (length out)) ≡ Refused n p → drawnFor refuse done cells m W out ≡ after (refuse n p) out
   unfolding drawnFor
-  given e = on-refused (λ n p. after (refuse n p) out) (drawnRefusals m W (length cells) (length out)) _ e
+  given e = on-refused _ (drawnRefusals m W (length cells) (length out)) _ e
 
   pub drawn-over : 12 < m → drawnFor refuse done cells m W out ≡ after (refuse 1 0) out
   drawn-over l = given (table-over m W _ _ l)
@@ -75,8 +75,7 @@ module _ {A : Type 0} (refuse : ℕ → ℕ → A) (done : A) (cells : List ℕ)
 
       pub drawn-done : length cells ≤ length out → drawnFor refuse done cells m W out ≡ after done (overwrite cells out)
       unfolding drawnFor
-      drawn-done h =
-          on-passed (λ n p. after (refuse n p) out) (drawnRefusals m W (length cells) (length out)) _ (behind m W _ _ l e ∙ room-passed (length out) (length cells) .1 h)
+      drawn-done h = on-passed _ (drawnRefusals m W (length cells) (length out)) _ (behind m W _ _ l e ∙ room-passed (length out) (length cells) .1 h)
 
   -- ---- and as a whole
 
@@ -84,21 +83,19 @@ module _ {A : Type 0} (refuse : ℕ → ℕ → A) (done : A) (cells : List ℕ)
   pub drawn-said : {B : Type 0} (say : A → B) → (let o = drawnFor refuse done cells m W out in after (say (o .answer)) (o .lent))
       ≡ drawnFor (λ n p. say (refuse n p)) (say done) cells m W out
   unfolding drawnFor
-  drawn-said say =
-      answer-part (λ (x : After A (List ℕ)). after (say (x .answer)) (x .lent)) (λ n p. after (refuse n p) out) (drawnRefusals m W (length cells) (length out)) _
+  drawn-said say = unless-said refuse (drawnRefusals m W (length cells) (length out)) out _ say
 
   -- of the slice only the length counts for the answer
   pub drawn-by-length : drawnFor refuse done cells m W out .answer ≡ answer refuse (drawnRefusals m W (length cells) (length out)) done
   unfolding drawnFor
-  drawn-by-length = answer-part (λ (x : After A (List ℕ)). x .answer) (λ n p. after (refuse n p) out) (drawnRefusals m W (length cells) (length out)) _
+  drawn-by-length = unless-answer refuse (drawnRefusals m W (length cells) (length out)) out _
 
   -- what an answered call leaves in it
   pub drawn-leaves : verdict (drawnRefusals m W (length cells) (length out)) ≡ Passed → drawnFor refuse done cells m W out .lent ≡ overwrite cells out
   unfolding drawnFor
-  drawn-leaves e = ap (λ (x : After A (List ℕ)). x .lent) (on-passed (λ n p. after (refuse n p) out) (drawnRefusals m W (length cells) (length out)) _ e)
+  drawn-leaves e = ap (λ (x : After A (List ℕ)). x .lent) (on-passed _ (drawnRefusals m W (length cells) (length out)) _ e)
 
   -- a refusal leaves it as it was
   pub drawn-untouched : (verdict (drawnRefusals m W (length cells) (length out)) ≡ Passed → ⊥) → drawnFor refuse done cells m W out .lent ≡ out
   unfolding drawnFor
-  drawn-untouched held =
-      answer-kept (λ (x : After A (List ℕ)). x .lent) (λ n p. after (refuse n p) out) (drawnRefusals m W (length cells) (length out)) _ (λ n p. refl) held
+  drawn-untouched held = unless-kept refuse (drawnRefusals m W (length cells) (length out)) out _ held

@@ -3,10 +3,10 @@
 use mathlib.Core.List.{List, _++_}
 use Prim.Native.Nat.{ℕ}
 use lib.ListN.{length}
-use Rattle.answers.specs.Refusals.{Refusal, answer}
+use Rattle.answers.specs.Refusals.{Refusal}
 use Rattle.answers.specs.Sizes.{pictureRefusals}
 use Rattle.answers.specs.Cells.{overwrite}
-use Rattle.answers.specs.After.{After, after, roomRefusals}
+use Rattle.answers.specs.After.{After, after, unless, roomRefusals}
 use Rattle.window.specs.declared.Window.{Window}
 use Rattle.window.specs.Window.{windowRefusals}
 
@@ -16,5 +16,4 @@ drawnRefusals m W needed room = pictureRefusals m ++ (windowRefusals m W ++ room
 
 -- whatever answers `done` and writes `cells`; a refusal leaves the slice as it was
 unfoldable pub drawnFor : {A : Type 0} → (ℕ → ℕ → A) → A → List ℕ → ℕ → Window → List ℕ → After A (List ℕ)
-drawnFor refuse done cells m W out =
-    answer (λ number place. after (refuse number place) out) (drawnRefusals m W (length cells) (length out)) (after done (overwrite cells out))
+drawnFor refuse done cells m W out = unless refuse (drawnRefusals m W (length cells) (length out)) out (after done (overwrite cells out))

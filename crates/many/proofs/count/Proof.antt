@@ -6,12 +6,12 @@ use lib.ListN.{length}
 use borrow.Author.Needs.{needs}
 use Rattle.answers.specs.declared.Verdict.the-variants.{Passed}
 use Rattle.answers.specs.Refusals.{verdict}
+use Rattle.answers.proofs.Laws.{on-passed, on-refused}
 use Rattle.many.specs.Many.{manyRefusals}
 use Rattle.many.specs.Promises.{Askable}
 use Rattle.many.proofs.Windows.{windows-length}
 use Rattle.many.proofs.Border.{widest-wider}
-use Rattle.many.proofs.Tables.{many-askable}
-use Rattle.many.proofs.Outcome.{many-refused, many-done}
+use Rattle.many.proofs.Tables.{many-askable, many-is}
 use Rattle.many.proofs.count.Statement.{statement}
 use Rattle.many.proofs.count.Tie as tie
 
@@ -22,7 +22,7 @@ enum-known-verdict : tie.Need-enum-known-verdict
 enum-known-verdict c = search needs
 
 returns : tie.Need-returns
-returns c = sym (many-refused _ _ _ _ _ _ (sym (c .before .before .before .askable .ensures) ∙ c .before .verdict .given .1))
+returns c = sym (many-is _ _ _ _ _ _ ∙ on-refused _ _ _ (sym (c .before .before .before .askable .ensures) ∙ c .before .verdict .given .1))
 
 enum-told : tie.Need-enum-told
 enum-told c = search needs
@@ -62,7 +62,7 @@ returns-2 : tie.Need-returns-2
 returns-2 c =
     let k = told c in
     let p = c .before .before .before .before .put-lines .ensures in
-    rw (p .0, p .1, ← windows-length (entry k .args .windows .now)) (sym (many-done _ _ _ _ _ _ (passed k)))
+    rw (p .0, p .1, ← windows-length (entry k .args .windows .now)) (sym (many-is _ _ _ _ _ _ ∙ on-passed _ _ _ (passed k)))
 
 pub count-spec : {M : Type 1} → statement M
 count-spec =

@@ -8,6 +8,7 @@ use lib.ListN.{length, length-set}
 use borrow.Author.Needs.{needs}
 use Rattle.answers.specs.declared.Verdict.the-variants.{Passed}
 use Rattle.answers.specs.Refusals.{verdict}
+use Rattle.answers.proofs.Laws.{on-passed, on-refused}
 use Rattle.window.proofs.Laws.{inside-12}
 use Rattle.used.specs.Used.{useRefusals, spent}
 use Rattle.used.proofs.Laws.{use-answerable, use-known, use-same, use-whole}
@@ -16,7 +17,7 @@ use Rattle.month.specs.Month.{windowIn, addRefusals}
 use Rattle.month.specs.Promises.{Ongoing, Addable}
 use Rattle.month.proofs.Sanity.{narrowed-inside}
 use Rattle.month.proofs.Tables.{add-addable}
-use Rattle.month.proofs.Adding.{grown-stored, stored-fits, add-refused, add-done}
+use Rattle.month.proofs.Adding.{grown-stored, stored-fits, add-is}
 use Rattle.month.proofs.add.Statement.{statement}
 use Rattle.month.proofs.add.Tie as tie
 
@@ -30,7 +31,7 @@ same-length : tie.Need-same-length
 same-length c = search needs
 
 returns : tie.Need-returns
-returns c = sym (add-refused _ _ _ _ _ (sym (c .before .before .before .addable .ensures) ∙ c .before .verdict .given .1))
+returns c = sym (add-is _ _ _ _ _ ∙ on-refused _ _ _ (sym (c .before .before .before .addable .ensures) ∙ c .before .verdict .given .1))
 
 enum-told : tie.Need-enum-told
 enum-told c = search needs
@@ -120,7 +121,7 @@ returns-2 : tie.Need-returns-2
 returns-2 c =
     let at = c .before .before .before .before .before .before .before .before in
     let grown = c .before .before .add-rows .ensures ∙ grown-stored _ _ _ _ (goes-on at .long) (goes-on at .same) (counted at) in
-    rw (spends at, grown) (sym (add-done _ _ _ _ _ (passed (told (drawn at)))))
+    rw (spends at, grown) (sym (add-is _ _ _ _ _ ∙ on-passed _ _ _ (passed (told (drawn at)))))
 
 pub add-spec : {M : Type 1} → statement M
 add-spec =
