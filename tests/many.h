@@ -1,6 +1,6 @@
 /*
- * Groups of cases about many windows on one map. Besides the comparison, an answered list is held against the library's
- * own calls about its windows one by one, and against the same list cut in two.
+ * Groups of cases about many windows on one map. Besides the comparison, lists of most groups are held against the
+ * library's own calls about their windows one by one, and against the same list cut in two.
  */
 #ifndef MANY_H
 #define MANY_H
