@@ -1,6 +1,7 @@
 # From the figures of bench/README.md: a line "operation | map | window | instructions of the library" for each cell of
 # the first two tables; of the third, two such lines for each key, with the instructions and with the divisions; and a
-# line for each cell with a tile of 32 x 32 pixels, and for each of many windows.
+# line for each cell with a tile of 32 x 32 pixels, for each of many windows, and for each of asking why, whose table
+# has the columns of the first.
 function cell(operation, map, window, count) { print operation " | " map " | " window " | " count }
 
 BEGIN { FS = "|" }

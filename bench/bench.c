@@ -1,7 +1,7 @@
 /*
  * The instructions of the library's operations, beside those of the programs in programs.h: tables over maps and
- * windows, what reading a key takes, what a tile costs, what many windows take in one call, what they say in short, how
- * the operations grow, and the experiment with random windows.
+ * windows, what reading a key takes, what a tile costs, what many windows take in one call, what it takes to say why,
+ * what the tables say in short, how the operations grow, and the experiment with random windows.
  *
  *     bench FILE-OF-COUNTS FILE-OF-BEFORE PLOT
  */
@@ -12,6 +12,7 @@
 #include "reading.h"
 #include "summary.h"
 #include "tiles.h"
+#include "why.h"
 
 #include <inttypes.h>
 #include <stdio.h>
@@ -151,6 +152,7 @@ int main(int argc, char **argv)
     print_reading();
     print_tiles(cells, n_cells);
     n_cells = print_many(cells, n_cells);
+    n_cells = print_why(cells, n_cells);
     print_summaries(cells, n_cells);
     print_against_before(cells, n_cells);
     print_wanted(cells, n_cells);

@@ -21,6 +21,13 @@ void name_cell(const cell *c, char name[LONGEST_NAME])
     snprintf(name, LONGEST_NAME, "%s%s%s", map_name(c), takes_window(c->operation) ? " " : "", window_name(c));
 }
 
+void name_call(const cell *c, char name[LONGEST_CALL])
+{
+    char on[LONGEST_NAME];
+    name_cell(c, on);
+    snprintf(name, LONGEST_CALL, "%s, %s", operation_names[c->operation], on);
+}
+
 /* ---- What it took before ---- */
 
 enum { LONGEST_LINE = 100, MOST_LINES = MOST_CELLS + 100 };
@@ -123,11 +130,10 @@ cell measure_cell(int operation, const map *a, int map_number, int window_number
 {
     static result r;
     bool adds = operation >= ADD_FIRST;
-    cell c = {operation, map_number, window_number, a->q, 0, 0, 0, 0, 0, 0, 0};
+    cell c = {operation, map_number, window_number, a->q, 0, 0, 0, 0, 0, 0, 0, 0};
     rectangle at = make_window(a->m, window_number);
-    char where[LONGEST_LINE], name[LONGEST_NAME];
-    name_cell(&c, name);
-    snprintf(where, sizeof where, "%s, %s", operation_names[operation], name);
+    char where[LONGEST_CALL];
+    name_call(&c, where);
     measure(&library, operation, a, at, &r);
     if (r.answer.refusal != 0)
         wrong("the library refuses", where);

@@ -8,14 +8,15 @@ enum { MOST_CELLS = OPERATIONS * MAPS * BATCHES };
 
 /*
  * Instructions. Those past the check are 0 where a call checks no map or does nothing else, and of adding a map to a
- * month. Of that and of many windows those of fastest C are 0, and those before too unless the file has them. Singles:
- * what opening the same windows one by one takes; 0 but of many windows.
+ * month. Of that, of many windows and of asking why those of fastest C are 0, and those before too unless the file has
+ * them. Opening: what opening the same window takes, or many windows one by one; 0 but of many windows and of asking
+ * why.
  */
 typedef struct {
     int operation, map, window;
     size_t records;
-    int64_t library, plain, fastest, before;
-    int64_t past_library, past_plain, past_singles;
+    int64_t library, plain, fastest, before, opening;
+    int64_t past_library, past_plain, past_opening;
 } cell;
 
 /* Reads what each cell took before: a file with a line "operation | map | window | instructions" for each. In lines of
@@ -25,7 +26,7 @@ void read_before(const char *file);
 /* What such a line says; -1 where there is none. */
 int64_t told_before(const char *operation, const char *on, const char *window);
 
-/* The same of a cell; 0 where it is not told, as it need not be of a month or of many windows. */
+/* The same of a cell; 0 where it is not told, as it need not be of a month, of many windows or of asking why. */
 int64_t cell_before(const cell *c, const char *where);
 
 /* The map is that of the number. */
@@ -38,8 +39,10 @@ const cell *find_cell(const cell *cells, int n, int operation, int map_number, i
 const char *map_name(const cell *c);
 const char *window_name(const cell *c);
 
-enum { LONGEST_NAME = 60 };
+enum { LONGEST_NAME = 60, LONGEST_CALL = 100 };
 /* Map and window. */
 void name_cell(const cell *c, char name[LONGEST_NAME]);
+/* Operation, map and window. */
+void name_call(const cell *c, char name[LONGEST_CALL]);
 
 #endif

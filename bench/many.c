@@ -4,9 +4,9 @@
  */
 #include "many.h"
 
+#include "beside.h"
 #include "summary.h"
 
-#include <inttypes.h>
 #include <stdio.h>
 #include <string.h>
 
@@ -112,43 +112,23 @@ static int64_t measure_singles(result *must, const char *where)
 
 /* ---- The table ---- */
 
-/* What stands beside the library's, and how many times that the library takes; with a mark where that is too much. */
-static void print_beside(int width, int decimals, double other, double ours, double most)
-{
-    double times = ours / other;
-    printf(" %*.*f | %6.3f%s |", width, decimals, other, times, times > most ? "*" : " ");
-}
-
-static void print_row(const cell *c, int64_t singles)
-{
-    double whole = (double)c->library, each = (double)c->past_library / N;
-    printf("| %-11s | %-15s | %9" PRId64 " |", window_name(c), map_name(c), c->library);
-    print_beside(9, 0, (double)singles, whole, 1e9);
-    print_beside(9, 0, (double)c->plain, whole, MOST_OF_PLAIN);
-    printf(" %10.1f |", each);
-    print_beside(9, 1, (double)c->past_singles / N, each, MOST_OF_SINGLES);
-    print_beside(9, 1, (double)c->past_plain / N, each, MOST_OF_PLAIN);
-    printf("\n");
-    fflush(stdout);
-}
-
 /* Returns what was measured. */
 static cell print_batch(int number, int kind)
 {
     static result must;
-    cell c = {MANY, number, kind, a.q, 0, 0, 0, 0, 0, 0, 0};
+    cell c = {MANY, number, kind, a.q, 0, 0, 0, 0, 0, 0, 0, 0};
     char name[LONGEST_NAME];
-    int64_t singles;
     name_cell(&c, name);
     make_windows(kind);
-    singles = measure_singles(&must, name);
+    c.opening = measure_singles(&must, name);
     c.library = measure_list(&library, N * CELLS_OF_WINDOW, &must, name);
     c.plain = measure_list(&plain, N * CELLS_OF_WINDOW, &must, name);
     c.before = cell_before(&c, name);
     c.past_library = c.library - measure_refused(&library);
     c.past_plain = c.plain - measure_refused(&plain);
-    c.past_singles = singles - N * measure_check(&library, OPEN, &a);
-    print_row(&c, singles);
+    c.past_opening = c.opening - N * measure_check(&library, OPEN, &a);
+    printf("| %-11s | %-15s |", window_name(&c), map_name(&c));
+    print_beside_opening(&c, N, MOST_OF_SINGLES);
     return c;
 }
 

@@ -33,6 +33,11 @@ extern const char *const window_names[BATCHES];
 
 rectangle make_window(uint32_t m, int number);
 
+/* A block, by its north-west corner. */
+typedef struct {
+    int row, col, exponent;
+} block;
+
 /* A number below n. From the same state on there come the same numbers. */
 uint32_t below(uint64_t *state, uint32_t n);
 

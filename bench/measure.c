@@ -12,23 +12,37 @@
 #include <unistd.h>
 
 const program library = {
-    "library",        lutniorad_check, lutniorad_decompose, lutniorad_open,      lutniorad_exist,   lutniorad_report,
-    lutniorad_select, lutniorad_read,  lutniorad_write,     lutniorad_month_add, lutniorad_windows,
+    "library",         lutniorad_check,      lutniorad_decompose, lutniorad_open,  lutniorad_exist,
+    lutniorad_report,  lutniorad_select,     lutniorad_read,      lutniorad_write, lutniorad_month_add,
+    lutniorad_windows, lutniorad_why_record, lutniorad_why_block,
 };
 const program plain = {
-    "plain C",    plain_check, plain_decompose, plain_open,      plain_exist,   plain_report,
-    plain_select, plain_read,  plain_write,     plain_month_add, plain_windows,
+    "plain C",  plain_check, plain_decompose, plain_open,    plain_exist,      plain_report,    plain_select,
+    plain_read, plain_write, plain_month_add, plain_windows, plain_why_record, plain_why_block,
 };
 const program fastest = {
-    "fastest C",    fastest_check, fastest_decompose, fastest_open, fastest_exist, fastest_report,
-    fastest_select, fastest_read,  fastest_write,     NULL,         NULL,
+    "fastest C",  fastest_check, fastest_decompose, fastest_open, fastest_exist, fastest_report, fastest_select,
+    fastest_read, fastest_write, NULL,              NULL,         NULL,          NULL,
 };
-const program growing = {"growing list", NULL, NULL, growing_open, NULL, NULL, NULL, NULL, NULL, NULL, NULL};
-const program every = {"every block", NULL, NULL, every_open, NULL, NULL, NULL, NULL, NULL, NULL, NULL};
+const program growing = {.name = "growing list", .open = growing_open};
+const program every = {.name = "every block", .open = every_open};
 
 const char *const operation_names[OPERATIONS] = {
-    "check", "decompose", "open",                 "exist",               "report",  "select",
-    "read",  "write",     "month_add, first map", "month_add, next map", "windows",
+    "check",
+    "decompose",
+    "open",
+    "exist",
+    "report",
+    "select",
+    "read",
+    "write",
+    "month_add, first map",
+    "month_add, next map",
+    "windows",
+    "why_record, handed out",
+    "why_record, outside",
+    "why_block, opened",
+    "why_block, skipped",
 };
 
 bool takes_window(int operation)
@@ -45,6 +59,26 @@ void wrong(const char *why, const char *where)
 {
     printf("WRONG: %s (%s)\n", why, where);
     exit(1);
+}
+
+block block_of(uint32_t m, uint32_t key, const char *where)
+{
+    block b = {0, 0, (int)m};
+    uint32_t weight = 1;
+    for (uint32_t i = 0; i < m; i++)
+        weight *= 5;
+    while (key > 0) {
+        int quadrant;
+        weight /= 5;
+        quadrant = (int)(key / weight) - 1;
+        if (quadrant < 0 || quadrant > 3)
+            wrong("a key names no block", where);
+        key %= weight;
+        b.exponent--;
+        b.row += quadrant / 2 << b.exponent;
+        b.col += quadrant % 2 << b.exponent;
+    }
+    return b;
 }
 
 /* The file of a map. */
@@ -132,6 +166,7 @@ __attribute__((always_inline)) static inline void measure_either(const program *
                                                                  const map *a, rectangle at, result *r)
 {
     static counted around; /* the marks */
+    static const lutniorad_reason none;
     counted took;
     if (around.instructions == 0)
         around = marked(p, NOTHING, NULL, a, at, r);
@@ -140,6 +175,7 @@ __attribute__((always_inline)) static inline void measure_either(const program *
     memset(r->bytes, 0xA5, sizeof r->bytes);
     lutniorad_write(a->m, a->keys, a->q, a->classes, a->q, map_file, sizeof map_file);
     make_month(r->table, a->m, at, operation == ADD_NEXT);
+    r->reason = none;
     took = minus(marked(p, operation, with, a, at, r), around);
     r->instructions = took.instructions;
     r->divisions = took.divisions;
@@ -159,6 +195,7 @@ void measure_direct(direct_call *f, const map *a, rectangle at, uint32_t number,
 bool same_answers(const result *x, const result *y)
 {
     return memcmp(&x->answer, &y->answer, sizeof x->answer) == 0 &&
+           memcmp(&x->reason, &y->reason, sizeof x->reason) == 0 &&
            memcmp(x->border, y->border, sizeof x->border) == 0 && memcmp(x->out, y->out, sizeof x->out) == 0 &&
            memcmp(x->table, y->table, sizeof x->table) == 0 && memcmp(x->bytes, y->bytes, sizeof x->bytes) == 0;
 }

@@ -18,12 +18,32 @@ typedef struct {
     write_function *write;
     month_add_function *month_add;
     windows_function *windows;
+    why_function *why_record, *why_block;
 } program;
 
-/* Fastest adds no map and takes no list of windows, and the last two only open. */
+/* Fastest adds no map, takes no list of windows and does not say why, and the last two only open. */
 extern const program library, plain, fastest, growing, every;
 
-enum { CHECK, DECOMPOSE, OPEN, EXIST, REPORT, SELECT, READ, WRITE, ADD_FIRST, ADD_NEXT, MANY, OPERATIONS, NOTHING };
+/* Of asking why there is one for each kind of answer. */
+enum {
+    CHECK,
+    DECOMPOSE,
+    OPEN,
+    EXIST,
+    REPORT,
+    SELECT,
+    READ,
+    WRITE,
+    ADD_FIRST,
+    ADD_NEXT,
+    MANY,
+    WHY_HANDED_OUT,
+    WHY_OUTSIDE,
+    WHY_OPENED,
+    WHY_SKIPPED,
+    OPERATIONS,
+    NOTHING
+};
 extern const char *const operation_names[OPERATIONS];
 
 bool takes_window(int operation);
@@ -40,6 +60,7 @@ enum { CELLS = 4096, ROOM = LUTNIORAD_OPEN_TILED_CELLS(5, 4096, 4096) };
 typedef struct {
     int64_t instructions, divisions;
     lutniorad_answer answer;
+    lutniorad_reason reason; /* what a call says that returns one, and no answer */
     uint16_t border[CELLS];
     uint32_t out[ROOM];
     uint64_t table[MONTH_CELLS];
@@ -57,8 +78,8 @@ void begin_measuring(const char *counts);
 void measure(const program *p, int operation, const map *a, rectangle at, result *r);
 
 /*
- * A call that is made directly, with a number and so many out cells. The number is the tile of a call that has one, or
- * how many cells a list of windows has.
+ * A call that is made directly, with a number and so many out cells. The number is the tile of a call that has one, how
+ * many cells a list of windows has, or the record or block about which it is asked why.
  */
 typedef lutniorad_answer direct_call(const map *a, rectangle at, uint32_t number, size_t room, result *r);
 
@@ -78,5 +99,8 @@ lutniorad_answer call(const program *p, int operation, const map *a, rectangle a
 
 /* Ends the run: a bench of a wrong program shows nothing. */
 void wrong(const char *why, const char *where);
+
+/* The block of a key. Where there is none, that is wrong. */
+block block_of(uint32_t m, uint32_t key, const char *where);
 
 #endif

@@ -21,6 +21,10 @@ typedef struct {
     uint32_t row, col, exponent, after;
 } block;
 
+typedef struct {
+    uint32_t row, col;
+} position;
+
 /*
  * So many records of a map, from the first on, which overlap a block; and the exponent of the larger of the block and
  * the record of its first place.
@@ -189,6 +193,28 @@ static inline bool read_key(uint32_t m, uint32_t key, uint32_t *exponent, uint32
     bare = strip_zeros(key);
     *exponent = bare.zeros;
     return read_digits(m, bare, start);
+}
+
+/* The pixel at a place, by the place's m digits in base 4, the most significant first. */
+static inline position pixel_of(uint32_t m, uint32_t place)
+{
+    position at = {0, 0};
+    for (uint32_t k = m; k-- > 0;) {
+        uint32_t digit = place / pixels(k) % 4;
+        at.row = 2 * at.row + digit / 2;
+        at.col = 2 * at.col + digit % 2;
+    }
+    return at;
+}
+
+/* The block of a key, by its exponent and its corner; false where it is malformed. */
+static inline bool square_of(uint32_t m, uint32_t key, uint32_t *exponent, position *corner)
+{
+    uint32_t start;
+    if (!read_key(m, key, exponent, &start))
+        return false;
+    *corner = pixel_of(m, start);
+    return true;
 }
 
 static inline uint32_t alignment(uint32_t m, uint32_t x)

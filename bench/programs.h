@@ -55,6 +55,13 @@ typedef lutniorad_answer windows_function(uint32_t m,
                                           uint16_t *border, size_t n_border,
                                           uint32_t *out, size_t n_out);
 
+typedef lutniorad_reason why_function(uint32_t m,
+                                      const uint32_t *keys, size_t n_keys,
+                                      const uint8_t *classes, size_t n_classes,
+                                      uint16_t r0, uint16_t c0, uint16_t h, uint16_t w,
+                                      uint32_t number, /* the index of a record, or the key of a block */
+                                      uint16_t *border, size_t n_border);
+
 typedef lutniorad_answer read_function(const uint8_t *file, size_t n,
                                        uint32_t *keys, size_t n_keys,
                                        uint8_t *classes, size_t n_classes);
@@ -74,5 +81,6 @@ read_function plain_read, fastest_read;
 write_function plain_write, fastest_write;
 month_add_function plain_month_add;
 windows_function plain_windows;
+why_function plain_why_record, plain_why_block;
 
 #endif

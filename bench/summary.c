@@ -42,7 +42,7 @@ static void print_ratios(const char *name, const char *part, ratios *of_plain, r
     double middle = median(of_plain);
     snprintf(whole, sizeof whole, "%s%s", name, part);
     name_cell(of_plain->worst, where);
-    printf("| %-23s | %6.2f | %6.2f%s | %8.2f | %-22s | %2d of %2d |", whole, of_plain->ratios[0], middle,
+    printf("| %-38s | %6.2f | %6.2f%s | %8.2f | %-22s | %2d of %2d |", whole, of_plain->ratios[0], middle,
            middle > MOST_OF_PLAIN ? "*" : " ", of_plain->greatest, where, of_plain->over, of_plain->n);
     if (of_fastest->n > 0)
         printf(" %17.2f |\n", median(of_fastest));
@@ -73,11 +73,11 @@ void print_summaries(const cell *cells, int n)
     printf("\nThe aim: at most %.1f times the plain C, in the median of each operation. * marks where that is not "
            "reached, in the table for each cell.\n\n",
            MOST_OF_PLAIN);
-    printf("| library / plain C       |  least | median  | greatest | where                  | over %.1f | "
-           "median of fastest |\n",
+    printf("| library / plain C                      |  least | median  | greatest | where                  | "
+           "over %.1f | median of fastest |\n",
            MOST_OF_PLAIN);
-    printf("| :---------------------- | -----: | ------: | -------: | :--------------------- | -------: | "
-           "----------------: |\n");
+    printf("| :------------------------------------- | -----: | ------: | -------: | :--------------------- | "
+           "-------: | ----------------: |\n");
     for (int operation = 0; operation < OPERATIONS; operation++)
         summarize(operation, cells, n);
 }
@@ -149,7 +149,7 @@ static void print_want_of_many(const cell *cells, int n)
     double most = 0;
     for (const cell *c = cells; c < cells + n; c++)
         if (c->operation == MANY) {
-            double times = (double)c->past_library / (double)c->past_singles;
+            double times = (double)c->past_library / (double)c->past_opening;
             if (times > most)
                 most = times;
         }

@@ -147,28 +147,9 @@ static void print_whole(const cell *cells, int n)
 
 enum { TILE = 5 };
 
-typedef struct {
-    int row, col, exponent;
-} block;
-
 static block read_key(uint32_t key)
 {
-    block b = {0, 0, (int)a.m};
-    uint32_t weight = 1;
-    for (uint32_t i = 0; i < a.m; i++)
-        weight *= 5;
-    while (key > 0) {
-        int quadrant;
-        weight /= 5;
-        quadrant = (int)(key / weight) - 1;
-        if (quadrant < 0 || quadrant > 3)
-            wrong("a key names no block", "with a tile");
-        key %= weight;
-        b.exponent--;
-        b.row += quadrant / 2 << b.exponent;
-        b.col += quadrant % 2 << b.exponent;
-    }
-    return b;
+    return block_of(a.m, key, "with a tile");
 }
 
 /* May it be a block of the window, maximal or not? */

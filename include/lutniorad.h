@@ -36,9 +36,9 @@
  * with a pixel in the window is handed out once, and no other is; and no choice of maximal blocks that meets all of
  * these records has fewer blocks than there are openings.
  *
- * The BORDER is lent for opening a window, or many, for each question about its classes and for adding a map to a
- * month: a 16-bit cell for each column of the window. It holds how far down the column has been handed out. So in the
- * end each of the first w cells is r0 + h; after many windows, by the last of them that reached the cell.
+ * The BORDER is lent for opening a window, or many, for each question about its classes or its openings, and for adding
+ * a map to a month: a 16-bit cell for each column of the window. It holds how far down the column has been handed out.
+ * So in the end each of the first w cells is r0 + h; after many windows, by the last of them that reached the cell.
  *
  * A MONTH is a table of what maps of one m, added one after another, have in one window: 1,030 cells of 64 bits, which
  * the caller keeps from one call to the next.
@@ -108,9 +108,9 @@
 
 /* The version of this header and of the library that belongs to it, as numbers and as text. */
 #define LUTNIORAD_VERSION_MAJOR 1 /* rises when a program made for the last one may have to be changed */
-#define LUTNIORAD_VERSION_MINOR 2 /* rises when there are more calls */
+#define LUTNIORAD_VERSION_MINOR 3 /* rises when there are more calls */
 #define LUTNIORAD_VERSION_PATCH 0
-#define LUTNIORAD_VERSION "1.2.0"
+#define LUTNIORAD_VERSION "1.3.0"
 
 /* The limits. */
 #define LUTNIORAD_MOST_M 12
@@ -144,12 +144,22 @@ extern "C" {
 #endif
 
 /*
- * What every call returns. Where `refusal` is 0 the call was answered: `place` is 0, and `first` and `second` are as
- * said with the call. Otherwise it was refused, `first` and `second` are 0, and the other two numbers say why.
+ * What every call returns, but for two. Where `refusal` is 0 the call was answered: `place` is 0, and `first` and
+ * `second` are as said with the call. Otherwise it was refused, `first` and `second` are 0, and the other two numbers
+ * say why.
  */
 typedef struct {
     uint32_t refusal, place, first, second;
 } lutniorad_answer;
+
+/*
+ * What lutniorad_why_record and lutniorad_why_block return. Where `refusal` is 0 the call was answered: `place` is 0,
+ * `said` is one of the seven numbers below, and `record` and `opening` are as said there. Otherwise it was refused,
+ * these three are 0, and the other two numbers say why.
+ */
+typedef struct {
+    uint32_t refusal, place, said, record, opening;
+} lutniorad_reason;
 
 /*
  * The reasons of refusal: a name, the number and a sentence, and behind these what `place` is, where it is not 0; an
@@ -170,6 +180,8 @@ typedef struct {
     REFUSAL(LUTNIORAD_OTHER_M, 15, "the m of the map is not that of the table") \
     REFUSAL(LUTNIORAD_MONTH_FULL, 16, "the table has 1,000 maps already") \
     REFUSAL(LUTNIORAD_BAD_TILE, 17, "the tile is larger than the picture") \
+    REFUSAL(LUTNIORAD_NO_RECORD, 19, "the map has no record of this index") \
+    REFUSAL(LUTNIORAD_NOT_MAXIMAL, 22, "the key is that of no maximal block of the window") \
     REFUSAL(LUTNIORAD_BAD_WINDOW_LIST, 25, "the list of windows is not in fours, or has more than 256 windows") \
     REFUSAL(LUTNIORAD_BAD_TABLE, 26, "the table is no month's: its window, count of maps or a class cannot be")
 
@@ -305,6 +317,65 @@ lutniorad_answer lutniorad_windows(uint32_t m,
                                    const uint16_t *windows, size_t n_windows,
                                    uint16_t *border, size_t n_border,
                                    uint32_t *out, size_t n_out);
+
+/* What `said` can be: the first five of a record, the last two of a maximal block. */
+enum {
+    LUTNIORAD_HANDED_OUT = 1, /* the record is handed out by opening number `opening` */
+    LUTNIORAD_NORTH = 2,      /* it is not: all its rows are above the window's */
+    LUTNIORAD_SOUTH = 3,      /* it is not: all its rows are below the window's */
+    LUTNIORAD_WEST = 4,       /* it is not: all its columns are before the window's */
+    LUTNIORAD_EAST = 5,       /* it is not: all its columns are behind the window's */
+    LUTNIORAD_OPENED = 6,     /* the block is opened, as opening number `opening` */
+    LUTNIORAD_SKIPPED = 7     /* it is skipped: it lies in record `record`, which opening number `opening` handed out */
+};
+
+/*
+ * Why is this record on the list of lutniorad_open for this window, or is it not?
+ *
+ * `record` is the index of a record of the map, from 0, and comes back as `record`. Answers `said` =
+ * LUTNIORAD_HANDED_OUT, and `opening` is the number, from 0, of the one opening in the list that hands it out. Or the
+ * record shares no pixel with the window: `said` is the first that is true of LUTNIORAD_NORTH, LUTNIORAD_SOUTH,
+ * LUTNIORAD_WEST and LUTNIORAD_EAST, and `opening` is 0. So a record that lies north and east of the window is said to
+ * lie north.
+ *
+ * The first w cells of `border` are then r0 + h. The list itself is not needed, and nothing is kept of it.
+ *
+ * On the map and the window of lutniorad_open's example, record 3 gives LUTNIORAD_HANDED_OUT by opening 1, and record 5
+ * by opening 2. For the window r0 = 2, c0 = 2, h = 1, w = 1, record 0 gives LUTNIORAD_NORTH, and record 5
+ * LUTNIORAD_WEST.
+ *
+ * Refuses by 1 to 7, as lutniorad_open does; and 19 when `record` is Q or more. A refusal writes nothing.
+ */
+lutniorad_reason lutniorad_why_record(uint32_t m,
+                                      const uint32_t *keys, size_t n_keys,
+                                      const uint8_t *classes, size_t n_classes,
+                                      uint16_t r0, uint16_t c0, uint16_t h, uint16_t w,
+                                      uint32_t record,
+                                      uint16_t *border, size_t n_border);
+
+/*
+ * Why is this block on the list of lutniorad_open for this window, or is it not?
+ *
+ * `key` is that of a maximal block of the window, as lutniorad_decompose lists them. Answers `said` = LUTNIORAD_OPENED,
+ * `record` = 0, and `opening` is the number, from 0, of the one opening in the list that has this key. Or `said` =
+ * LUTNIORAD_SKIPPED: the block lies in record number `record`, and `opening` is the number of the one opening that
+ * handed that out, at a block that comes before this one.
+ *
+ * The first w cells of `border` are then r0 + h.
+ *
+ * On the map and the window of lutniorad_open's example, block 10 gives LUTNIORAD_OPENED as opening 1; block 9
+ * LUTNIORAD_SKIPPED for record 0, which opening 0 handed out; and block 22 LUTNIORAD_SKIPPED for record 6, which
+ * opening 3 handed out.
+ *
+ * Refuses by 1 to 7, as lutniorad_open does; and 22 when `key` is that of no maximal block of the window. A refusal
+ * writes nothing.
+ */
+lutniorad_reason lutniorad_why_block(uint32_t m,
+                                     const uint32_t *keys, size_t n_keys,
+                                     const uint8_t *classes, size_t n_classes,
+                                     uint16_t r0, uint16_t c0, uint16_t h, uint16_t w,
+                                     uint32_t key,
+                                     uint16_t *border, size_t n_border);
 
 /* What lutniorad_exist answers. */
 enum {

@@ -15,6 +15,7 @@
 #include "months.h"
 #include "queries.h"
 #include "tiles.h"
+#include "why.h"
 #include "windows.h"
 
 #include <string.h>
@@ -592,6 +593,11 @@ static const group groups[] = {
     {"vast lists", group_vast_lists, false},
     {"large lists", group_large_lists, true},
     {"random lists", group_random_lists, true},
+    {"reasons written out", group_reasons_written_out, false},
+    {"small reasons", group_small_reasons, false},
+    {"refusals of reasons", group_reason_refusals, false},
+    {"large reasons", group_large_reasons, true},
+    {"random reasons", group_random_reasons, true},
 };
 
 int main(int argc, char **argv)

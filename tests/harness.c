@@ -45,6 +45,10 @@ typedef struct {
     size_t length;
 } slice;
 
+/* Both calls that return a reason take the same. */
+typedef lutniorad_reason explanation(uint32_t, const uint32_t *, size_t, const uint8_t *, size_t, uint16_t, uint16_t,
+                                     uint16_t, uint16_t, uint32_t, uint16_t *, size_t);
+
 typedef struct {
     lutniorad_answer (*check)(uint32_t, const uint32_t *, size_t, const uint8_t *, size_t);
     lutniorad_answer (*decompose)(uint32_t, uint16_t, uint16_t, uint16_t, uint16_t, uint32_t *, size_t);
@@ -68,17 +72,20 @@ typedef struct {
                                      uint16_t, uint16_t, uint16_t, uint8_t, uint16_t *, size_t, uint32_t *, size_t);
     lutniorad_answer (*windows)(uint32_t, const uint32_t *, size_t, const uint8_t *, size_t, const uint16_t *, size_t,
                                 uint16_t *, size_t, uint32_t *, size_t);
+    explanation *why_record, *why_block;
 } program;
 
 static const program library = {
     lutniorad_check,           lutniorad_decompose,   lutniorad_open,         lutniorad_exist,   lutniorad_report,
     lutniorad_select,          lutniorad_month_clear, lutniorad_month_add,    lutniorad_read,    lutniorad_write,
-    lutniorad_decompose_tiled, lutniorad_open_tiled,  lutniorad_select_tiled, lutniorad_windows,
+    lutniorad_decompose_tiled, lutniorad_open_tiled,  lutniorad_select_tiled, lutniorad_windows, lutniorad_why_record,
+    lutniorad_why_block,
 };
 static const program reference = {
     reference_check,           reference_decompose,   reference_open,         reference_exist,   reference_report,
     reference_select,          reference_month_clear, reference_month_add,    reference_read,    reference_write,
-    reference_decompose_tiled, reference_open_tiled,  reference_select_tiled, reference_windows,
+    reference_decompose_tiled, reference_open_tiled,  reference_select_tiled, reference_windows, reference_why_record,
+    reference_why_block,
 };
 
 static lutniorad_answer run_check(const program *p, const call *c, const slice *s)
@@ -100,7 +107,7 @@ static lutniorad_answer run_open(const program *p, const call *c, const slice *s
 static lutniorad_answer run_exist(const program *p, const call *c, const slice *s)
 {
     return p->exist(c->m, s[0].cells, s[0].length, s[1].cells, s[1].length, c->at.r0, c->at.c0, c->at.h, c->at.w,
-                    c->of_class, s[2].cells, s[2].length);
+                    (uint8_t)c->about, s[2].cells, s[2].length);
 }
 
 static lutniorad_answer run_report(const program *p, const call *c, const slice *s)
@@ -112,7 +119,7 @@ static lutniorad_answer run_report(const program *p, const call *c, const slice 
 static lutniorad_answer run_select(const program *p, const call *c, const slice *s)
 {
     return p->select(c->m, s[0].cells, s[0].length, s[1].cells, s[1].length, c->at.r0, c->at.c0, c->at.h, c->at.w,
-                     c->of_class, s[2].cells, s[2].length, s[3].cells, s[3].length);
+                     (uint8_t)c->about, s[2].cells, s[2].length, s[3].cells, s[3].length);
 }
 
 static lutniorad_answer run_month_clear(const program *p, const call *c, const slice *s)
@@ -151,7 +158,7 @@ static lutniorad_answer run_open_tiled(const program *p, const call *c, const sl
 static lutniorad_answer run_select_tiled(const program *p, const call *c, const slice *s)
 {
     return p->select_tiled(c->m, c->tile, s[0].cells, s[0].length, s[1].cells, s[1].length, c->at.r0, c->at.c0, c->at.h,
-                           c->at.w, c->of_class, s[2].cells, s[2].length, s[3].cells, s[3].length);
+                           c->at.w, (uint8_t)c->about, s[2].cells, s[2].length, s[3].cells, s[3].length);
 }
 
 static lutniorad_answer run_windows(const program *p, const call *c, const slice *s)
@@ -160,17 +167,24 @@ static lutniorad_answer run_windows(const program *p, const call *c, const slice
                       s[3].length, s[4].cells, s[4].length);
 }
 
+static lutniorad_reason explain(const program *p, const call *c, const slice *s)
+{
+    explanation *why = c->operation == &WHY_RECORD ? p->why_record : p->why_block;
+    return why(c->m, s[0].cells, s[0].length, s[1].cells, s[1].length, c->at.r0, c->at.c0, c->at.h, c->at.w, c->about,
+               s[2].cells, s[2].length);
+}
+
 typedef struct {
     const char *name;
     size_t cell; /* bytes in a cell */
 } parameter;
 
 /* What an operation takes beside its slices. */
-enum { M = 1, TILE = 2, WINDOW = 4, CLASS = 8 };
+enum { M = 1, TILE = 2, WINDOW = 4, CLASS = 8, RECORD = 16, KEY = 32 };
 
 struct operation {
     const char *name;
-    lutniorad_answer (*run)(const program *, const call *, const slice *);
+    lutniorad_answer (*run)(const program *, const call *, const slice *); /* NULL for a reason */
     int takes;
     size_t n_slices;
     parameter slices[MOST_SLICES];
@@ -199,10 +213,42 @@ const operation SELECT_TILED = {"select_tiled",
                                 {{"keys", 4}, {"classes", 1}, {"border", 2}, {"out", 4}}};
 const operation WINDOWS = {
     "windows", run_windows, M, 5, {{"keys", 4}, {"classes", 1}, {"windows", 2}, {"border", 2}, {"out", 4}}};
+const operation WHY_RECORD = {"why_record", NULL, M | WINDOW | RECORD, 3, {{"keys", 4}, {"classes", 1}, {"border", 2}}};
+const operation WHY_BLOCK = {"why_block", NULL, M | WINDOW | KEY, 3, {{"keys", 4}, {"classes", 1}, {"border", 2}}};
 
-static const operation *const operations[] = {&CHECK,           &DECOMPOSE,   &OPEN,         &EXIST,  &REPORT,
-                                              &SELECT,          &MONTH_CLEAR, &MONTH_ADD,    &READ,   &WRITE,
-                                              &DECOMPOSE_TILED, &OPEN_TILED,  &SELECT_TILED, &WINDOWS};
+static const operation *const operations[] = {
+    &CHECK, &DECOMPOSE,       &OPEN,       &EXIST,        &REPORT,  &SELECT,     &MONTH_CLEAR, &MONTH_ADD, &READ,
+    &WRITE, &DECOMPOSE_TILED, &OPEN_TILED, &SELECT_TILED, &WINDOWS, &WHY_RECORD, &WHY_BLOCK};
+
+/* What a call returned, number by number: the four of an answer, or the five of a reason. */
+enum { NUMBERS_OF_ANSWER = 4, NUMBERS_OF_REASON = 5 };
+
+typedef struct {
+    size_t n;
+    uint32_t numbers[NUMBERS_OF_REASON];
+} result;
+
+static result of_answer(lutniorad_answer a)
+{
+    result r = {NUMBERS_OF_ANSWER, {a.refusal, a.place, a.first, a.second}};
+    return r;
+}
+
+static result of_reason(lutniorad_reason a)
+{
+    result r = {NUMBERS_OF_REASON, {a.refusal, a.place, a.said, a.record, a.opening}};
+    return r;
+}
+
+static bool gives_reason(const call *c)
+{
+    return c->operation->run == NULL;
+}
+
+static result run(const program *p, const call *c, const slice *s)
+{
+    return gives_reason(c) ? of_reason(explain(p, c, s)) : of_answer(c->operation->run(p, c, s));
+}
 
 /* ---- Cases, and what is said when one fails ---- */
 
@@ -214,8 +260,9 @@ static uint64_t seed = 1;
 static uint64_t only_case = EVERY_CASE;
 static bool go_on; /* with other seeds, until interrupted */
 static uint64_t case_number;
-static uint64_t calls; /* compared so far, of this group */
-static call running;   /* the last call */
+static uint64_t calls;  /* compared so far, of this group */
+static call running;    /* the last call */
+static result returned; /* by the library in that call */
 
 bool begin_case(void)
 {
@@ -244,7 +291,11 @@ static void print_call(const call *c)
     if ((c->operation->takes & WINDOW) != 0)
         printf(", r0 %d, c0 %d, h %d, w %d", c->at.r0, c->at.c0, c->at.h, c->at.w);
     if ((c->operation->takes & CLASS) != 0)
-        printf(", class %d", c->of_class);
+        printf(", class %" PRIu32, c->about);
+    if ((c->operation->takes & RECORD) != 0)
+        printf(", record %" PRIu32, c->about);
+    if ((c->operation->takes & KEY) != 0)
+        printf(", key %" PRIu32, c->about);
     for (size_t i = 0; i < c->operation->n_slices; i++) {
         const given *g = &c->slices[i];
         printf("\n    %s: %zu cells", c->operation->slices[i].name, g->length);
@@ -275,19 +326,29 @@ void require(bool holds, const char *otherwise)
         fail("%s", otherwise);
 }
 
-static bool same_answer(lutniorad_answer a, lutniorad_answer b)
+/* All of them, for one line. */
+enum { LINE = 80 };
+
+static const char *numbers_of(result r, char line[LINE])
 {
-    return a.refusal == b.refusal && a.place == b.place && a.first == b.first && a.second == b.second;
+    int n = 0;
+    for (size_t i = 0; i < r.n; i++)
+        n += sprintf(line + n, "%s%" PRIu32, i == 0 ? "" : ", ", r.numbers[i]);
+    return line;
+}
+
+static void require_result(result got, const char *whose, result expected)
+{
+    static const char *const names[] = {"refusal, place, first, second", "refusal, place, said, record, opening"};
+    char line[LINE], other_line[LINE];
+    if (memcmp(got.numbers, expected.numbers, sizeof got.numbers) != 0)
+        fail("%s are %s; by %s: %s", names[got.n - NUMBERS_OF_ANSWER], numbers_of(got, line), whose,
+             numbers_of(expected, other_line));
 }
 
 void require_answer(lutniorad_answer got, const char *whose, lutniorad_answer expected)
 {
-    if (same_answer(got, expected))
-        return;
-    fail("refusal %" PRIu32 ", place %" PRIu32 ", first %" PRIu32 ", second %" PRIu32 "; by %s: %" PRIu32 ", %" PRIu32
-         ", %" PRIu32 ", %" PRIu32,
-         got.refusal, got.place, got.first, got.second, whose, expected.refusal, expected.place, expected.first,
-         expected.second);
+    require_result(of_answer(got), whose, of_answer(expected));
 }
 
 void require_stated(lutniorad_answer got, lutniorad_answer stated)
@@ -299,6 +360,11 @@ void require_numbers(lutniorad_answer got, uint32_t refusal, uint32_t place, uin
 {
     lutniorad_answer stated = {refusal, place, first, second};
     require_stated(got, stated);
+}
+
+void require_reason(lutniorad_reason stated)
+{
+    require_result(returned, "the reason written out", of_reason(stated));
 }
 
 /* ---- Rooms: where the slices of a call stand ---- */
@@ -381,6 +447,7 @@ static struct {
     const call *call;
     const slice *slices;
     lutniorad_answer answer;
+    lutniorad_reason reason;
 } watched;
 
 void watch_stack(void)
@@ -404,19 +471,24 @@ static void run_watched(void)
     watched.answer = watched.call->operation->run(&library, watched.call, watched.slices);
 }
 
-static lutniorad_answer run_on_painted_stack(const call *c, const slice *slices, int round)
+static void explain_watched(void)
+{
+    watched.reason = explain(&library, watched.call, watched.slices);
+}
+
+static result run_on_painted_stack(const call *c, const slice *slices, int round)
 {
     size_t which = 0;
     watched.call = c;
     watched.slices = slices;
-    size_t depth = run_painted(run_watched, garbage[round]);
+    size_t depth = run_painted(gives_reason(c) ? explain_watched : run_watched, garbage[round]);
     while (operations[which] != c->operation)
         which++;
     if (depth > deepest[which])
         deepest[which] = depth;
     if (depth > MOST_STACK)
         fail("the call takes %zu bytes of stack, more than %d", depth, MOST_STACK);
-    return watched.answer;
+    return gives_reason(c) ? of_reason(watched.reason) : of_answer(watched.answer);
 }
 
 /* ---- The comparison ---- */
@@ -443,7 +515,7 @@ static void compare_slice(const parameter *p, size_t length, const stand *at)
 
 lutniorad_answer compare(call c)
 {
-    lutniorad_answer answers[ROUNDS];
+    result results[ROUNDS];
     running = c;
     calls++;
     for (int round = 0; round < ROUNDS; round++) {
@@ -452,14 +524,24 @@ lutniorad_answer compare(call c)
             last_stands[i] = lay_out(&c, i, round, slices);
             last_slices[i] = slices[LIBRARY][i].cells;
         }
-        answers[round] = watching ? run_on_painted_stack(&c, slices[LIBRARY], round)
-                                  : c.operation->run(&library, &c, slices[LIBRARY]);
-        require_answer(answers[round], "the independent program", c.operation->run(&reference, &c, slices[REFERENCE]));
+        results[round] =
+            watching ? run_on_painted_stack(&c, slices[LIBRARY], round) : run(&library, &c, slices[LIBRARY]);
+        require_result(results[round], "the independent program", run(&reference, &c, slices[REFERENCE]));
         for (size_t i = 0; i < c.operation->n_slices; i++)
             compare_slice(&c.operation->slices[i], c.slices[i].length, &last_stands[i]);
     }
-    require_answer(answers[1], "the same call with other garbage", answers[0]);
-    return answers[0];
+    require_result(results[1], "the same call with other garbage", results[0]);
+    returned = results[0];
+    const uint32_t *n = returned.numbers;
+    lutniorad_answer answer = {n[0], n[1], n[2], n[3]};
+    return answer;
+}
+
+lutniorad_reason last_reason(void)
+{
+    const uint32_t *n = returned.numbers;
+    lutniorad_reason reason = {n[0], n[1], n[2], n[3], n[4]};
+    return reason;
 }
 
 void compare_with(const operation *other, lutniorad_answer answer)

@@ -5,8 +5,10 @@
  * TO ADD AN OPERATION that both programs have, write in harness.c, beside those of the others:
  *   - one pair of function pointers: a member of `program`, and its function in `library` and in `reference`;
  *   - one run_ function, which hands the numbers and slices of a call to that member in the order of its parameters;
- *   - one row: the operation's name, its run_ function, what of m, a tile, a window and a class it takes, how many
- *     slices, and for each its name and the bytes in a cell, 1, 2, 4 or 8; and the row's place in `operations`.
+ *     of those that return a reason, `explain` does that, and their rows have NULL;
+ *   - one row: the operation's name, its run_ function, what of m, a tile, a window, a class, a record and a key it
+ *     takes, how many slices, and for each its name and the bytes in a cell, 1, 2, 4 or 8; and the row's place in
+ *     `operations`.
  * Declare the row below with the others. MOST_SLICES is as many slices as any of them has. A case then fills in a
  * `call` of the operation and hands it to `compare`.
  *
@@ -39,7 +41,7 @@ size_t near_length(size_t right);
 typedef struct operation operation;
 
 extern const operation CHECK, DECOMPOSE, OPEN, EXIST, REPORT, SELECT, MONTH_CLEAR, MONTH_ADD, READ, WRITE;
-extern const operation DECOMPOSE_TILED, OPEN_TILED, SELECT_TILED, WINDOWS;
+extern const operation DECOMPOSE_TILED, OPEN_TILED, SELECT_TILED, WINDOWS, WHY_RECORD, WHY_BLOCK;
 
 enum { MOST_SLICES = 5 };
 
@@ -63,12 +65,16 @@ typedef struct {
     const operation *operation;
     uint32_t m, tile;
     window at;
-    uint8_t of_class;
+    uint32_t about; /* the class, the index of the record or the key of the block that is asked about */
     given slices[MOST_SLICES];
 } call;
 
-/* One call, once with each garbage. Of every slice, written by the call or not, all cells and guards are compared. */
+/*
+ * One call, once with each garbage. Of every slice, written by the call or not, all cells and guards are compared. A
+ * reason is compared whole; of its five numbers the first four are returned, and all are the last reason.
+ */
 lutniorad_answer compare(call c);
+lutniorad_reason last_reason(void);
 
 /* The library's slice after the last call, by its place among the parameters. */
 const void *left(size_t i);
@@ -98,6 +104,7 @@ void require_answer(lutniorad_answer got, const char *whose, lutniorad_answer ex
 /* The answer written out in the case. */
 void require_stated(lutniorad_answer got, lutniorad_answer stated);
 void require_numbers(lutniorad_answer got, uint32_t refusal, uint32_t place, uint32_t first, uint32_t second);
+void require_reason(lutniorad_reason stated); /* of the last call */
 
 /* ---- Groups of cases ---- */
 

@@ -1,6 +1,7 @@
 /*
  * Holds what the header names against the library: each refusal against a call that is refused by it, the sentences,
- * the limits, and the room that is always enough. Says each thing that is not so; the status is 0 where all is.
+ * what is said of records and blocks, the limits, and the room that is always enough. Says each thing that is not so;
+ * the status is 0 where all is.
  */
 #include "even.h"
 
@@ -36,7 +37,7 @@ static void hold_answer(lutniorad_answer got, uint32_t refusal, uint32_t place, 
 
 /* What a call is handed. As it is begun, each call is answered; each refusal comes from one thing that is spoiled. */
 enum { Q = 7, WIDTH = 3 };
-static uint32_t m, tile, keys[Q], totals[LUTNIORAD_CLASSES];
+static uint32_t m, tile, record, key, keys[Q], totals[LUTNIORAD_CLASSES];
 static uint16_t r0, border[WIDTH];
 static const uint16_t list[] = {0, 1, 3, WIDTH, 3, 0, 1, 1};
 static uint8_t classes[Q], file[LUTNIORAD_FILE_BYTES(Q)];
@@ -48,6 +49,8 @@ static void begin(void)
     static const uint32_t some_keys[Q] = {5, 11, 12, 13, 14, 15, 20};
     static const uint8_t some_classes[Q] = {1, 2, 2, 3, 1, 1, 2};
     m = tile = 2;
+    record = Q - 1;
+    key = 7;
     r0 = 0;
     memcpy(keys, some_keys, sizeof keys);
     memcpy(classes, some_classes, sizeof classes);
@@ -73,6 +76,24 @@ static lutniorad_answer select_tiled(void)
 static lutniorad_answer many(void)
 {
     return lutniorad_windows(m, keys, n_keys, classes, n_classes, list, n_list, border, n_border, totals, n_totals);
+}
+
+/* The first numbers of a reason, in place of those of an answer. */
+static lutniorad_answer as_answer(lutniorad_reason reason)
+{
+    lutniorad_answer answer = {reason.refusal, reason.place, reason.said, reason.record};
+    return answer;
+}
+
+static lutniorad_answer why_record(void)
+{
+    return as_answer(
+        lutniorad_why_record(m, keys, n_keys, classes, n_classes, r0, 1, 3, WIDTH, record, border, n_border));
+}
+
+static lutniorad_answer why_block(void)
+{
+    return as_answer(lutniorad_why_block(m, keys, n_keys, classes, n_classes, r0, 1, 3, WIDTH, key, border, n_border));
 }
 
 static lutniorad_answer read_file(void)
@@ -135,6 +156,16 @@ static void tile_beyond_picture(void)
     tile = m + 1;
 }
 
+static void record_beyond_map(void)
+{
+    record = Q;
+}
+
+static void block_around_window(void)
+{
+    key = 0;
+}
+
 static void list_cut_short(void)
 {
     n_list = COUNT(list) - 1;
@@ -172,6 +203,8 @@ static const struct {
     {LUTNIORAD_OTHER_M, 0, table_of_another_m, add},
     {LUTNIORAD_MONTH_FULL, 0, full_table, add},
     {LUTNIORAD_BAD_TILE, 0, tile_beyond_picture, select_tiled},
+    {LUTNIORAD_NO_RECORD, 0, record_beyond_map, why_record},
+    {LUTNIORAD_NOT_MAXIMAL, 0, block_around_window, why_block},
     {LUTNIORAD_BAD_WINDOW_LIST, 0, list_cut_short, many},
     {LUTNIORAD_BAD_TABLE, 0, sum_of_no_map, add},
 };
@@ -227,6 +260,33 @@ static void hold_refusals(void)
     for (uint32_t number = 0; number <= 300; number++)
         hold((strcmp(lutniorad_sentence(number), none) == 0) != is_named(number), "lutniorad_sentence",
              "a number without a name has a sentence of its own, or one with a name has none");
+}
+
+/* ---- What is said ---- */
+
+/* On the map as it is begun, of records, and in the end of blocks, by windows of one row. */
+static const struct {
+    const char *name;
+    uint32_t said, about;
+    uint16_t row, col, w;
+} said[] = {
+    {"LUTNIORAD_HANDED_OUT", LUTNIORAD_HANDED_OUT, 6, 2, 2, 1},
+    {"LUTNIORAD_NORTH", LUTNIORAD_NORTH, 0, 2, 2, 1},
+    {"LUTNIORAD_SOUTH", LUTNIORAD_SOUTH, 5, 0, 0, 1},
+    {"LUTNIORAD_WEST", LUTNIORAD_WEST, 5, 2, 2, 1},
+    {"LUTNIORAD_EAST", LUTNIORAD_EAST, 1, 0, 0, 1},
+    {"LUTNIORAD_OPENED", LUTNIORAD_OPENED, 6, 0, 0, 2},
+    {"LUTNIORAD_SKIPPED", LUTNIORAD_SKIPPED, 7, 0, 0, 2},
+};
+
+static void hold_said(void)
+{
+    begin();
+    for (size_t i = 0; i < COUNT(said); i++) {
+        lutniorad_reason reason = (said[i].said < LUTNIORAD_OPENED ? lutniorad_why_record : lutniorad_why_block)(
+            m, keys, Q, classes, Q, said[i].row, said[i].col, 1, said[i].w, said[i].about, border, WIDTH);
+        hold_answer(as_answer(reason), 0, 0, said[i].said, said[i].name);
+    }
 }
 
 /* ---- Limits ---- */
@@ -444,6 +504,7 @@ static void hold_most_blocks(void)
 int main(void)
 {
     hold_refusals();
+    hold_said();
     hold_sizes();
     hold_longest();
     hold_not_seen();

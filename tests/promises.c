@@ -131,6 +131,104 @@ void require_opened(const map *a, uint32_t tile, window at, lutniorad_answer ans
     require_fewest(a, tile, at, answer.first);
 }
 
+/* ---- Reasons ---- */
+
+/* The library's lists of the window at hand: its openings, of three cells each, and its maximal blocks. */
+static uint32_t openings_of_window[LUTNIORAD_OPEN_CELLS(LUTNIORAD_MOST_SIDE, LUTNIORAD_MOST_SIDE)];
+static uint32_t blocks_of_window[LUTNIORAD_DECOMPOSE_CELLS(LUTNIORAD_MOST_SIDE, LUTNIORAD_MOST_SIDE)];
+static size_t n_openings, n_blocks;
+
+static void list_window(const map *a, window at)
+{
+    static uint16_t border[LUTNIORAD_MOST_SIDE];
+    lutniorad_answer opened = lutniorad_open(a->m, a->keys, a->q, a->classes, a->q, at.r0, at.c0, at.h, at.w, border,
+                                             COUNT(border), openings_of_window, COUNT(openings_of_window));
+    lutniorad_answer cut =
+        lutniorad_decompose(a->m, at.r0, at.c0, at.h, at.w, blocks_of_window, COUNT(blocks_of_window));
+    require(opened.refusal == 0 && cut.refusal == 0, "a window is not refused here, but when it is opened or cut");
+    n_openings = opened.first;
+    n_blocks = cut.first;
+}
+
+/* By opening `number` and no other; where there is none of that number, by none at all. */
+static bool is_handed_out_just_by(size_t number, uint32_t record)
+{
+    for (size_t i = 0; i < n_openings; i++) {
+        uint32_t first = openings_of_window[3 * i + 1], count = openings_of_window[3 * i + 2];
+        bool hands_out = first <= record && record - first < count;
+        if (hands_out != (i == number))
+            return false;
+    }
+    return true;
+}
+
+/* As with a record that is handed out. */
+static bool is_opened_just_by(size_t number, uint32_t key)
+{
+    for (size_t i = 0; i < n_openings; i++)
+        if ((openings_of_window[3 * i] == key) != (i == number))
+            return false;
+    return true;
+}
+
+/* Of a key that is not in the list, as many as there are. */
+static size_t place_of_block(uint32_t key)
+{
+    size_t place = 0;
+    while (place < n_blocks && blocks_of_window[place] != key)
+        place++;
+    return place;
+}
+
+/* All blocks in a block of side 2^i, and no others, have a key from its own on to before 5^i beyond it. */
+static bool lies_in_block(uint32_t m, uint32_t key, uint32_t around)
+{
+    uint32_t keys = 1;
+    for (size_t side = side_of_block(m, around); side > 1; side /= 2)
+        keys *= 5;
+    return key >= around && key - around < keys;
+}
+
+void require_said_of_record(const map *a, window at, uint32_t record, lutniorad_reason reason)
+{
+    const bool handed_out = reason.said == LUTNIORAD_HANDED_OUT;
+    if (reason.refusal == LUTNIORAD_NO_RECORD)
+        require(record >= a->q, "a record that the map has is refused");
+    if (reason.refusal != 0)
+        return;
+    list_window(a, at);
+    require(record < a->q && reason.record == record, "another record comes back than the one asked for");
+    require(handed_out || (LUTNIORAD_NORTH <= reason.said && reason.said <= LUTNIORAD_EAST),
+            "something else is said than can be of a record");
+    require(handed_out ? reason.opening < n_openings : reason.opening == 0, "there is no opening of this number");
+    require(is_handed_out_just_by(handed_out ? reason.opening : n_openings, record),
+            "in the list of openings the record is not handed out so");
+}
+
+void require_said_of_block(const map *a, window at, uint32_t key, lutniorad_reason reason)
+{
+    const bool opened = reason.said == LUTNIORAD_OPENED;
+    if (reason.refusal != 0 && reason.refusal != LUTNIORAD_NOT_MAXIMAL)
+        return;
+    list_window(a, at);
+    require((reason.refusal == 0) == (place_of_block(key) < n_blocks),
+            "a block that is listed as maximal is refused, or another one is not");
+    if (reason.refusal != 0)
+        return;
+    require(opened || reason.said == LUTNIORAD_SKIPPED, "something else is said than can be of a block");
+    require(reason.opening < n_openings, "there is no opening of this number");
+    require(is_opened_just_by(opened ? reason.opening : n_openings, key), "in the list the block is not opened so");
+    if (opened) {
+        require(reason.record == 0, "a record is named for a block that is opened");
+        return;
+    }
+    require(reason.record < a->q && is_handed_out_just_by(reason.opening, reason.record),
+            "in the list of openings the record around the block is not handed out so");
+    require(lies_in_block(a->m, key, a->keys[reason.record]), "the block does not lie in the record");
+    require(place_of_block(openings_of_window[3 * reason.opening]) < place_of_block(key),
+            "the record is not handed out before the block");
+}
+
 /* ---- Queries ---- */
 
 void require_reported(window at, lutniorad_answer answer, const uint32_t *totals)

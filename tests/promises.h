@@ -26,6 +26,15 @@ void require_decomposed(uint32_t m, uint32_t tile, window at, const uint32_t *ke
  */
 void require_opened(const map *a, uint32_t tile, window at, lutniorad_answer answer, const uint32_t *openings);
 
+/*
+ * What is said of a record, or of a block, is so of the lists that the library itself gives for the window on this map,
+ * of its openings and of its maximal blocks: just the opening of that number hands the record out, or none does; just
+ * that opening is at the block, or none is, the block lies in the record, and the opening is at a block before it. A
+ * record is refused for itself only where the map has none of its index, and a key just where it is not in the list.
+ */
+void require_said_of_record(const map *a, window at, uint32_t record, lutniorad_reason reason);
+void require_said_of_block(const map *a, window at, uint32_t key, lutniorad_reason reason);
+
 /* The 256 totals of a window add up to its pixels, and to what the answer says. */
 void require_reported(window at, lutniorad_answer answer, const uint32_t *totals);
 

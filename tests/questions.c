@@ -36,7 +36,8 @@ lutniorad_answer compare_decompose_tiled(uint32_t m, uint32_t tile, window at, s
 
 /* ---- One question ---- */
 
-const operation *const questions[] = {&OPEN, &EXIST, &REPORT, &SELECT, &OPEN_TILED, &SELECT_TILED};
+const operation *const questions[] = {&OPEN,       &EXIST,        &REPORT,     &SELECT,
+                                      &OPEN_TILED, &SELECT_TILED, &WHY_RECORD, &WHY_BLOCK};
 
 bool opens(const operation *o)
 {
@@ -56,7 +57,7 @@ static const operation *without_tile(const operation *o)
 
 static lutniorad_answer compare_question(question q, given keys, given classes, given border, given out)
 {
-    call c = {q.operation, q.map->m, q.tile, q.at, q.of_class, {keys, classes, border, out}};
+    call c = {q.operation, q.map->m, q.tile, q.at, q.about, {keys, classes, border, out}};
     const operation *without = without_tile(q.operation);
     uint32_t tile = without != NULL ? q.tile : q.map->m;
     lutniorad_answer answer = compare(c);
@@ -69,9 +70,49 @@ static lutniorad_answer compare_question(question q, given keys, given classes, 
         require_reported(q.at, answer, left(3));
     if (answer.refusal == 0 && selects(q.operation))
         require_selected(q.map, tile, q.at, left(3), answer.first);
+    if (q.operation == &WHY_RECORD)
+        require_said_of_record(q.map, q.at, q.about, last_reason());
+    if (q.operation == &WHY_BLOCK)
+        require_said_of_block(q.map, q.at, q.about, last_reason());
     if (without != NULL && q.tile == q.map->m)
         compare_with(without, answer);
     return answer;
+}
+
+/* The record that has some pixel of the block: the last one whose key is not beyond that of the pixel. */
+static uint32_t some_record_in(const map *a, uint32_t block)
+{
+    uint32_t pixel = block, place = 1, record = 0;
+    for (size_t side = side_of_block(a->m, block); side > 1; side /= 2, place *= 5)
+        pixel += (1 + (uint32_t)below(4)) * place;
+    while (record + 1 < a->q && a->keys[record + 1] <= pixel)
+        record++;
+    return record;
+}
+
+/*
+ * A record, mostly one of the map, and often one in the window; or a key, mostly that of a maximal block, or of a
+ * record there. The others are beside these, or any number, as always where the window is refused.
+ */
+static uint32_t something_to_explain(const operation *o, const map *a, window at)
+{
+    static uint32_t blocks[LUTNIORAD_DECOMPOSE_CELLS(LUTNIORAD_MOST_SIDE, LUTNIORAD_MOST_SIDE)];
+    lutniorad_answer cut = reference_decompose(a->m, at.r0, at.c0, at.h, at.w, blocks, COUNT(blocks));
+    size_t kind = below(8);
+    if (kind == 0 || cut.refusal != 0 || a->q == 0)
+        return (uint32_t)random_number();
+    uint32_t block = blocks[below(cut.first)], record = some_record_in(a, block);
+    if (o == &WHY_RECORD)
+        return (uint32_t)(kind == 1 ? a->q + below(NEAR) : kind < 5 ? below(a->q) : record);
+    return kind == 1 ? block + 1 : kind == 2 ? a->keys[record] : block;
+}
+
+question some_question(const operation *o, const map *a, window at)
+{
+    const bool explains = o == &WHY_RECORD || o == &WHY_BLOCK;
+    uint32_t about = explains ? something_to_explain(o, a, at) : some_class(a);
+    question q = {o, a, some_tile(a->m, at), at, about};
+    return q;
 }
 
 lutniorad_answer ask_slices(question q, size_t n_keys, size_t n_classes, size_t n_border, size_t n_out)
@@ -156,7 +197,7 @@ void ask_with_every_length(question q)
     size_t n = cells_of(q, answer);
     const size_t borders[] = {0, too_short(q.at.w), q.at.w, q.at.w + (size_t)3};
     const size_t lengths[] = {0, n + 5, n, too_short(n)};
-    size_t n_lengths = q.operation == &EXIST ? 1 : n == 0 ? 2 : COUNT(lengths);
+    size_t n_lengths = enough_for(q) == 0 ? 1 : n == 0 ? 2 : COUNT(lengths);
     size_t n_pairs = answer.refusal != 0 ? 1 : COUNT(borders) * n_lengths;
     for (size_t i = 0; i < n_pairs; i++)
         ask(q, borders[i % COUNT(borders)], lengths[i / COUNT(borders)]);
@@ -219,7 +260,7 @@ static const uint32_t third_keys[] = {12, 1, 5, 13};
 static void ask_with_every_slice(const map *a, window at, size_t n_keys, size_t n_classes, need of)
 {
     static const size_t borders[] = {0, 2, 3};
-    question q = {of.operation, a, of.tile, at, of.of_class};
+    question q = {of.operation, a, of.tile, at, of.about};
     for (size_t i = 0; i < COUNT(borders) * of.n_outs; i++)
         ask_slices(q, n_keys, n_classes, borders[i % COUNT(borders)], of.outs[i / COUNT(borders)]);
 }
@@ -263,7 +304,7 @@ static void ask_select(question q, const uint32_t totals[CLASSES])
 {
     lutniorad_answer answer = answer_in_full(q);
     if (answer.refusal == 0)
-        require_as_reported(q.map->m, left(3), answer.first, totals[q.of_class]);
+        require_as_reported(q.map->m, left(3), answer.first, totals[q.about]);
 }
 
 void try_exist(const map *a, window at, const uint8_t *asked, size_t n)

@@ -1,7 +1,7 @@
 /*
  * Calls about windows: decomposing one, and the questions that are asked about one on a map, which are OPEN, EXIST,
- * REPORT and SELECT, and two of them with a tile. Each call is compared, and what it answers is held against what is
- * promised of it; and one with the tile m against the call without a tile.
+ * REPORT and SELECT, two of them with a tile, and WHY_RECORD and WHY_BLOCK. Each call is compared, and what it answers
+ * is held against what is promised of it; and one with the tile m against the call without a tile.
  */
 #ifndef QUESTIONS_H
 #define QUESTIONS_H
@@ -12,7 +12,8 @@
 lutniorad_answer compare_decompose(uint32_t m, window at, size_t n_out);
 lutniorad_answer compare_decompose_tiled(uint32_t m, uint32_t tile, window at, size_t n_out);
 
-enum { QUESTIONS = 6 };
+/* To the last two the answer is a reason. */
+enum { QUESTIONS = 8, ANSWERS = QUESTIONS - 2 };
 extern const operation *const questions[QUESTIONS];
 
 bool opens(const operation *o); /* with a tile or without */
@@ -22,8 +23,11 @@ typedef struct {
     const map *map;
     uint32_t tile; /* for those that take one */
     window at;
-    uint8_t of_class; /* for those that take one */
+    uint32_t about; /* for those that take one: the class, the record or the block */
 } question;
+
+/* With some tile, and about something: mostly a class or a record of the map, or a maximal block of the window. */
+question some_question(const operation *o, const map *a, window at);
 
 lutniorad_answer ask(question q, size_t n_border, size_t n_out);
 
@@ -64,7 +68,7 @@ extern const uint32_t chosen_ms[CHOSEN_MS];
 typedef struct {
     const operation *operation;
     uint32_t tile;
-    uint8_t of_class;
+    uint32_t about;
     size_t n_outs;
     size_t outs[3];
 } need;
@@ -87,7 +91,7 @@ void make_stated_map(map *a, uint32_t m);
 /* After a question: each cell of the window's border is this, or 0 stands for a border that was not written. */
 void require_border(window at, uint16_t stated);
 
-/* Decomposing, and all questions, on slices that are long enough. */
+/* Decomposing, and all questions without a tile or a reason, on slices that are long enough. */
 void try_window(const map *a, window at, uint8_t of_class);
 
 #endif

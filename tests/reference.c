@@ -357,14 +357,13 @@ static void begin_answer(uint32_t m, const uint32_t *keys, uint64_t q, window at
 }
 
 /*
- * What every question about a window on a map begins with: refusals 1 and 17, and those from 2 to 7, or refusal 0. Then
- * the answer is begun, whatever comes of the slice for it. A question without a tile is one with c = m.
+ * What every question about a window on a map may be refused by: 1 and 17, and those from 2 to 7, or refusal 0. A
+ * question without a tile is one with c = m.
  */
-static lutniorad_answer begin_question(uint32_t m, uint32_t tile,
+static lutniorad_answer check_question(uint32_t m, uint32_t tile,
                                        const uint32_t *keys, size_t n_keys,
                                        const uint8_t *classes, size_t n_classes,
-                                       window at,
-                                       uint16_t *border, size_t n_border)
+                                       window at, size_t n_border)
 {
     lutniorad_answer size = size_of_tile(m, tile);
     if (size.refusal != 0)
@@ -376,8 +375,20 @@ static lutniorad_answer begin_question(uint32_t m, uint32_t tile,
         return refused(6, 0);
     if (n_border < at.w)
         return refused(7, at.w);
-    begin_answer(m, keys, n_keys, at, border);
     return answered(0, 0);
+}
+
+/* The same, and with refusal 0 the answer is begun, whatever comes of the slice for it. */
+static lutniorad_answer begin_question(uint32_t m, uint32_t tile,
+                                       const uint32_t *keys, size_t n_keys,
+                                       const uint8_t *classes, size_t n_classes,
+                                       window at,
+                                       uint16_t *border, size_t n_border)
+{
+    lutniorad_answer check = check_question(m, tile, keys, n_keys, classes, n_classes, at, n_border);
+    if (check.refusal == 0)
+        begin_answer(m, keys, n_keys, at, border);
+    return check;
 }
 
 /* The record that has all pixels of the block, or NO_RECORD where these lie in more than one. */
@@ -409,6 +420,9 @@ typedef struct {
     uint64_t key, first, count;
 } opening;
 
+/* The openings of the window at hand. */
+static opening openings[MOST_BLOCKS];
+
 /* Hands out every record that has a pixel in the block. */
 static opening open_block(square block, window at, uint64_t side_of_all, uint64_t number)
 {
@@ -424,8 +438,8 @@ static opening open_block(square block, window at, uint64_t side_of_all, uint64_
     return made;
 }
 
-/* Makes the openings of the window at hand, on a map of q records, and returns their number. */
-static uint64_t make_openings(uint32_t m, uint32_t tile, uint64_t q, window at, opening openings[MOST_BLOCKS])
+/* Makes them, on a map of q records, and returns their number. */
+static uint64_t make_openings(uint32_t m, uint32_t tile, uint64_t q, window at)
 {
     const block_list *maximal = list_maximal(at, side_of_tile(tile));
     uint64_t n = 0;
@@ -446,12 +460,11 @@ lutniorad_answer reference_open_tiled(uint32_t m, uint32_t tile,
                                       uint16_t *border, size_t n_border,
                                       uint32_t *out, size_t n_out)
 {
-    static opening openings[MOST_BLOCKS];
     window at = {r0, c0, h, w};
     lutniorad_answer begun = begin_question(m, tile, keys, n_keys, classes, n_classes, at, border, n_border);
     if (begun.refusal != 0)
         return begun;
-    uint64_t n = make_openings(m, tile, n_keys, at, openings);
+    uint64_t n = make_openings(m, tile, n_keys, at);
     if (n_out < 3 * n)
         return refused(8, 3 * n);
     uint64_t handed_out = 0;
@@ -511,7 +524,6 @@ static uint64_t last_to_reach(uint64_t column, const uint16_t *windows, uint64_t
 /* The five cells of a window on a sound map of q records. */
 static void count_window(uint32_t m, const uint32_t *keys, uint64_t q, window at, uint32_t cells[CELLS_OF_WINDOW])
 {
-    static opening openings[MOST_BLOCKS];
     for (uint64_t i = 0; i < CELLS_OF_WINDOW; i++)
         cells[i] = 0;
     if (!is_inside(at, side_of_picture(m))) {
@@ -519,7 +531,7 @@ static void count_window(uint32_t m, const uint32_t *keys, uint64_t q, window at
         return;
     }
     paint_records(m, keys, q, at);
-    uint64_t n = make_openings(m, m, q, at, openings);
+    uint64_t n = make_openings(m, m, q, at);
     cells[2] = (uint32_t)n;
     for (uint64_t i = 0; i < n; i++)
         cells[3] += (uint32_t)openings[i].count;
@@ -548,6 +560,100 @@ lutniorad_answer reference_windows(uint32_t m,
     for (uint64_t column = 0; column < widest; column++)
         border[column] = (uint16_t)last_to_reach(column, windows, n, side_of_all);
     return answered(n, 0);
+}
+
+/* ---- Reasons ---- */
+
+/* What is said: the first five of a record, the last two of a block. */
+enum { HANDED_OUT = 1, NORTH = 2, SOUTH = 3, WEST = 4, EAST = 5, OPENED = 6, SKIPPED = 7 };
+
+static lutniorad_reason because(uint64_t said, uint64_t record, uint64_t number_of_opening)
+{
+    lutniorad_reason reason = {0, 0, (uint32_t)said, (uint32_t)record, (uint32_t)number_of_opening};
+    return reason;
+}
+
+static lutniorad_reason no_reason(lutniorad_answer refusal)
+{
+    lutniorad_reason reason = {refusal.refusal, refusal.place, 0, 0, 0};
+    return reason;
+}
+
+/* So many rows, or columns, from `from` on are all before `to`. */
+static bool ends_before(uint64_t from, uint64_t length, uint64_t to)
+{
+    return from + length <= to;
+}
+
+/* Where a block lies that has no pixel in the window: the first of the four that is true. */
+static uint64_t direction_of(square block, window at)
+{
+    if (ends_before(block.row, block.side, at.r0))
+        return NORTH;
+    if (ends_before(at.r0, at.h, block.row))
+        return SOUTH;
+    if (ends_before(block.col, block.side, at.c0))
+        return WEST;
+    if (ends_before(at.c0, at.w, block.col))
+        return EAST;
+    abort();
+}
+
+lutniorad_reason reference_why_record(uint32_t m,
+                                      const uint32_t *keys, size_t n_keys,
+                                      const uint8_t *classes, size_t n_classes,
+                                      uint16_t r0, uint16_t c0, uint16_t h, uint16_t w,
+                                      uint32_t record,
+                                      uint16_t *border, size_t n_border)
+{
+    uint64_t digits[MOST_DIGITS];
+    window at = {r0, c0, h, w};
+    lutniorad_answer check = check_question(m, m, keys, n_keys, classes, n_classes, at, n_border);
+    if (check.refusal != 0)
+        return no_reason(check);
+    if (record >= n_keys)
+        return no_reason(refused(19, 0));
+    begin_answer(m, keys, n_keys, at, border);
+    make_openings(m, m, n_keys, at);
+    if (handed_out_by[record] != NO_OPENING)
+        return because(HANDED_OUT, record, handed_out_by[record]);
+    digits_of(keys[record], m, digits);
+    return because(direction_of(block_of(digits, m), at), record, 0);
+}
+
+/* Finds the maximal block of this key among all that the window has. False where it has none. */
+static bool find_maximal(uint32_t m, uint32_t key, window at, square *block)
+{
+    const block_list *maximal = list_maximal(at, side_of_picture(m));
+    for (uint64_t i = 0; i < maximal->n; i++)
+        if (key_of(maximal->blocks[i], side_of_picture(m)) == key) {
+            *block = maximal->blocks[i];
+            return true;
+        }
+    return false;
+}
+
+lutniorad_reason reference_why_block(uint32_t m,
+                                     const uint32_t *keys, size_t n_keys,
+                                     const uint8_t *classes, size_t n_classes,
+                                     uint16_t r0, uint16_t c0, uint16_t h, uint16_t w,
+                                     uint32_t key,
+                                     uint16_t *border, size_t n_border)
+{
+    square block;
+    window at = {r0, c0, h, w};
+    lutniorad_answer check = check_question(m, m, keys, n_keys, classes, n_classes, at, n_border);
+    if (check.refusal != 0)
+        return no_reason(check);
+    if (!find_maximal(m, key, at, &block))
+        return no_reason(refused(22, 0));
+    begin_answer(m, keys, n_keys, at, border);
+    uint64_t n = make_openings(m, m, n_keys, at);
+    for (uint64_t i = 0; i < n; i++)
+        if (openings[i].key == key)
+            return because(OPENED, 0, i);
+    uint32_t around = record_around(block, at);
+    return because(SKIPPED, around, handed_out_by[around]);
 }
 
 /* ---- Queries ---- */

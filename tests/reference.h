@@ -49,6 +49,20 @@ lutniorad_answer reference_windows(uint32_t m,
                                    uint16_t *border, size_t n_border,
                                    uint32_t *out, size_t n_out);
 
+lutniorad_reason reference_why_record(uint32_t m,
+                                      const uint32_t *keys, size_t n_keys,
+                                      const uint8_t *classes, size_t n_classes,
+                                      uint16_t r0, uint16_t c0, uint16_t h, uint16_t w,
+                                      uint32_t record,
+                                      uint16_t *border, size_t n_border);
+
+lutniorad_reason reference_why_block(uint32_t m,
+                                     const uint32_t *keys, size_t n_keys,
+                                     const uint8_t *classes, size_t n_classes,
+                                     uint16_t r0, uint16_t c0, uint16_t h, uint16_t w,
+                                     uint32_t key,
+                                     uint16_t *border, size_t n_border);
+
 lutniorad_answer reference_exist(uint32_t m,
                                  const uint32_t *keys, size_t n_keys,
                                  const uint8_t *classes, size_t n_classes,

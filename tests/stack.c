@@ -113,6 +113,30 @@ static void run_windows(void)
                                COUNT(out));
 }
 
+static void run_why_record(void)
+{
+    lutniorad_reason reason = lutniorad_why_record(a.m, a.keys, a.q, a.classes, a.q, at.r0, at.c0, at.h, at.w,
+                                                   (uint32_t)a.q - 1, border, COUNT(border));
+    answer.refusal = reason.refusal;
+}
+
+/* It is a maximal block: each larger one around it has the last column of the picture, which the window leaves out. */
+static uint32_t key_of_last_pixel(void)
+{
+    const uint32_t row = at.r0 + at.h - 1u, col = at.c0 + at.w - 1u;
+    uint32_t key = 0;
+    for (uint32_t i = a.m; i-- > 0;)
+        key = 5 * key + 1 + 2 * (row >> i & 1) + (col >> i & 1);
+    return key;
+}
+
+static void run_why_block(void)
+{
+    lutniorad_reason reason = lutniorad_why_block(a.m, a.keys, a.q, a.classes, a.q, at.r0, at.c0, at.h, at.w,
+                                                  key_of_last_pixel(), border, COUNT(border));
+    answer.refusal = reason.refusal;
+}
+
 static const struct {
     const char *name;
     void (*run)(void);
@@ -131,6 +155,8 @@ static const struct {
     {"open_tiled", run_open_tiled},
     {"select_tiled", run_select_tiled},
     {"windows", run_windows},
+    {"why_record", run_why_record},
+    {"why_block", run_why_block},
 };
 
 /* ---- The depths ---- */

@@ -3,6 +3,7 @@
 #include "many.h"
 #include "months.h"
 #include "questions.h"
+#include "why.h"
 
 #include <stdio.h>
 #include <string.h>
@@ -111,7 +112,7 @@ void group_windows_written_out(void)
     for (size_t i = 0; i < COUNT(stated_openings); i++)
         if (begin_case())
             stated_opening(i);
-    for (size_t i = 0; i < QUESTIONS; i++)
+    for (size_t i = 0; i < ANSWERS; i++)
         if (begin_case())
             stated_most_records(i);
 }
@@ -222,10 +223,8 @@ void group_window_lengths(void)
 static void ask_over_old_contents(window at)
 {
     const int olds[] = {0, at.r0, at.r0 + 1, at.r0 + at.h - 1, at.r0 + at.h, at.r0 + at.h + 1, UINT16_MAX};
-    for (size_t i = 0; i < QUESTIONS * COUNT(olds); i++) {
-        question q = {questions[i % QUESTIONS], &sound, some_tile(sound.m, at), at, some_class(&sound)};
-        ask_over(q, (uint16_t)olds[i / QUESTIONS]);
-    }
+    for (size_t i = 0; i < QUESTIONS * COUNT(olds); i++)
+        ask_over(some_question(questions[i % QUESTIONS], &sound, at), (uint16_t)olds[i / QUESTIONS]);
 }
 
 /* On a small map, whose windows have a maximal block each, or are refused by 6. */
@@ -250,7 +249,7 @@ static void ask_of_damaged(const operation *o)
 {
     const window windows[] = {whole_picture(damaged.m), {0, 0, 1, 1}, {0, 0, 0, 1}, {65535, 0, 1, 1}};
     for (size_t i = 0; i < COUNT(windows); i++) {
-        question q = {o, &damaged, some_tile(damaged.m, windows[i]), windows[i], some_class(&damaged)};
+        question q = some_question(o, &damaged, windows[i]);
         ask_in_full(q);
         ask(q, 0, 0);
     }
@@ -374,8 +373,8 @@ void group_vast_windows(void)
 /* On the map at hand, and some question with slices that are too short as well. */
 static void large_window(window at)
 {
-    question q = {questions[below(QUESTIONS)], &sound, some_tile(sound.m, at), at, some_class(&sound)};
-    try_window(&sound, at, q.of_class);
+    question q = some_question(questions[below(QUESTIONS)], &sound, at);
+    try_window(&sound, at, some_class(&sound));
     size_t n = ask_too_short(q);
     ask(q, too_short(at.w), n);
 }
@@ -412,8 +411,7 @@ void group_large_windows(void)
 static void try_window_at_random(window at)
 {
     try_window(&sound, at, some_class(&sound));
-    question q = {questions[below(QUESTIONS)], &sound, some_tile(sound.m, at), at, some_class(&sound)};
-    ask_at_random(q);
+    ask_at_random(some_question(questions[below(QUESTIONS)], &sound, at));
 }
 
 static void random_windows(void)
@@ -430,8 +428,8 @@ static void random_small_windows(void)
     make_map(&sound, m, (shape)below(SHAPES), below((most_cuts(m) >> below(8)) + 1));
     for (int i = 0; i < 16; i++) {
         window at = random_window(m, (size_t)1 << 2 * m);
-        question q = {questions[below(QUESTIONS)], &sound, some_tile(m, at), at, some_class(&sound)};
-        try_window(&sound, at, q.of_class);
+        question q = some_question(questions[below(QUESTIONS)], &sound, at);
+        try_window(&sound, at, some_class(&sound));
         size_t n = ask_in_full(q);
         q.at.h = (uint16_t)near_length(q.at.h);
         q.at.w = (uint16_t)near_length(q.at.w);
@@ -462,11 +460,13 @@ void group_largest_windows(void)
 
 /* ---- Group: the stack ---- */
 
-static void try_month_and_tile(window at)
+/* What try_window does not call. */
+static void try_more(window at)
 {
     uint8_t asked = some_class(&sound);
     try_month(&sound, at);
     try_tile(&sound, some_tile(sound.m, at), at, &asked, 1);
+    try_reasons(&sound, at);
 }
 
 /* Every operation on the map at hand, and on some windows of it. */
@@ -486,9 +486,9 @@ static void call_everything(void)
     for (int i = 0; i < 4; i++)
         try_window(&sound, random_window(sound.m, (size_t)1 << 16), some_class(&sound));
     for (size_t i = 0; i < THIN_WINDOWS; i += 2)
-        try_month_and_tile(thin_window(sound.m, i));
+        try_more(thin_window(sound.m, i));
     for (int i = 0; i < 2; i++)
-        try_month_and_tile(random_window(sound.m, (size_t)1 << 16));
+        try_more(random_window(sound.m, (size_t)1 << 16));
     try_many(&sound);
 }
 

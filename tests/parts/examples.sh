@@ -195,6 +195,54 @@ step 'many sees that the number is missing' example_says '' "$usage" 2 many soun
 step 'many sees that it cannot write' sees_failed_output many sound 2
 step 'many sees that it cannot write a refusal' sees_failed_output many short 2
 
+usage='usage: why FILE R0 C0 H W record INDEX, or block KEY, with a house file'
+no_record='refused 19 at 0: the map has no record of this index'
+not_maximal='refused 22 at 0: the key is that of no maximal block of the window'
+in_first='block 9 is skipped: it lies in record 0, which opening 0 handed out'
+in_last='block 22 is skipped: it lies in record 6, which opening 3 handed out'
+step 'the example why is built' build why examples/why.c
+step 'why says which opening hands out a record' \
+    example_says 'record 5 is handed out by opening 2' '' 0 why sound 0 1 3 3 record 5
+step 'why says which opening hands out one of many records' \
+    example_says 'record 3 is handed out by opening 1' '' 0 why sound 0 1 3 3 record 3
+step 'why says that a record lies north' \
+    example_says 'record 0 lies north of the window' '' 0 why sound 2 2 1 1 record 0
+step 'why says that a record lies south' \
+    example_says 'record 5 lies south of the window' '' 0 why sound 0 0 1 1 record 5
+step 'why says that a record lies west' \
+    example_says 'record 5 lies west of the window' '' 0 why sound 2 2 1 1 record 5
+step 'why says that a record lies east' \
+    example_says 'record 1 lies east of the window' '' 0 why sound 0 0 1 1 record 1
+step 'why says north of a record that lies east too' \
+    example_says 'record 1 lies north of the window' '' 0 why sound 2 0 1 1 record 1
+step 'why says as which opening a block is opened' \
+    example_says 'block 10 is opened, as opening 1' '' 0 why sound 0 1 3 3 block 10
+step 'why says for which record a block is skipped' example_says "$in_first" '' 0 why sound 0 1 3 3 block 9
+step 'why says of the last block for which record it is skipped' \
+    example_says "$in_last" '' 0 why sound 0 1 3 3 block 22
+step 'why says of a picture that it is opened' \
+    example_says 'block 0 is opened, as opening 0' '' 0 why pixel 0 0 1 1 block 0
+step 'why refuses an index that is none' example_says "$no_record" '' 1 why sound 0 1 3 3 record 7
+step 'why refuses the greatest index' example_says "$no_record" '' 1 why sound 0 1 3 3 record 4294967295
+step 'why refuses a block that is not maximal' example_says "$not_maximal" '' 1 why sound 0 1 3 3 block 11
+step 'why refuses a block that leaves the window' example_says "$not_maximal" '' 1 why sound 0 1 3 3 block 5
+step 'why refuses a key that names no block' example_says "$not_maximal" '' 1 why sound 0 1 3 3 block 1
+step 'why refuses a window that sticks out, asked for a record' \
+    example_says "$bad_window" '' 1 why sound 2 0 3 1 record 7
+step 'why refuses a window that sticks out, asked for a block' \
+    example_says "$bad_window" '' 1 why sound 2 0 3 1 block 1
+step 'why refuses a file cut short' example_says "$bad_layout" '' 1 why short 0 1 3 3 record 5
+step 'why refuses an unsound map, asked for a record' example_says "$bad_key" '' 1 why unsound 0 1 3 3 record 5
+step 'why refuses an unsound map, asked for a block' example_says "$bad_key" '' 1 why unsound 0 1 3 3 block 10
+step 'why sees that a file is missing' example_says '' 'missing: cannot be opened' 2 why missing 0 1 3 3 record 5
+step 'why sees that a number is too great' example_says '' "$usage" 2 why sound 0 1 3 3 record 4294967296
+step 'why sees that a number is none' example_says '' "$usage" 2 why sound 0 1 3 3 block -1
+step 'why sees that the window is none' example_says '' "$usage" 2 why sound 0 1 3 w record 5
+step 'why sees that it is asked for neither' example_says '' "$usage" 2 why sound 0 1 3 3 opening 5
+step 'why sees that the number is missing' example_says '' "$usage" 2 why sound 0 1 3 3 record
+step 'why sees that it cannot write' sees_failed_output why sound 0 1 3 3 record 5
+step 'why sees that it cannot write a refusal' sees_failed_output why short 0 1 3 3 record 5
+
 house_file 5 1 3 3 1 1 1 2 >"$files/second"
 house_file 5 1 2 2 2 1 2 255 >"$files/third"
 one_record 12 1 >"$files/garbled"

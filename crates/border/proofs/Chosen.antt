@@ -5,14 +5,14 @@ use mathlib.Core.Bool.{Bool, true, false}
 use mathlib.Core.List.{List, [], _∷_, _++_, append-assoc, map, List·Memᴰ, List·Memᴰ·head, List·Memᴰ·tail, List·Memᴰ·not-nil}
 use Prim.Native.Nat.{ℕ, _≤_}
 use Rattle.lists.specs.Lists.{Ordered, none, more}
-use Rattle.lists.proofs.Laws.{never}
+use Rattle.lists.proofs.Laws.{never, ordered-back}
 use Rattle.key.specs.Picture.{Px}
 use Rattle.window.specs.declared.Window.{Window}
 use Rattle.window.specs.Window.{Inside}
 use Rattle.window.specs.Blocks.{maximal}
 use Rattle.window.specs.Promises.{Before}
 use Rattle.window.specs.Keys.{keyOf}
-use Rattle.window.proofs.Laws.{listed-ordered, ordered-back}
+use Rattle.window.proofs.Laws.{listed-ordered}
 use Rattle.map.specs.Sound.{Spaced}
 use Rattle.map.proofs.Laws.{pixelTile}
 use Rattle.border.specs.Openings.{met, isHanded, Opening, opening, openFrom, openings}

@@ -8,13 +8,14 @@ use Prim.Native.Nat.{ℕ, _≤_, _<_}
 use native.Mathlib.Omega.{arith}
 use lib.ListN.{length}
 use Rattle.lists.specs.Lists.{Ordered}
+use Rattle.lists.proofs.Laws.{ordered-front}
 use Rattle.key.specs.Picture.{place, Px}
 use Rattle.window.specs.declared.Window.{Window}
 use Rattle.window.specs.Window.{In, Inside}
 use Rattle.window.specs.Blocks.{maximal}
 use Rattle.window.specs.Promises.{Before}
 use Rattle.window.specs.Keys.{keyOf}
-use Rattle.window.proofs.Laws.{before-irrefl, listed-ordered, ordered-front, front-all}
+use Rattle.window.proofs.Laws.{before-irrefl, listed-ordered, front-all}
 use Rattle.map.specs.Sound.{Spaced}
 use Rattle.map.proofs.Laws.{Holder, Free, pixelTile, tiles, find, tile-of}
 use Rattle.border.specs.Openings.{isHanded}

@@ -1,15 +1,19 @@
 -- The words in which the promises about the openings of a window are said.
 -- Assumes nothing.
 use mathlib.Core.Path.{_≡_}
-use mathlib.Core.List.{List, [], _∷_, List·Memᴰ}
+use mathlib.Core.Bool.{true}
+use mathlib.Core.List.{List, [], _∷_, _++_, List·Memᴰ}
 use Prim.Native.Nat.{ℕ, _<_}
 use lib.Dec.{ltb}
-use lib.ListN.{length}
+use lib.ListN.{length, getD}
+use Rattle.lists.specs.Promises.{Nth}
 use Rattle.lists.specs.Lists.{keep}
 use Rattle.key.specs.Picture.{Px}
+use Rattle.key.specs.Form.{formOf}
 use Rattle.window.specs.declared.Window.{Window}
 use Rattle.window.specs.Window.{In}
 use Rattle.window.specs.Keys.{keyOf, keysOf}
+use Rattle.map.specs.Spans.{within}
 use Rattle.map.specs.Records.{pixelRecord}
 use Rattle.border.specs.Openings.{met, Opening, made, opening, hands}
 
@@ -39,6 +43,27 @@ pub record HandedOut (os : List Opening) (n : ℕ) : Type 0 where
   pub by : Opening
   pub listed : List·Memᴰ by os
   pub hands : List·Memᴰ n (hands by)
+
+-- opening number k, counted from 0, hands out record n
+pub record HandedBy (os : List Opening) (k n : ℕ) : Type 0 where
+  pub by : Opening
+  pub at : Nth os k by
+  pub hands : List·Memᴰ n (hands by)
+
+-- opening number k is that of the block of a key
+pub record OpenedAs (os : List Opening) (key k : ℕ) : Type 0 where
+  pub by : Opening
+  pub at : Nth os k by
+  pub is : by .key ≡ key
+
+-- a maximal block, by its key, is skipped for record n: it lies in that record, which opening number k hands out, the opening of a block that comes before it
+pub record SkippedFor (m top : ℕ) (keys : List ℕ) (W : Window) (os : List Opening) (key n k : ℕ) : Type 0 where
+  pub lies : within (formOf m key) (formOf m (getD keys n 0)) ≡ true
+  pub handed : HandedBy os k n
+  pub before : List ℕ
+  pub later : List ℕ
+  pub split : keysOf m top W ≡ before ++ key ∷ later
+  pub earlier : List·Memᴰ (handed .by .key) before
 
 -- the openings that bring a record: where the map has gaps, a block that overlaps no record is opened too
 unfoldable pub bringing : List Opening → List Opening

@@ -1,4 +1,5 @@
 mod Named
+mod Squares
 mod Standing
 mod Bits
 mod Powers

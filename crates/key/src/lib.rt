@@ -6,6 +6,18 @@ pub enum Form {
     Malformed,
 }
 
+// A pixel's row and column.
+pub struct Position {
+    pub row: u16,
+    pub col: u16,
+}
+
+// The block of a key by its exponent and its corner's row and column, or malformed.
+pub enum Square {
+    Block { exponent: u32, row: u16, col: u16 },
+    Malformed,
+}
+
 // A number without zeros that it ends in, and how many were taken off.
 pub struct Stripped {
     pub rest: u32,

@@ -3,7 +3,7 @@
 use mathlib.Core.Path.{_≡_, refl, sym, ap, ap₂, _∙_, subst}
 use mathlib.Core.Logic.{_⊎_, inl, inr, _≢_}
 use mathlib.Core.List.{List, [], _∷_, _++_, map}
-use mathlib.Core.List.{List·Memᴰ, List·Memᴰ·head, List·Memᴰ·tail, List·Memᴰ·not-nil, List·Memᴰ·cases-cons, List·Memᴰ·append-cases, Memᴰ·append-left, Memᴰ·of-map}
+use mathlib.Core.List.{List·Memᴰ, List·Memᴰ·head, List·Memᴰ·tail, List·Memᴰ·not-nil, List·Memᴰ·cases-cons, List·Memᴰ·append-cases, Memᴰ·append-left, Memᴰ·append-right, Memᴰ·of-map}
 use Prim.Native.Nat.{ℕ, suc, _≤_, _<_}
 use native.Mathlib.Omega.{arith}
 use lib.ListN.{length}
@@ -18,6 +18,16 @@ module _ {A : Type 0} where
   pub ordered-part : {R : A → A → Type 0} (l s : List A) → Ordered R (l ++ s) → Ordered R l
   ordered-part [] s o = none
   ordered-part (x ∷ l) s (more h o) = more (λ y n. h y (Memᴰ·append-left s n)) (ordered-part l s o)
+
+  -- what stands before an element, and behind it
+  pub ordered-front : {R : A → A → Type 0} (l r : List A) {b x : A} → Ordered R (l ++ b ∷ r) → List·Memᴰ x l → R x b
+  ordered-front [] r o n = absurd (List·Memᴰ·not-nil n)
+  ordered-front (y ∷ l) r (more h o) (List·Memᴰ·head e) = rw e (h _ (Memᴰ·append-right l (List·Memᴰ·head refl)))
+  ordered-front (y ∷ l) r (more h o) (List·Memᴰ·tail n) = ordered-front l r o n
+
+  pub ordered-back : {R : A → A → Type 0} (l r : List A) {b x : A} → Ordered R (l ++ b ∷ r) → List·Memᴰ x r → R b x
+  ordered-back [] r (more h o) n = h _ n
+  ordered-back (y ∷ l) r (more h o) n = ordered-back l r o n
 
   pub ordered-append : {R : A → A → Type 0} {l s : List A} → Ordered R l → Ordered R s
       → ((x y : A) → List·Memᴰ x l → List·Memᴰ y s → R x y) → Ordered R (l ++ s)

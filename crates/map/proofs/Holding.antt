@@ -2,23 +2,23 @@
 -- Assumes nothing.
 use mathlib.Core.Path.{_≡_, sym, _∙_}
 use mathlib.Core.Logic.{_↔_, _⊎_, inl, inr}
-use mathlib.Core.Bool.{Bool, true}
-use mathlib.Core.List.{List}
+use mathlib.Core.Bool.{Bool, true, false}
+use mathlib.Core.List.{List, List·Memᴰ}
 use Prim.Native.Nat.{ℕ, suc, _+_, _/_, _^_, _≤_, _<_}
 use native.Mathlib.Decide.{decLt}
 use native.Mathlib.Nat.{div-one}
 use native.Mathlib.Omega.{arith}
 use lib.ListN.{length, getD}
 use borrow.Author.Tests.{lt-ltb, le-ltb}
-use Rattle.lists.proofs.Laws.{refuted, stretch-of, stretch-begins, before-none}
+use Rattle.lists.proofs.Laws.{refuted, stretch-of, stretch-begins, nth-of, nth-less, nth-getD, before-none}
 use Rattle.key.specs.Picture.{Pixel, place}
 use Rattle.key.specs.Form.{formOf}
 use Rattle.key.specs.Blocks.{Names, Among}
-use Rattle.key.proofs.Laws.{one-block, block-lies, holds-same, place-lt, place-one}
+use Rattle.key.proofs.Laws.{one-block, block-lies, holds-same, span-square, place-lt, place-one, pow-least}
 use Rattle.map.specs.Spans.{formExponent, holds}
 use Rattle.map.specs.Sound.{Follow, Spaced}
 use Rattle.map.specs.Records.{recordOf, exponentOf, pixelRecord, pixelExponent}
-use Rattle.map.proofs.Tiles.{SomeRecord, Holder, Free, tileOf, Tiling, pixelTile}
+use Rattle.map.proofs.Tiles.{Record, SomeRecord, Holder, Free, tileOf, Tiling, pixelTile}
 use Rattle.map.proofs.Order.{spaced, record-at, holder, find, one-holder}
 use Rattle.map.proofs.Tests.{exponent-is, holds-is}
 
@@ -75,8 +75,13 @@ module _ {m : ℕ} {keys : List ℕ} (F : Spaced m 0 keys) where
   -- or the number of records
   pub record-none : {q : ℕ} → Free m keys q → recordOf m keys q ≡ length keys
   unfolding recordOf
-  record-none {q} f =
-      before-none (λ k. holds q (formOf m k)) keys (λ n l. let r = record-at F n l in refuted _ (λ e. f .none (r .is) (holds-is q (r .is .names) .0 e)))
+  record-none {q} f = before-none (λ k. holds q (formOf m k)) keys none
+    where
+      none : (k : ℕ) → List·Memᴰ k keys → holds q (formOf m k) ≡ false
+      none k l =
+          let t = nth-of l in
+          let r = record-at F (t .0) (nth-less (t .1)) in
+          refuted _ (λ e. f .none (r .is) (holds-is q (r .is .names) .0 (rw (nth-getD (t .1)) e)))
 
   module _ {q : ℕ} (H : Holder m keys q) where
     within : recordOf m keys q < length keys
@@ -119,6 +124,16 @@ module _ {m : ℕ} {keys : List ℕ} (F : Spaced m 0 keys) where
           let same : Names m (getD keys (K .index) 0) (H .exponent) (H .start) = rw e at (H .is .names) in
           let o = one-block same (K .is .names) in
           rw (o .0, o .1) (K .has)
+
+  -- the pixels of a record are those of a square, from the pixel on at whose place its span starts
+  pub record-square : {n i r c y x : ℕ} → Record m keys n i (place r c) → Pixel m r c → Pixel m y x
+      → (pixelRecord m keys y x ≡ n) ↔ (Among r (2 ^ i) y × Among c (2 ^ i) x)
+  record-square {n} {i} {r} {c} {y} {x} R p v =
+      let H : Holder m keys (place r c) = record { index = n; exponent = i; start = place r c; is = R; has = omega (arith, pow-least 3 i) } in
+      let s = span-square (R .names) p v in (
+        λ e. let K = record-holder (place y x) (rw e (R .within)) in s .0 (share H K .0 (sym e ∙ record-of K)),
+        λ h. record-of (record { index = n; exponent = i; start = place r c; is = R; has = s .1 h }),
+      )
 
   -- a map is a tiling: a pixel that is in no record is a tile of its own
   pub tiles : Tiling m (pixelTile m keys) (pixelExponent m keys)

@@ -6,10 +6,10 @@ use mathlib.Core.Bool.{Bool, true}
 use Prim.Native.Nat.{ℕ, zero, suc, _+_, _-_, _^_, _≤_, _<_}
 use native.Mathlib.Nat.{eq-or-lt-of-le}
 use native.Mathlib.Omega.{arith}
-use lib.Dec.{leb, ltb, eqb}
-use borrow.Author.Tests.{eqb-true, eq-eqb, leb-true, le-leb, ltb-true, lt-ltb}
+use lib.Dec.{eqb}
+use borrow.Author.Tests.{eqb-true, eq-eqb}
 use Rattle.lists.specs.Lists.{greatest}
-use Rattle.lists.proofs.Laws.{both, greatest-le, greatest-holds, greatest-over}
+use Rattle.lists.proofs.Laws.{both, in-range, greatest-le, greatest-holds, greatest-over}
 use Rattle.key.specs.Blocks.{Among}
 use Rattle.key.proofs.Laws.{pow-least}
 use Rattle.stretch.specs.Sets.{base, full, fitsIn, exponentIn, starts, between}
@@ -109,7 +109,7 @@ exponent-part m {P} {Q} {q} k f =
 module _ (a b : ℕ) where
   pub between-is : (q : ℕ) → (between a b q ≡ true) ↔ ((a ≤ q) × (q < b))
   unfolding between
-  between-is q = let t = both (leb a q) (ltb q b) in (λ e. (leb-true a q (t .0 e .0), ltb-true q b (t .0 e .1)), λ h. t .1 (le-leb a q (h .0), lt-ltb q b (h .1)))
+  between-is = in-range a b
 
   pub between-fits : {i q : ℕ} → FitsIn (between a b) i q ↔ ((a ≤ base i q) × (base i q + 4 ^ i ≤ b))
   between-fits {i} {q} = (to, λ h. record { all = λ x k. between-is x .1 (omega arith) })

@@ -48,7 +48,7 @@ module _ (W : Window) where
       rw a (sym (ap (λ (n : ℕ). rows (W .r0) (W .c0) n (W .w)) e))
 
 module _ (W : Window) (top : ℕ) where
-  from-corner : (r c : ℕ) → c < W .c0 + W .w → corner W top (r, c) ≡ (r, c) → blocksFrom W top (r, c) ≡ (r, c) ∷ blocksFrom W top (r, suc c)
+  pub from-corner : (r c : ℕ) → c < W .c0 + W .w → corner W top (r, c) ≡ (r, c) → blocksFrom W top (r, c) ≡ (r, c) ∷ blocksFrom W top (r, suc c)
   unfolding blocksFrom
   from-corner r c l e = rw (from-pixel W r c l) (keep-taken (isCorner W top) (pixelsFrom W (r, suc c)) (corner-is W top (r, c) .1 e))
 

@@ -14,7 +14,7 @@ use Rattle.window.specs.Window.{In, Inside}
 use Rattle.window.specs.Blocks.{exponent, corner, isCorner, maximal}
 use Rattle.window.specs.Walk.{Cursor, pixelsFrom, blocksFrom, Walked, Goes, block, end}
 use Rattle.window.proofs.Listed.{corner-is}
-use Rattle.window.proofs.Onward.{from-all}
+use Rattle.window.proofs.Onward.{from-all, from-corner}
 
 module _ {W : Window} {top : ℕ} where
   pub walked-first : {m : ℕ} → Inside m W → Walked W top [] (W .r0, W .c0)
@@ -53,3 +53,17 @@ module _ {W : Window} {top r c i d : ℕ} {s : Px} where
 
   pub goes-cursor : Goes W top s (Block r c i d) → Cursor W (r, d)
   goes-cursor (block v e f u g) = u
+
+abbrev first : Px → List Px → Px
+first q [] = q
+first q (p ∷ l) = p
+
+-- from a corner on, the next block is its own
+module _ {W : Window} {top y x : ℕ} (v : In W (y, x)) (e : corner W top (y, x) ≡ (y, x)) where
+  pub goes-own : {r c i d : ℕ} → Goes W top (y, x) (Block r c i d) → (r ≡ y) × (c ≡ x)
+  goes-own (block u k f o g) =
+      let t = ap (first (y, x)) (sym g ∙ from-corner W top y x (v .right) e) in
+      (ap (λ (p : Px). p .0) t, ap (λ (p : Px). p .1) t)
+
+  pub goes-some : Goes W top (y, x) End → ⊥
+  goes-some (end g) = let t = ap length (sym g ∙ from-corner W top y x (v .right) e) in omega (arith, t)

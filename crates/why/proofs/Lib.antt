@@ -1,0 +1,7 @@
+mod Sides
+mod Squares
+mod Listed
+mod Bringing
+mod Records
+mod Blocks
+mod Tables
