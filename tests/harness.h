@@ -70,8 +70,8 @@ typedef struct {
 } call;
 
 /*
- * One call, once with each garbage. Of every slice, written by the call or not, all cells and guards are compared. A
- * reason is compared whole; of its five numbers the first four are returned, and all are the last reason.
+ * One call, once with each garbage. Of every slice, written by the call or not, all cells and guards are compared. Of a
+ * reason all five numbers are; the first four are returned in place of an answer's, and last_reason has them all.
  */
 lutniorad_answer compare(call c);
 lutniorad_reason last_reason(void);

@@ -264,7 +264,7 @@ static void hold_refusals(void)
 
 /* ---- What is said ---- */
 
-/* On the map as it is begun, of records, and in the end of blocks, by windows of one row. */
+/* On the map as it is begun: of records, and at last of blocks, for windows of one row. */
 static const struct {
     const char *name;
     uint32_t said, about;

@@ -79,42 +79,6 @@ static lutniorad_answer compare_question(question q, given keys, given classes, 
     return answer;
 }
 
-/* The record that has some pixel of the block: the last one whose key is not beyond that of the pixel. */
-static uint32_t some_record_in(const map *a, uint32_t block)
-{
-    uint32_t pixel = block, place = 1, record = 0;
-    for (size_t side = side_of_block(a->m, block); side > 1; side /= 2, place *= 5)
-        pixel += (1 + (uint32_t)below(4)) * place;
-    while (record + 1 < a->q && a->keys[record + 1] <= pixel)
-        record++;
-    return record;
-}
-
-/*
- * A record, mostly one of the map, and often one in the window; or a key, mostly that of a maximal block, or of a
- * record there. The others are beside these, or any number, as always where the window is refused.
- */
-static uint32_t something_to_explain(const operation *o, const map *a, window at)
-{
-    static uint32_t blocks[LUTNIORAD_DECOMPOSE_CELLS(LUTNIORAD_MOST_SIDE, LUTNIORAD_MOST_SIDE)];
-    lutniorad_answer cut = reference_decompose(a->m, at.r0, at.c0, at.h, at.w, blocks, COUNT(blocks));
-    size_t kind = below(8);
-    if (kind == 0 || cut.refusal != 0 || a->q == 0)
-        return (uint32_t)random_number();
-    uint32_t block = blocks[below(cut.first)], record = some_record_in(a, block);
-    if (o == &WHY_RECORD)
-        return (uint32_t)(kind == 1 ? a->q + below(NEAR) : kind < 5 ? below(a->q) : record);
-    return kind == 1 ? block + 1 : kind == 2 ? a->keys[record] : block;
-}
-
-question some_question(const operation *o, const map *a, window at)
-{
-    const bool explains = o == &WHY_RECORD || o == &WHY_BLOCK;
-    uint32_t about = explains ? something_to_explain(o, a, at) : some_class(a);
-    question q = {o, a, some_tile(a->m, at), at, about};
-    return q;
-}
-
 lutniorad_answer ask_slices(question q, size_t n_keys, size_t n_classes, size_t n_border, size_t n_out)
 {
     given keys = {q.map->keys, n_keys}, classes = {q.map->classes, n_classes};
@@ -235,6 +199,44 @@ void require_border(window at, uint16_t stated)
     const uint16_t *border = left(2);
     for (size_t i = 0; stated != 0 && i < at.w; i++)
         require(border[i] == stated, "another border than the one written out");
+}
+
+/* ---- Some question ---- */
+
+/* The record that has some pixel of the block: the last one whose key is not beyond that of the pixel. */
+static uint32_t some_record_in(const map *a, uint32_t block)
+{
+    uint32_t pixel = block, place = 1, record = 0;
+    for (size_t side = side_of_block(a->m, block); side > 1; side /= 2, place *= 5)
+        pixel += (1 + (uint32_t)below(4)) * place;
+    while (record + 1 < a->q && a->keys[record + 1] <= pixel)
+        record++;
+    return record;
+}
+
+/*
+ * A record, mostly one of the map, and often one in the window; or a key, mostly that of a maximal block, or of a
+ * record there. The others are beside these, or any number, as always where the window is refused.
+ */
+static uint32_t something_to_explain(const operation *o, const map *a, window at)
+{
+    static uint32_t blocks[LUTNIORAD_DECOMPOSE_CELLS(LUTNIORAD_MOST_SIDE, LUTNIORAD_MOST_SIDE)];
+    lutniorad_answer cut = reference_decompose(a->m, at.r0, at.c0, at.h, at.w, blocks, COUNT(blocks));
+    size_t kind = below(8);
+    if (kind == 0 || cut.refusal != 0 || a->q == 0)
+        return (uint32_t)random_number();
+    uint32_t block = blocks[below(cut.first)], record = some_record_in(a, block);
+    if (o == &WHY_RECORD)
+        return (uint32_t)(kind == 1 ? a->q + below(NEAR) : kind < 5 ? below(a->q) : record);
+    return kind == 1 ? block + 1 : kind == 2 ? a->keys[record] : block;
+}
+
+question some_question(const operation *o, const map *a, window at)
+{
+    const bool explains = o == &WHY_RECORD || o == &WHY_BLOCK;
+    uint32_t about = explains ? something_to_explain(o, a, at) : some_class(a);
+    question q = {o, a, some_tile(a->m, at), at, about};
+    return q;
 }
 
 /* ---- Reasons together ---- */

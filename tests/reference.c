@@ -420,8 +420,7 @@ typedef struct {
     uint64_t key, first, count;
 } opening;
 
-/* The openings of the window at hand. */
-static opening openings[MOST_BLOCKS];
+static opening openings[MOST_BLOCKS]; /* of the window at hand */
 
 /* Hands out every record that has a pixel in the block. */
 static opening open_block(square block, window at, uint64_t side_of_all, uint64_t number)
@@ -438,7 +437,7 @@ static opening open_block(square block, window at, uint64_t side_of_all, uint64_
     return made;
 }
 
-/* Makes them, on a map of q records, and returns their number. */
+/* Makes the openings of the window at hand, on a map of q records, and returns their number. */
 static uint64_t make_openings(uint32_t m, uint32_t tile, uint64_t q, window at)
 {
     const block_list *maximal = list_maximal(at, side_of_tile(tile));

@@ -132,7 +132,7 @@ static void stated_reason(size_t i)
     require_border(at, stated_reasons[i].reason.refusal == 0 ? (uint16_t)(at.r0 + at.h) : 0);
 }
 
-/* Of that window every other number, up to some: of smaller blocks, of larger ones, of those outside, and of none. */
+/* Of the window 0 1 3 3 every other number up to 300: of smaller blocks, of larger ones, of some outside, of none. */
 static void stated_not_maximal(void)
 {
     static const uint32_t maximal[] = {7, 9, 10, 17, 21, 22};
@@ -149,57 +149,51 @@ static void stated_not_maximal(void)
         }
 }
 
-/* The largest picture, of one record: the whole of it, and its last row, whose pixels are the blocks. */
+/*
+ * On the largest picture, m = 12, of one record, and on the longest map, whose records are the pixels of m = 8. In the
+ * last row of either the pixels are the blocks.
+ */
 static const struct {
     const operation *operation;
+    uint32_t m;
     window at;
     uint32_t about;
     size_t n_border;
     lutniorad_reason reason;
 } stated_largest[] = {
-    {&WHY_RECORD, {0, 0, 4096, 4096}, 0, 4096, {0, 0, 1, 0, 0}},
-    {&WHY_RECORD, {0, 0, 4096, 4096}, 1, 4096, {19, 0, 0, 0, 0}},
-    {&WHY_RECORD, {0, 0, 4096, 4096}, 0, 4095, {7, 4096, 0, 0, 0}},
-    {&WHY_BLOCK, {0, 0, 4096, 4096}, 0, 4096, {0, 0, 6, 0, 0}},
-    {&WHY_BLOCK, {0, 0, 4096, 4096}, 48828125, 4096, {22, 0, 0, 0, 0}},
-    {&WHY_BLOCK, {0, 0, 4096, 4096}, 244140625, 4096, {22, 0, 0, 0, 0}}, /* 5^12 */
-    {&WHY_BLOCK, {4095, 0, 1, 4096}, 183105468, 4096, {0, 0, 6, 0, 0}},  /* all digits 3 */
-    {&WHY_BLOCK, {4095, 0, 1, 4096}, 244140624, 4096, {0, 0, 7, 0, 0}},  /* all digits 4 */
-    {&WHY_BLOCK, {4095, 0, 1, 4096}, 244140624, 4095, {7, 4096, 0, 0, 0}},
+    {&WHY_RECORD, 12, {0, 0, 4096, 4096}, 0, 4096, {0, 0, 1, 0, 0}},
+    {&WHY_RECORD, 12, {0, 0, 4096, 4096}, 1, 4096, {19, 0, 0, 0, 0}},
+    {&WHY_RECORD, 12, {0, 0, 4096, 4096}, 0, 4095, {7, 4096, 0, 0, 0}},
+    {&WHY_BLOCK, 12, {0, 0, 4096, 4096}, 0, 4096, {0, 0, 6, 0, 0}},
+    {&WHY_BLOCK, 12, {0, 0, 4096, 4096}, 48828125, 4096, {22, 0, 0, 0, 0}},
+    {&WHY_BLOCK, 12, {0, 0, 4096, 4096}, 244140625, 4096, {22, 0, 0, 0, 0}}, /* 5^12 */
+    {&WHY_BLOCK, 12, {4095, 0, 1, 4096}, 183105468, 4096, {0, 0, 6, 0, 0}},  /* twelve digits 3 */
+    {&WHY_BLOCK, 12, {4095, 0, 1, 4096}, 427246093, 4096, {22, 0, 0, 0, 0}}, /* the same behind a 1 */
+    {&WHY_BLOCK, 12, {4095, 0, 1, 4096}, 244140624, 4096, {0, 0, 7, 0, 0}},  /* twelve digits 4 */
+    {&WHY_BLOCK, 12, {4095, 0, 1, 4096}, 244140624, 4095, {7, 4096, 0, 0, 0}},
+    {&WHY_RECORD, 8, {7, 9, 1, 1}, 107, 1, {0, 0, 1, 107, 0}},
+    {&WHY_RECORD, 8, {7, 9, 1, 1}, 0, 1, {0, 0, 2, 0, 0}},
+    {&WHY_RECORD, 8, {7, 9, 1, 1}, 65535, 1, {0, 0, 3, 65535, 0}},
+    {&WHY_RECORD, 8, {7, 9, 1, 1}, 65536, 1, {19, 0, 0, 0, 0}},
+    {&WHY_RECORD, 8, {255, 0, 1, 256}, 65535, 256, {0, 0, 1, 65535, 255}},
+    {&WHY_RECORD, 8, {0, 0, 256, 256}, 65535, 256, {0, 0, 1, 65535, 0}},
+    {&WHY_BLOCK, 8, {255, 0, 1, 256}, 390624, 256, {0, 0, 6, 0, 255}}, /* eight digits 4 */
+    {&WHY_BLOCK, 8, {255, 0, 1, 256}, 390625, 256, {22, 0, 0, 0, 0}},
 };
 
-static void stated_largest_picture(size_t i)
+/* One record more than the longest map has is too many. */
+static void stated_largest_map(size_t i)
 {
-    make_picture(&sound, 12, 0);
+    static const lutniorad_reason too_many = {2, 0, 0, 0, 0};
+    const uint32_t m = stated_largest[i].m;
+    make_map(&sound, m, EVEN, m == 8 ? most_cuts(8) : 0);
     question q = {stated_largest[i].operation, &sound, NO_TILE, stated_largest[i].at, stated_largest[i].about};
     ask(q, stated_largest[i].n_border, 0);
     require_reason(stated_largest[i].reason);
-}
-
-/* As many records as a map may have, each a pixel, and one more. The last row has 256 openings, each of one record. */
-static const struct {
-    window at;
-    uint32_t record;
-    lutniorad_reason reason;
-} stated_records[] = {
-    {{7, 9, 1, 1}, 107, {0, 0, 1, 107, 0}},
-    {{7, 9, 1, 1}, 0, {0, 0, 2, 0, 0}},
-    {{7, 9, 1, 1}, 65535, {0, 0, 3, 65535, 0}},
-    {{7, 9, 1, 1}, 65536, {19, 0, 0, 0, 0}},
-    {{255, 0, 1, 256}, 43690, {0, 0, 1, 43690, 0}},
-    {{255, 0, 1, 256}, 65535, {0, 0, 1, 65535, 255}},
-    {{0, 0, 256, 256}, 65535, {0, 0, 1, 65535, 0}},
-};
-
-static void stated_most_records(size_t i)
-{
-    static const lutniorad_reason too_many = {2, 0, 0, 0, 0};
-    make_map(&sound, 8, EVEN, most_cuts(8));
-    question q = {&WHY_RECORD, &sound, NO_TILE, stated_records[i].at, stated_records[i].record};
-    ask_slices(q, 65537, 65537, q.at.w, 0);
-    require_reason(too_many);
-    ask_slices(q, 65536, 65536, q.at.w, 0);
-    require_reason(stated_records[i].reason);
+    if (m == 8) {
+        ask_slices(q, sound.q + 1, sound.q + 1, stated_largest[i].n_border, 0);
+        require_reason(too_many);
+    }
 }
 
 void group_reasons_written_out(void)
@@ -211,10 +205,7 @@ void group_reasons_written_out(void)
         stated_not_maximal();
     for (size_t i = 0; i < COUNT(stated_largest); i++)
         if (begin_case())
-            stated_largest_picture(i);
-    for (size_t i = 0; i < COUNT(stated_records); i++)
-        if (begin_case())
-            stated_most_records(i);
+            stated_largest_map(i);
 }
 
 /* ---- Group: small reasons ---- */
@@ -222,10 +213,10 @@ void group_reasons_written_out(void)
 /* Numbers that no small map has. In a part of their bits some look like others. */
 static const uint32_t far_numbers[] = {256, 257, 65536, 65541, 1u << 31, (1u << 31) + 5, UINT32_MAX - 1, UINT32_MAX};
 
-/* On the map at hand each number as a record and as a key, up to beyond 5^m, and some far beyond. */
+/* On the map at hand each number as a record and as a key, up to those with a digit more, and some far beyond. */
 static void ask_about_every_number(window at)
 {
-    const uint32_t beyond = power_of_5(sound.m) + 7;
+    const uint32_t beyond = 2 * power_of_5(sound.m) + 7;
     for (uint32_t k = 0; k < beyond + COUNT(far_numbers); k++)
         for (size_t i = 0; i < COUNT(both); i++)
             ask_why(both[i], at, k < beyond ? k : far_numbers[k - beyond]);

@@ -14,4 +14,4 @@ header_as() { # COMPILER LANGUAGE STANDARD...
 step 'the header is C99, C11 and C17' header_as "$cc" c c99 c11 c17
 step 'the header is C++98, C++11, C++17 and C++20' header_as g++ c++ c++98 c++11 c++17 c++20
 step 'what holds the names of the header is built' build names tests/names.c tests/even.c
-step 'refusals, sentences, limits and room are as the header names them' run names
+step 'refusals, sentences, what is said, limits and room are as the header names them' run names

@@ -1,16 +1,18 @@
 -- Refusals have numbers from 1 on, so the number 0 tells an answer that is no refusal.
 -- Assumes nothing.
-use mathlib.Core.Path.{_≡_, refl, sym}
+use mathlib.Core.Path.{_≡_, refl, sym, ap, _∙_}
 use mathlib.Core.Logic.{_↔_}
 use mathlib.Core.Bool.{Bool, true, false, cond}
 use mathlib.Core.List.{List, [], _∷_, _++_}
-use Prim.Native.Nat.{ℕ, _≤_}
+use Prim.Native.Nat.{ℕ, _≤_, _<_}
 use native.Mathlib.Omega.{arith}
+use Rattle.lists.proofs.Laws.{never}
+use Rattle.answers.specs.declared.Verdict.{Verdict}
 use Rattle.answers.specs.declared.Verdict.the-variants.{Passed, Refused}
 use Rattle.answers.specs.Refusals.{Refusal, refusal, answer, verdict}
 use Rattle.answers.specs.Sizes.{pictureRefusals, countRefusals, sizeRefusals}
 use Rattle.answers.specs.After.{roomRefusals}
-use Rattle.answers.proofs.Tables.{refused-not-passed}
+use Rattle.answers.proofs.Tables.{answer-none, refusal-held, refusal-clear, append-passed, append-refused, refused-not-passed}
 
 -- each refusal has a number from 1 to `most`
 pub data Numbered (most : ℕ) : List Refusal → Type 0 where
@@ -67,3 +69,17 @@ module _ {A : Type 0} (refuse : ℕ → ℕ → A) (number : A → ℕ) (tells :
       go : (t : Bool) → number (answer refuse rs a) ≤ most → number (cond t (refuse (r .number) (r .place)) (answer refuse rs a)) ≤ most
       go true ih = omega (arith, tells (r .number) (r .place), h)
       go false ih = ih
+
+  -- a number over all others in the table, given by the last refusal alone: exactly when that holds, and none before it does
+  pub number-last : {rs : List Refusal} {a : A} → Numbered most rs → number a ≡ 0 → (b : Bool) (k p : ℕ) → most < k
+      → (number (answer refuse (rs ++ refusal b k p ∷ []) a) ≡ k) ↔ ((verdict rs ≡ Passed) × (b ≡ true))
+  number-last {rs} {a} N e b k p l = go b (verdict rs) refl
+    where
+      go : (b : Bool) (v : Verdict) → verdict rs ≡ v → (number (answer refuse (rs ++ refusal b k p ∷ []) a) ≡ k) ↔ ((verdict rs ≡ Passed) × (b ≡ true))
+      go true Passed d = (λ z. (d, refl), λ t. ap number (append-passed refuse rs _ a d ∙ refusal-held refuse k p [] a refl) ∙ tells k p)
+      go false Passed d =
+          let is = ap number (append-passed refuse rs (refusal false k p ∷ []) a d ∙ refusal-clear refuse k p [] a refl ∙ answer-none refuse a) in
+          (λ z. absurd (omega (arith, l, is, e, z)), λ t. never (sym (t .1)))
+      go b (Refused n q) d =
+          let is = ap number (append-refused refuse rs (refusal b k p ∷ []) a d) ∙ tells n q in
+          (λ z. absurd (omega (arith, l, refused-most N d, is, z)), λ t. absurd (refused-not-passed (sym d ∙ t .0)))

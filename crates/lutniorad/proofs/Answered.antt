@@ -32,7 +32,7 @@ use Rattle.lutniorad.specs.declared.Answer.{Answer}
 use Rattle.lutniorad.specs.Numbers.{values, refused, ofChecked, ofExistence, ofReading, ofWriting}
 use Rattle.lutniorad.specs.Calls.{Check, Exist, Read, Write}
 use Rattle.lutniorad.proofs.Crossing.{both-slices}
-use Rattle.lutniorad.proofs.Told.{told-most, told-when, told-kept}
+use Rattle.lutniorad.proofs.Told.{four, told-most, told-when, told-kept}
 
 -- ---- checking
 
@@ -41,10 +41,10 @@ module _ (m : ℕ) (keys classes : List ℕ) {r : Answer} (call : Check m keys c
   check-says = call .answer ∙ ap ofChecked (check-is m keys (length classes)) ∙ answer-part ofChecked checked.Refused (mapRefusals m keys (length classes)) _
 
   pub check-numbered : r .refusal ≤ 5
-  check-numbered = told-most _ refl (numbered-map (omega arith) m keys (length classes)) check-says
+  check-numbered = told-most four _ refl (numbered-map (omega arith) m keys (length classes)) check-says
 
   pub check-answered : (r .refusal ≡ 0) ↔ SoundMap m keys (length classes)
-  check-answered = told-when _ refl (numbered-map {most = 5} (omega arith) m keys (length classes)) check-says (sound-map m keys (length classes))
+  check-answered = told-when four _ refl (numbered-map {most = 5} (omega arith) m keys (length classes)) check-says (sound-map m keys (length classes))
 
   pub check-promise : r .refusal ≡ 0 → r ≡ values (length keys) 0
   check-promise z = check-says ∙ on-passed refused _ _ (sound-map m keys (length classes) .1 (check-answered .0 z))
@@ -72,16 +72,16 @@ module _ (m : ℕ) (keys classes : List ℕ) (W : Window) (class : ℕ) (border 
       go false false = refl
 
   pub exist-numbered : r .refusal ≤ 7
-  exist-numbered = told-most (sayExists m keys classes W class) clear (numbered-use m keys (length classes) W (length border) (omega arith)) exist-says
+  exist-numbered = told-most four (sayExists m keys classes W class) clear (numbered-use m keys (length classes) W (length border) (omega arith)) exist-says
 
   pub exist-answered : (r .refusal ≡ 0) ↔ Answerable m keys (length classes) W (length border)
   exist-answered =
-      told-when (sayExists m keys classes W class) clear (numbered-use m keys (length classes) W (length border) {most = 7} (omega arith)) exist-says
+      told-when four (sayExists m keys classes W class) clear (numbered-use m keys (length classes) W (length border) {most = 7} (omega arith)) exist-says
       (use-answerable m keys (length classes) W (length border))
 
   pub exist-kept : (r .refusal ≡ 0 → ⊥) → border′ ≡ border
   exist-kept =
-      told-kept (sayExists m keys classes W class) clear (numbered-use m keys (length classes) W (length border) {most = 7} (omega arith)) exist-says
+      told-kept four (sayExists m keys classes W class) clear (numbered-use m keys (length classes) W (length border) {most = 7} (omega arith)) exist-says
       (λ held. call .cells ∙ exist-untouched m keys classes W class border held)
 
 -- ---- files
@@ -91,10 +91,10 @@ module _ (file keys classes : List ℕ) {keys′ classes′ : List ℕ} {r : Ans
   read-says = call .answer ∙ ap ofReading (read-by-lengths file keys classes) ∙ answer-part ofReading reading.Refused (readRefusals file (length keys) (length classes)) _
 
   pub read-numbered : r .refusal ≤ 9
-  read-numbered = told-most _ refl (numbered-read file (length keys) (length classes)) read-says
+  read-numbered = told-most four _ refl (numbered-read file (length keys) (length classes)) read-says
 
   pub read-answered : (r .refusal ≡ 0) ↔ Readable file (length keys) (length classes)
-  read-answered = told-when _ refl (numbered-read file (length keys) (length classes)) read-says (read-passed file (length keys) (length classes))
+  read-answered = told-when four _ refl (numbered-read file (length keys) (length classes)) read-says (read-passed file (length keys) (length classes))
 
   pub read-kept : (r .refusal ≡ 0 → ⊥) → (keys′ ≡ keys) × (classes′ ≡ classes)
   read-kept held = both-slices (call .cells ∙ read-untouched file keys classes (λ R. held (read-answered .1 R)))
@@ -107,10 +107,10 @@ module _ (m : ℕ) (keys classes out : List ℕ) {out′ : List ℕ} {r : Answer
       ∙ answer-part ofWriting writing.Refused (writeRefusals m (length keys) (length classes) (length out)) _
 
   pub write-numbered : r .refusal ≤ 8
-  write-numbered = told-most _ refl (numbered-write m (length keys) (length classes) (length out)) write-says
+  write-numbered = told-most four _ refl (numbered-write m (length keys) (length classes) (length out)) write-says
 
   pub write-answered : (r .refusal ≡ 0) ↔ (Sized m (length keys) (length classes) × (20 + 5 * length keys ≤ length out))
-  write-answered = told-when _ refl (numbered-write m (length keys) (length classes) (length out)) write-says (write-passed m (length keys) (length classes) (length out))
+  write-answered = told-when four _ refl (numbered-write m (length keys) (length classes) (length out)) write-says (write-passed m (length keys) (length classes) (length out))
 
   pub write-kept : (r .refusal ≡ 0 → ⊥) → out′ ≡ out
   write-kept held = call .cells ∙ write-untouched m keys classes out (λ t. held (write-answered .1 t))

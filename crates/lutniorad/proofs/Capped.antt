@@ -13,13 +13,13 @@ use Rattle.answers.specs.After.{After, after, tiledFor}
 use Rattle.answers.proofs.Laws.{answer-append, on-refused, tile-large, tile-over}
 use Rattle.lutniorad.specs.declared.Answer.{Answer}
 use Rattle.lutniorad.specs.Numbers.{refused}
-use Rattle.lutniorad.proofs.Told.{guarded-says}
+use Rattle.lutniorad.proofs.Told.{four, guarded-says}
 
 module _ {S : Type 0} (m top : ℕ) (lent : S) (o : After Answer S) {r : Answer} {lent′ : S} (call : after r lent′ ≡ tiledFor refused m top lent o) where
   -- the four numbers: the first of refusals 1 and 17 that holds, or what is said without them
   pub capped-says : (rs : List Refusal) (v : Answer) → o .answer ≡ answer refused rs v → r ≡ answer refused (tileRefusals m top ++ rs) v
   capped-says rs v said =
-      guarded-says (tileRefusals m top) lent o call
+      guarded-says four (tileRefusals m top) lent o call
       ∙ ap (λ (x : Answer). answer refused (tileRefusals m top) x) said
       ∙ sym (answer-append refused (tileRefusals m top) rs v)
 

@@ -17,7 +17,7 @@ use Rattle.lutniorad.specs.declared.Answer.{Answer}
 use Rattle.lutniorad.specs.Numbers.{values, refused}
 use Rattle.lutniorad.specs.Calls.{Call}
 use Rattle.lutniorad.proofs.Crossing.{crossed}
-use Rattle.lutniorad.proofs.Told.{told-most, told-when, told-kept}
+use Rattle.lutniorad.proofs.Told.{four, told-most, told-when, told-kept}
 
 -- from the contract of such a call to one outcome in numbers
 pub drawn-crossed : {A : Type 0} (say : A → Answer) (refuse : ℕ → ℕ → A) (done : A) (cells : List ℕ) (m : ℕ) (W : Window) (out : List ℕ)
@@ -34,15 +34,15 @@ module _ (first : ℕ) (cells : List ℕ) (m : ℕ) (W : Window) (out : List ℕ
   drawn-says = ap (λ (x : After Answer (List ℕ)). x .answer) call ∙ drawn-by-length refused (values first 0) cells m W out
 
   pub drawn-numbered : r .refusal ≤ 8
-  drawn-numbered = told-most (values first 0) refl (numbered-drawn m W (length cells) (length out)) drawn-says
+  drawn-numbered = told-most four (values first 0) refl (numbered-drawn m W (length cells) (length out)) drawn-says
 
   pub drawn-answered : (r .refusal ≡ 0) ↔ ((m ≤ 12) × Inside m W × (length cells ≤ length out))
-  drawn-answered = told-when (values first 0) refl (numbered-drawn m W (length cells) (length out)) drawn-says (drawn-passed m W (length cells) (length out))
+  drawn-answered = told-when four (values first 0) refl (numbered-drawn m W (length cells) (length out)) drawn-says (drawn-passed m W (length cells) (length out))
 
   -- a refused call leaves the slice as it was
   pub drawn-kept : (r .refusal ≡ 0 → ⊥) → out′ ≡ out
   drawn-kept =
-      told-kept (values first 0) refl (numbered-drawn m W (length cells) (length out)) drawn-says
+      told-kept four (values first 0) refl (numbered-drawn m W (length cells) (length out)) drawn-says
       (λ held. ap (λ (x : After Answer (List ℕ)). x .lent) call ∙ drawn-untouched refused (values first 0) cells m W out held)
 
   -- an answered one returns the value and writes the cells

@@ -29,7 +29,7 @@ use Rattle.lutniorad.specs.Calls.{MonthClear, MonthAdd}
 use Rattle.lutniorad.specs.Promises.{MonthClearPromise, MonthAddPromise}
 use Rattle.lutniorad.proofs.Drawing.{drawn-crossed, drawn-says, drawn-numbered, drawn-answered, drawn-kept, drawn-done}
 use Rattle.lutniorad.proofs.Crossing.{both-slices, unless-crossed}
-use Rattle.lutniorad.proofs.Told.{told-most, told-when, told-kept, guarded-says, guarded-kept, guarded-leaves}
+use Rattle.lutniorad.proofs.Told.{four, told-most, told-when, told-kept, guarded-says, guarded-kept, guarded-leaves}
 
 -- ---- clearing
 
@@ -71,19 +71,19 @@ module _ (m : ℕ) (keys classes border table : List ℕ) {border′ table′ : 
 
   -- the first refusal that holds, or the number of maps; of the border only the length counts
   pub month-add-says : r ≡ answer refused (addRefusals m keys (length classes) (length border) table) (values (mapsIn table + 1) 0)
-  month-add-says = guarded-says rs (border, table) _ adds
+  month-add-says = guarded-says four rs (border, table) _ adds
 
   pub month-add-numbered : r .refusal ≤ 26
-  month-add-numbered = told-most _ refl (numbered-add m keys (length classes) (length border) table) month-add-says
+  month-add-numbered = told-most four _ refl (numbered-add m keys (length classes) (length border) table) month-add-says
 
   pub month-add-answered : (r .refusal ≡ 0) ↔ Addable m keys (length classes) (length border) table
-  month-add-answered = told-when _ refl (numbered-add m keys (length classes) (length border) table) month-add-says (add-addable m keys (length classes) (length border) table)
+  month-add-answered = told-when four _ refl (numbered-add m keys (length classes) (length border) table) month-add-says (add-addable m keys (length classes) (length border) table)
 
   -- a refused call leaves border and table as they were
   pub month-add-kept : (r .refusal ≡ 0 → ⊥) → (border′ ≡ border) × (table′ ≡ table)
   month-add-kept =
-      told-kept _ refl (numbered-add m keys (length classes) (length border) table) month-add-says
-      (λ held. both-slices (guarded-kept rs (border, table) _ adds held))
+      told-kept four _ refl (numbered-add m keys (length classes) (length border) table) month-add-says
+      (λ held. both-slices (guarded-kept four rs (border, table) _ adds held))
 
   -- an answered one writes the table with the map
   module _ (z : r .refusal ≡ 0) where
@@ -91,7 +91,7 @@ module _ (m : ℕ) (keys classes border table : List ℕ) {border′ table′ : 
     passed = add-addable m keys (length classes) (length border) table .1 (month-add-answered .0 z)
 
     left : (border′ ≡ spent (windowIn table) border) × (table′ ≡ overwrite (addMap m keys classes table) table)
-    left = both-slices (guarded-leaves rs (border, table) _ adds passed)
+    left = both-slices (guarded-leaves four rs (border, table) _ adds passed)
 
     pub month-add-table : table′ ≡ overwrite (addMap m keys classes table) table
     month-add-table = left .1

@@ -22,7 +22,7 @@ use Rattle.lutniorad.specs.Numbers.{values, refused}
 use Rattle.lutniorad.specs.Calls.{Call}
 use Rattle.lutniorad.specs.Promises.{RefusalLeaves}
 use Rattle.lutniorad.proofs.Crossing.{crossed}
-use Rattle.lutniorad.proofs.Told.{told-most, told-when}
+use Rattle.lutniorad.proofs.Told.{four, told-most, told-when}
 
 -- from the contract of such a call to one outcome in numbers
 pub used-crossed : {A : Type 0} (say : A → Answer) (refuse : ℕ → ℕ → A) (done : A) (cells : List ℕ) (m : ℕ) (keys : List ℕ) (classes : ℕ) (W : Window) (border out : List ℕ)
@@ -39,11 +39,11 @@ module _ (first second : ℕ) (cells : List ℕ) (m : ℕ) (keys : List ℕ) (cl
   used-says = ap (λ (x : After Answer (List ℕ × List ℕ)). x .answer) call ∙ used-by-lengths refused (values first second) cells m keys classes W border out
 
   pub used-numbered : r .refusal ≤ 8
-  used-numbered = told-most (values first second) refl (numbered-used refused (values first second) cells m keys classes W border out) used-says
+  used-numbered = told-most four (values first second) refl (numbered-used refused (values first second) cells m keys classes W border out) used-says
 
   pub used-answered : (r .refusal ≡ 0) ↔ (Answerable m keys classes W (length border) × (length cells ≤ length out))
   used-answered =
-      told-when (values first second) refl (numbered-used refused (values first second) cells m keys classes W border out) used-says
+      told-when four (values first second) refl (numbered-used refused (values first second) cells m keys classes W border out) used-says
       (used-answerable refused (values first second) cells m keys classes W border out)
 
   -- an answered call returns the values, spends the border and writes the cells

@@ -25,7 +25,7 @@ use Rattle.lutniorad.specs.Numbers.{values, refused, ofMany}
 use Rattle.lutniorad.specs.Calls.{Windows}
 use Rattle.lutniorad.specs.Promises.{WindowsPromise}
 use Rattle.lutniorad.proofs.Crossing.{both-slices, unless-crossed}
-use Rattle.lutniorad.proofs.Told.{told-most, told-when, told-kept, guarded-says, guarded-kept, guarded-leaves}
+use Rattle.lutniorad.proofs.Told.{four, told-most, told-when, told-kept, guarded-says, guarded-kept, guarded-leaves}
 use Rattle.lutniorad.proofs.Roomy.{open-line, report-line}
 
 module _ (m : ℕ) (keys classes windows border out : List ℕ) {r : Answer} {border′ out′ : List ℕ} (call : Windows m keys classes windows border out r border′ out′) where
@@ -42,14 +42,14 @@ module _ (m : ℕ) (keys classes windows border out : List ℕ) {r : Answer} {bo
 
   -- the first refusal that holds, or the number of windows; of the two lent slices only the lengths count
   pub windows-says : r ≡ answer refused (manyRefusals m keys (length classes) windows (length border) (length out)) (values (length (windowsIn windows)) 0)
-  windows-says = guarded-says rs (border, out) _ counted
+  windows-says = guarded-says four rs (border, out) _ counted
 
   pub windows-numbered : r .refusal ≤ 25
-  windows-numbered = told-most _ refl (numbered-many m keys (length classes) windows (length border) (length out)) windows-says
+  windows-numbered = told-most four _ refl (numbered-many m keys (length classes) windows (length border) (length out)) windows-says
 
   pub windows-answered : (r .refusal ≡ 0) ↔ Askable m keys (length classes) windows (length border) (length out)
   windows-answered =
-      told-when _ refl (numbered-many m keys (length classes) windows (length border) (length out)) windows-says
+      told-when four _ refl (numbered-many m keys (length classes) windows (length border) (length out)) windows-says
       (many-askable m keys (length classes) windows (length border) (length out))
 
   -- 25 is given exactly when the map is sound and the list not in fours, or of too many windows
@@ -69,8 +69,8 @@ module _ (m : ℕ) (keys classes windows border out : List ℕ) {r : Answer} {bo
   -- a refused call leaves border and slice as they were
   pub windows-kept : (r .refusal ≡ 0 → ⊥) → (border′ ≡ border) × (out′ ≡ out)
   windows-kept =
-      told-kept _ refl (numbered-many m keys (length classes) windows (length border) (length out)) windows-says
-      (λ held. both-slices (guarded-kept rs (border, out) _ counted held))
+      told-kept four _ refl (numbered-many m keys (length classes) windows (length border) (length out)) windows-says
+      (λ held. both-slices (guarded-kept four rs (border, out) _ counted held))
 
   module _ (z : r .refusal ≡ 0) where
     abbrev A : Askable m keys (length classes) windows (length border) (length out)
@@ -86,7 +86,7 @@ module _ (m : ℕ) (keys classes windows border out : List ℕ) {r : Answer} {bo
     count = ap (λ (x : Answer). x .first) windows-number
 
     left : (border′ ≡ leftBy m Ws border) × (out′ ≡ overwrite (linesOf m keys Ws) out)
-    left = both-slices (guarded-leaves rs (border, out) _ counted passed)
+    left = both-slices (guarded-leaves four rs (border, out) _ counted passed)
 
     pub windows-border : border′ ≡ leftBy m (windowsIn windows) border
     windows-border = left .0

@@ -1,7 +1,7 @@
--- What is promised of each call that was answered, in the words of the scope: by the four numbers that it returned and the cells that it left.
+-- What is promised of each call that was answered, in the words of the scope: by the numbers that it returned and the cells that it left.
 -- Assumes nothing.
 use mathlib.Core.Path.{_≡_}
-use mathlib.Core.Logic.{_↔_, _≢_}
+use mathlib.Core.Logic.{_↔_, _⊎_, _≢_}
 use mathlib.Core.Bool.{true}
 use mathlib.Core.List.{List, [], _∷_, _++_, List·Memᴰ, map}
 use Prim.Native.Nat.{ℕ, _+_, _*_, _/_, _^_, _≤_, _<_}
@@ -20,10 +20,13 @@ use Rattle.map.specs.Spans.{holds}
 use Rattle.map.specs.Records.{pixelRecord}
 use Rattle.map.specs.Classes.{notSeen}
 use Rattle.border.specs.Openings.{Opening, openings, cellsOf, allHands}
-use Rattle.border.specs.Promises.{Overlaps, HandedOut, Apart, Enough}
+use Rattle.border.specs.Promises.{Overlaps, HandedOut, HandedBy, OpenedAs, SkippedFor, Apart, Enough}
 use Rattle.used.specs.Used.{spent}
 use Rattle.many.specs.Many.{windowAt, windowsIn}
 use Rattle.many.specs.Promises.{LeftIn}
+use Rattle.why.specs.declared.Side.{Side}
+use Rattle.why.specs.declared.Lies.the-variants.{Outside}
+use Rattle.why.specs.Promises.{AllNorth, AllSouth, AllWest, AllEast, FirstTrue}
 use Rattle.house.specs.File.{fileOf, fileM, fileQ, fileKeys, fileClasses}
 use Rattle.totals.specs.Totals.{total}
 use Rattle.select.specs.Select.{selection}
@@ -31,7 +34,8 @@ use Rattle.rows.specs.Rows.{rowIn, withMap}
 use Rattle.month.specs.Month.{mIn, windowIn, mapsIn}
 use Rattle.month.specs.Promises.{Map, monthOf, Sane}
 use Rattle.lutniorad.specs.declared.Answer.{Answer}
-use Rattle.lutniorad.specs.Numbers.{values}
+use Rattle.lutniorad.specs.declared.Reason.{Reason}
+use Rattle.lutniorad.specs.Numbers.{values, reason, sideNumber}
 use Rattle.lutniorad.specs.Calls.{Open, Report, MonthClear, MonthAdd}
 
 -- what opening, report or select leaves where it is refused: the answer slice as it was, and the border too, but that 8 leaves it as an answered call does. Other calls leave all
@@ -104,6 +108,26 @@ pub record WindowsJoined (r : Answer) (border out : List ℕ) (r₁ : Answer) (o
   pub numbers : r .first ≡ r₁ .first + r₂ .first
   pub lines : take (5 * r .first) out ≡ take (5 * r₁ .first) one ++ take (5 * r₂ .first) two
   pub border-after : border ≡ border₂
+
+-- why record n is on the list of openings os, or is not
+pub record WhyRecordPromise (m : ℕ) (keys : List ℕ) (W : Window) (n : ℕ) (os : List Opening) (border : List ℕ) (r : Reason) (border′ : List ℕ) : Type 0 where
+  -- it is said to be handed out by opening number k, counted from 0, exactly when that opening hands it out
+  pub handed : (k : ℕ) → (r ≡ reason 1 n k) ↔ HandedBy os k n
+  -- it is said to lie north, south, west or east of the window exactly when this is the first of them that is true of all its pixels
+  pub outside : (side : Side) → (r ≡ reason (sideNumber side) n 0) ↔ FirstTrue (AllNorth m keys W n) (AllSouth m keys W n) (AllWest m keys W n) (AllEast m keys W n) (Outside side)
+  -- one of these is said: the first where the record shares a pixel with the window, and one of the others where it shares none
+  pub either : ((k : ℕ) × (r ≡ reason 1 n k) × Overlaps m keys W n) ⊎ ((side : Side) × (r ≡ reason (sideNumber side) n 0) × (¬ Overlaps m keys W n))
+  pub border-after : border′ ≡ spent W border
+
+-- why the maximal block of a key is on the list of openings os, or is not
+pub record WhyBlockPromise (m : ℕ) (keys : List ℕ) (W : Window) (key : ℕ) (os : List Opening) (border : List ℕ) (r : Reason) (border′ : List ℕ) : Type 0 where
+  -- it is said to be opened as number k exactly when opening number k is at that key
+  pub opened : (k : ℕ) → (r ≡ reason 6 0 k) ↔ OpenedAs os key k
+  -- it is said to be skipped for record n, handed out by opening number k, exactly when it lies in that record, opening number k hands this out, and comes before the block
+  pub skipped : (n k : ℕ) → (r ≡ reason 7 n k) ↔ SkippedFor m m keys W os key n k
+  -- one of these is said
+  pub either : ((k : ℕ) × (r ≡ reason 6 0 k)) ⊎ ((n : ℕ) × (k : ℕ) × (r ≡ reason 7 n k))
+  pub border-after : border′ ≡ spent W border
 
 -- the class of a pixel is that of its record
 abbrev pub classAt : ℕ → List ℕ → List ℕ → Px → ℕ

@@ -2,7 +2,7 @@
 -- Assumes nothing.
 use mathlib.Core.Path.{_≡_, sym, ap, ap₂, _∙_}
 use mathlib.Core.Logic.{_↔_, _⊎_, inl, inr}
-use mathlib.Core.Bool.{Bool, true, false}
+use mathlib.Core.Bool.{Bool, true, false, cond}
 use mathlib.Core.List.{List, List·Memᴰ}
 use Prim.Native.Nat.{ℕ}
 use native.Mathlib.Omega.{arith}
@@ -25,6 +25,16 @@ use Rattle.why.specs.declared.Why.the-variants.{Opened, Skipped}
 use Rattle.why.specs.Why.{bringer, opensAt, blockSaid}
 use Rattle.why.specs.Parts.{Brings}
 use Rattle.why.proofs.Records.{bringer-is}
+
+-- what both have alike
+pub block-alike : (m : ℕ) (keys : List ℕ) (W : Window) (key : ℕ) {A : Type 0} (part : Why → A) {x : A} → ((k : ℕ) → part (Opened k) ≡ x) → ((n k : ℕ) → part (Skipped n k) ≡ x)
+    → part (blockSaid m keys W key) ≡ x
+unfolding blockSaid
+block-alike m keys W key {A} part {x} a b = go (any (opensAt key) (openings m m keys W)) _ _ _
+  where
+    go : (t : Bool) (k n j : ℕ) → part (cond t (Opened k) (Skipped n j)) ≡ x
+    go true k n j = a k
+    go false k n j = b n j
 
 module _ {m : ℕ} {keys : List ℕ} (F : Follow m 0 keys) {W : Window} (I : Inside m W) {key : ℕ} (l : List·Memᴰ key (keysOf m m W)) where
   abbrev os : List Opening

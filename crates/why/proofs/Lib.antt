@@ -5,3 +5,5 @@ mod Bringing
 mod Records
 mod Blocks
 mod Tables
+pub mod Examples
+pub mod Laws

@@ -36,6 +36,15 @@ module _ (m : ℕ) (keys : List ℕ) (W : Window) (n : ℕ) where
   unfolding recordSaid saidOf
   said-handed e d = rw (e, d)
 
+  -- what both have alike
+  pub record-alike : {A : Type 0} (part : Why → A) {x : A} → ((n k : ℕ) → part (Handed n k) ≡ x) → ((n : ℕ) (side : Side) → part (Outside n side) ≡ x) → part (recordSaid m keys W n) ≡ x
+  unfolding recordSaid saidOf
+  record-alike {A} part {x} a b = go (liesOf W (pixelsOf m keys n))
+    where
+      go : (l : Lies) → part (saidOf n l (bringer (openings m m keys W) n)) ≡ x
+      go (lies.Outside side) = b n side
+      go lies.Across = a n _
+
 -- ---- the opening that brings it
 
 hands-out : (n : ℕ) (o : Opening) → (handsOut n o ≡ true) ↔ List·Memᴰ n (hands o)

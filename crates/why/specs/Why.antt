@@ -83,19 +83,19 @@ blockSaid m keys W key =
 -- ---- both
 
 -- refusal 19: there is no record of this number
-unfoldable pub recordRefusals : ℕ → ℕ → List Refusal
-recordRefusals q n = refusal (leb q n) 19 0 ∷ []
+unfoldable pub indexRefusals : ℕ → ℕ → List Refusal
+indexRefusals q n = refusal (leb q n) 19 0 ∷ []
 
 -- refusal 22: the key is that of no maximal block of the window
-unfoldable pub blockRefusals : ℕ → Window → ℕ → List Refusal
-blockRefusals m W key = refusal (not (any (eqb key) (keysOf m m W))) 22 0 ∷ []
+unfoldable pub keyRefusals : ℕ → Window → ℕ → List Refusal
+keyRefusals m W key = refusal (not (any (eqb key) (keysOf m m W))) 22 0 ∷ []
 
 -- what is said, behind refusals 1 to 7 and one more: the border is spent. A refusal leaves it as it was
 unfoldable pub whyFor : List Refusal → Why → ℕ → List ℕ → ℕ → Window → List ℕ → After Why (List ℕ)
 whyFor more said m keys classes W border = unless Refused (useRefusals m keys classes W (length border) ++ more) border (after said (spent W border))
 
 abbrev pub whyRecordOf : ℕ → List ℕ → ℕ → Window → ℕ → List ℕ → After Why (List ℕ)
-whyRecordOf m keys classes W n = whyFor (recordRefusals (length keys) n) (recordSaid m keys W n) m keys classes W
+whyRecordOf m keys classes W n = whyFor (indexRefusals (length keys) n) (recordSaid m keys W n) m keys classes W
 
 abbrev pub whyBlockOf : ℕ → List ℕ → ℕ → Window → ℕ → List ℕ → After Why (List ℕ)
-whyBlockOf m keys classes W key = whyFor (blockRefusals m W key) (blockSaid m keys W key) m keys classes W
+whyBlockOf m keys classes W key = whyFor (keyRefusals m W key) (blockSaid m keys W key) m keys classes W

@@ -17,7 +17,7 @@ use Rattle.why.specs.declared.Why.{Why}
 use Rattle.why.specs.Why.{blockSaid, whyBlockOf}
 use Rattle.why.proofs.Listed.{told-listed, told-unlisted}
 use Rattle.why.proofs.Blocks.{said-opened, said-skipped}
-use Rattle.why.proofs.Tables.{why-refused, why-more, why-done, block-refused, block-passed}
+use Rattle.why.proofs.Tables.{why-refused, why-more, why-done, key-refused, key-passed}
 use Rattle.why.proofs.of_block.Statement.{statement}
 use Rattle.why.proofs.of_block.Tie as tie
 
@@ -56,7 +56,7 @@ enum-told-2 c = search needs
 returns-2 : tie.Need-returns-2
 returns-2 c =
     let asked = c .before .before in
-    sym (why-more _ _ _ _ _ _ _ (passed (asked .before)) (block-refused _ _ _ (told-unlisted (asked .maximal .ensures) (c .enum-told2 .given .1))))
+    sym (why-more _ _ _ _ _ _ _ (passed (asked .before)) (key-refused _ _ _ (told-unlisted (asked .maximal .ensures) (c .enum-told2 .given .1))))
 
 -- the arm of a maximal block
 module _ (c : tie.After-known-told2) where
@@ -94,7 +94,7 @@ module _ (c : tie.After-struct-known) where
   answers : {s : Why} → let a = first (at of) .args in
       blockSaid (a .m) (a .keys .now) (a .window) (a .key) ≡ s
       → after s (brought .bring .last .1 .1 .1 .1 .1 .0) ≡ whyBlockOf (a .m) (a .keys .now) (length (a .classes .now)) (a .window) (a .key) (a .border .now)
-  answers e = why-done _ _ _ _ _ _ _ (passed (at of)) (block-passed _ _ _ .1 (listed of .0)) e (brought .bring .ensures .1)
+  answers e = why-done _ _ _ _ _ _ _ (passed (at of)) (key-passed _ _ _ .1 (listed of .0)) e (brought .bring .ensures .1)
 
   whole : Follow (first (at of) .args .m) 0 (first (at of) .args .keys .now)
   whole = use-whole _ _ _ _ _ (passed (at of))

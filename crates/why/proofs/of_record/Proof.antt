@@ -11,7 +11,7 @@ use Rattle.border.proofs.Laws.{filled-spent}
 use Rattle.used.specs.Used.{Usable, useRefusals}
 use Rattle.used.proofs.Laws.{use-known}
 use Rattle.why.proofs.Records.{said-outside, said-handed}
-use Rattle.why.proofs.Tables.{why-refused, why-more, why-done, record-refused, record-passed}
+use Rattle.why.proofs.Tables.{why-refused, why-more, why-done, index-refused, index-passed}
 use Rattle.why.proofs.of_record.Statement.{statement}
 use Rattle.why.proofs.of_record.Tie as tie
 
@@ -39,7 +39,7 @@ module _ (c : tie.After-enum-told) where
   known = use-known _ _ _ _ _ passed
 
 returns-2 : tie.Need-returns-2
-returns-2 c = sym (why-more _ _ _ _ _ _ _ (passed (c .before)) (record-refused _ _ (c .if1 .taken)))
+returns-2 c = sym (why-more _ _ _ _ _ _ _ (passed (c .before)) (index-refused _ _ (c .if1 .taken)))
 
 record-lies-requires : tie.Need-record-lies-requires
 record-lies-requires c κs = let U = known (c .before) in (U .small, U .spaced, U .inside, c .if1 .left)
@@ -66,7 +66,7 @@ returns-3 : tie.Need-returns-3
 returns-3 c =
     let told = c .before .before .before .before .before .before .before .before .before in
     let at = told .before .before in
-    why-done _ _ _ _ _ _ _ (passed at) (record-passed _ _ .1 (told .before .if1 .left))
+    why-done _ _ _ _ _ _ _ (passed at) (index-passed _ _ .1 (told .before .if1 .left))
     (said-outside _ _ _ _ (sym (told .record-lies .ensures) ∙ c .before .before .before .before .before .before .before .lies .given .1))
     (c .before .before .fill .ensures ∙ filled-spent _ _ (known at .wide))
 
@@ -86,7 +86,7 @@ returns-4 : tie.Need-returns-4
 returns-4 c =
     let brought = c .before .before in
     let told = brought .before .before .before .before .before .before in
-    why-done _ _ _ _ _ _ _ (passed (told .before .before)) (record-passed _ _ .1 (told .before .if1 .left))
+    why-done _ _ _ _ _ _ _ (passed (told .before .before)) (index-passed _ _ .1 (told .before .if1 .left))
     (said-handed _ _ _ _ (sym (told .record-lies .ensures) ∙ brought .before .before .before .before .enum-told2 .given .1) (brought .bring .ensures .0 .number))
     (brought .bring .ensures .1)
 
