@@ -1,5 +1,5 @@
--- P1 and P2 as calls: the contracts hold of these numbers and cells, so what opening and decomposing promise holds of these very cells. P1's window among others. Exist where it
--- cannot tell. And a row of calls of a month.
+-- P1 and P2 as calls: the contracts hold of these numbers and cells, so what opening and decomposing promise holds of these very cells. Why its record 5 and its block 9 are on
+-- the list or are not. P1's window among others. Exist where it cannot tell. And a row of calls of a month.
 -- Assumes nothing.
 use mathlib.Core.Path.{_≡_, refl, sym}
 use mathlib.Core.List.{List, [], _∷_, _++_}
@@ -28,25 +28,27 @@ use Rattle.map.specs.Check.{late, refusalsFrom, mapRefusals}
 use Rattle.map.specs.Records.{recordOf, exponentOf}
 use Rattle.map.specs.Classes.{notSeen}
 use Rattle.map.specs.Runs.{runOf}
-use Rattle.border.specs.Openings.{isHanded, made, opening, openFrom, openings, handedCount, cellsOf}
-use Rattle.border.specs.Promises.{openingsIn, Enough}
+use Rattle.border.specs.Openings.{isHanded, Opening, made, opening, openFrom, openings, handedCount, cellsOf}
+use Rattle.border.specs.Promises.{openingsIn, HandedBy, SkippedFor, Enough}
 use Rattle.used.specs.Used.{useRefusals, spent, usedFor, borderRefusals}
 use Rattle.open.specs.Open.{openTiled}
 use Rattle.many.proofs.Examples.{drawn, below, pixel, lines}
 use Rattle.many.proofs.Examples as lists
+use Rattle.why.proofs.Examples as reasons
 use Rattle.month.specs.Promises.{monthOf}
 use Rattle.month.proofs.P1.{empty, first-day}
 use Rattle.month.proofs.Examples.{examples}
 use Rattle.exist.proofs.Examples.{glare}
 use Rattle.exist.proofs.Examples as queries
-use Rattle.lutniorad.specs.Numbers.{values, refused}
-use Rattle.lutniorad.specs.Calls.{Decompose, DecomposeTiled, Open, OpenTiled, Windows, Exist, MonthClear, MonthAdd}
+use Rattle.lutniorad.specs.Numbers.{values, refused, reason}
+use Rattle.lutniorad.specs.Calls.{Decompose, DecomposeTiled, Open, OpenTiled, Windows, WhyRecord, WhyBlock, Exist, MonthClear, MonthAdd}
 use Rattle.lutniorad.specs.Promises.{DecomposePromise, OpenPromise, WindowsPromise, SomePixel, MonthRow, cleared, added}
 use Rattle.lutniorad.specs.Promises as promises
 use Rattle.lutniorad.proofs.Crossing.{crossing}
 use Rattle.lutniorad.proofs.Decomposing.{decompose-promise}
 use Rattle.lutniorad.proofs.Opening.{open-promise}
 use Rattle.lutniorad.proofs.Windows.{windows-promise}
+use Rattle.lutniorad.proofs.Reasons.{why-record-list, why-block-list}
 use Rattle.lutniorad.proofs.Asked.{exist-promise}
 use Rattle.lutniorad.proofs.Row.{month-table}
 
@@ -79,9 +81,27 @@ called = record {
   p2-pixels = record { answer = refl; cells = refl };
 }
 
-p1-promise : OpenPromise 2 2 keys W (old 3) (old 12) (made 7 0 1 ∷ made 10 1 4 ∷ made 17 5 1 ∷ made 21 6 1 ∷ []) (values 4 7) (3 ∷ 3 ∷ 3 ∷ []) cells
+abbrev p1-list : List Opening
+p1-list = made 7 0 1 ∷ made 10 1 4 ∷ made 17 5 1 ∷ made 21 6 1 ∷ []
+
+p1-promise : OpenPromise 2 2 keys W (old 3) (old 12) p1-list (values 4 7) (3 ∷ 3 ∷ 3 ∷ []) cells
 unfolding openingsIn
 p1-promise = open-promise 2 2 keys classes W (old 3) (old 12) (called .p1) refl
+
+-- P1's record 5, and block 9 of P2: what is said of them is so of the list that stands in P1's cells
+record-call : WhyRecord 2 keys classes W 5 (old 3) (reason 1 5 2) (3 ∷ 3 ∷ 3 ∷ [])
+record-call = crossing refl refl (sym (reasons.examples .fifth))
+
+record-handed : HandedBy p1-list 2 5
+unfolding openingsIn
+record-handed = why-record-list 2 keys classes W (old 3) (old 12) (called .p1) refl 5 (old 3) record-call refl .handed 2 .0 refl
+
+block-call : WhyBlock 2 keys classes W 9 (old 3) (reason 7 0 0) (3 ∷ 3 ∷ 3 ∷ [])
+block-call = crossing refl refl (sym (reasons.examples .skipped))
+
+block-skipped : SkippedFor 2 2 keys W p1-list 9 0 0
+unfolding openingsIn
+block-skipped = why-block-list 2 keys classes W (old 3) (old 12) (called .p1) refl 9 (old 3) block-call refl .skipped 0 0 .0 refl
 
 -- with tiles of one pixel no choice of fewer than seven brings all the records
 pixels-fewest : (s : List ℕ) → Enough 2 0 keys W s → 7 ≤ length s

@@ -25,7 +25,7 @@ use Rattle.why.specs.declared.Why.the-variants.{Handed, Outside, Opened,
 
 -- ---- a record
 
--- its pixels
+-- the pixels of record n
 unfoldable pub pixelsOf : ℕ → List ℕ → ℕ → List Px
 pixelsOf m keys n = keep (λ p. eqb (pixelRecord m keys (p .0) (p .1)) n) (pixels (window 0 0 (2 ^ m) (2 ^ m)))
 
@@ -51,15 +51,15 @@ firstSide north south west east =
 unfoldable pub liesOf : Window → List Px → Lies
 liesOf W ps = firstSide (all (isNorth W) ps) (all (isSouth W) ps) (all (isWest W) ps) (all (isEast W) ps)
 
--- an opening hands it out
+-- an opening hands out record n
 unfoldable pub handsOut : ℕ → Opening → Bool
 handsOut n o = leb (o .first) n && ltb n (o .first + o .count)
 
--- the number, from 0, of the first opening that does, or how many there are where none does
+-- the number, counted from 0, of the first opening that hands it out, or how many there are where none does
 unfoldable pub bringer : List Opening → ℕ → ℕ
 bringer os n = before (handsOut n) os
 
--- outside of the window, on which side; or handed out, by which opening
+-- of record n, by where it lies and by that number: outside of the window, on which side; or handed out, by which opening
 unfoldable pub saidOf : ℕ → Lies → ℕ → Why
 saidOf n (lies.Outside side) k = Outside n side
 saidOf n lies.Across k = Handed n k
@@ -82,7 +82,7 @@ blockSaid m keys W key =
 
 -- ---- both
 
--- refusal 19: there is no record of this number
+-- refusal 19, of the number of records and an index: there is no such record
 unfoldable pub indexRefusals : ℕ → ℕ → List Refusal
 indexRefusals q n = refusal (leb q n) 19 0 ∷ []
 
