@@ -11,14 +11,17 @@ use Rattle.lists.specs.Promises.{Nth, here, later}
 use Rattle.lists.specs.Lists.{Ordered, none, more}
 use Rattle.lists.proofs.Laws.{ordered-front, Split, split, nth-of, nth-in, nth-less, nth-one, nth-front, nth-middle}
 use Rattle.key.specs.Picture.{place, Px}
+use Rattle.key.specs.Blocks.{Names}
+use Rattle.key.proofs.Laws.{one-block}
 use Rattle.window.specs.declared.Window.{Window}
 use Rattle.window.specs.Window.{Inside}
 use Rattle.window.specs.Blocks.{maximal}
 use Rattle.window.specs.Keys.{keyOf, keysOf}
-use Rattle.window.proofs.Laws.{keys-of, pixel-in, keys-distinct}
+use Rattle.window.proofs.Laws.{keys-of, pixel-in, key-named, keys-distinct}
 use Rattle.map.specs.Sound.{Follow}
+use Rattle.map.specs.Records.{recordOf}
 use Rattle.map.specs.Runs.{runOf}
-use Rattle.map.proofs.Laws.{Holder, pixelTile, tile-of, pixel-holder, spaced}
+use Rattle.map.proofs.Laws.{Holder, record-of, pixelTile, tile-of, pixel-holder, spaced}
 use Rattle.border.specs.Openings.{met, isHanded, Opening, opening, openFrom, openings, hands}
 use Rattle.border.specs.Promises.{HandedOut, HandedBy, OpenedAs, SkippedFor, Apart}
 use Rattle.border.specs.Step.{Corner}
@@ -106,6 +109,10 @@ module _ {m top : ℕ} {keys : List ℕ} (F : Follow m 0 keys) {W : Window} (I :
 
     first-is : runOf m keys key .first ≡ H .index
     first-is = rw (b .2) at (met-first (spaced F) I small C H)
+
+    -- it is the record of the block's first place
+    pub first-at : {i s : ℕ} → Names m key i s → recordOf m keys s ≡ runOf m keys key .first
+    first-at n = let e = one-block n (rw (b .2) at (key-named I small (C .inside) (C .own))) .1 in rw e (record-of (spaced F) H) ∙ sym first-is
 
     -- where the block is opened, that hands out the first record that overlaps it
     pub opened-first : {k : ℕ} → OpenedAs os key k → HandedBy os k (runOf m keys key .first)

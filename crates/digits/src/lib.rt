@@ -1,6 +1,5 @@
-// The digits of keys and places: reading a key, the pixel at a place, and how far a block reaches around another. As in the crate `blocks`, m is at most 12.
+// The digits of keys: reading one, as a block by its span or as a square, and how far a block reaches around another. As in the crate `blocks`, m is at most 12.
 use key::Form;
-use key::Position;
 use key::Square;
 use key::Stripped;
 ghost use mathlib.Core.Path.{_≡_};
@@ -8,7 +7,6 @@ ghost use mathlib.Core.Bool.{cond};
 ghost use Prim.Native.Nat.{_*_, _^_, _≤_, _<_};
 ghost use lib.Dec.{eqb};
 ghost use Rattle.key.specs.Spread.{spreads};
-ghost use Rattle.key.specs.Picture.{PlacedAt};
 ghost use Rattle.key.specs.declared.Form.the-variants.{Block, Malformed};
 ghost use Rattle.key.specs.Form.{formOf};
 ghost use Rattle.key.specs.Reading.{Strips, placeOr16, pairsTable};
@@ -182,38 +180,30 @@ pub fn read_key(m: u32, key: u32) -> Form
     read_digits(&pairs, m, strip_zeros(key))
 }
 
-// The pixel at a place, by the place's m digits in base 4, the most significant first: each chooses a half of the rows and a half of the columns.
-fn pixel_of(m: u32, place: u32) -> Position
-    requires { ⌜ (m ≤ 12) × (place < 4 ^ m) ⌝ }
-    ensures { λ r. ⌜ PlacedAt m place (r .row) (r .col) ⌝ }
-{
-    let mut row: u16 = 0;
-    let mut col: u16 = 0;
-    let mut k = m;
-    while k > 0 {
-        k -= 1;
-        let digit = place / blocks::pow4(k) % 4;
-        row = 2 * row + (digit / 2) as u16;
-        col = 2 * col + (digit % 2) as u16;
-    }
-    Position { row, col }
-}
-
-// The block of a key, by its corner.
+// The square that a number names, if it is the key of a block; of any other it is some square. Digit by digit from the small end: each chooses a half of the rows and a half of the
+// columns, and of a block's key as many are 0 as its exponent says.
 pub fn square_of(m: u32, key: u32) -> Square
     requires { ⌜ m ≤ 12 ⌝ }
     ensures { λ r. ⌜ SquareOf m key r ⌝ }
 {
-    let form = read_key(m, key);
-    let Form::Block { exponent, start } = form else {
-        return Square::Malformed;
-    };
-    let corner = pixel_of(m, start);
-    Square::Block {
-        exponent,
-        row: corner.row,
-        col: corner.col,
+    let mut rest = key;
+    let mut exponent: u32 = 0;
+    let mut row: u16 = 0;
+    let mut col: u16 = 0;
+    let mut k: u32 = 0;
+    while k < m {
+        let side = blocks::side(k);
+        let digit = (rest % 5) as u16;
+        rest = rest / 5;
+        k += 1;
+        if digit == 0 {
+            exponent += 1;
+        } else {
+            row += (digit - 1) / 2 * side;
+            col += (digit - 1) % 2 * side;
+        }
     }
+    Square { exponent, row, col }
 }
 
 // How far the block of a key reaches around the block of a larger key and its exponent i: its own exponent where it contains it, otherwise i. Where it does, it is as many digits

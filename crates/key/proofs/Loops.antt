@@ -11,4 +11,5 @@ pub use Rattle.key.proofs.Here.{begins-before, begins-over, begins-told
 pub use Rattle.key.proofs.Zeros.{alignment-counted}
 pub use Rattle.key.proofs.Powers.{bit}
 pub use Rattle.key.proofs.Bits.{spread-lt, spread-power, spreads-short}
-pub use Rattle.key.proofs.Pixels.{larger, placed-first, placed-next}
+pub use Rattle.key.proofs.Pixels.{larger}
+pub use Rattle.key.proofs.Squares.{Squaring, squaring-first, squaring-zero, squaring-digit, squaring-last}

@@ -2,14 +2,14 @@
 -- Assumes nothing.
 use mathlib.Core.Path.{_≡_, refl, sym, ap, _∙_, subst, subst₂}
 use Prim.Native.Nat.{ℕ, zero, suc, _+_, _-_, _*_, _/_, _%_, _^_, _≤_, _<_}
-use native.Mathlib.Nat.{pow-suc, add-mul, mul-assoc, mul-comm, zero-mul, zero-add, suc-add, sub-add-cancel, mod-lt, mul-div-cancel-left, div-add-mod', div-eq-of-lt, div-div-eq-div-mul}
+use native.Mathlib.Nat.{pow-suc, add-mul, mul-assoc, mul-comm, zero-mul, zero-add, suc-add, sub-add-cancel, mod-lt, mul-div-cancel-left, div-add-mod'}
 use native.Mathlib.Numerals.{one-add}
 use native.Mathlib.Omega.{arith}
-use lib.Arith.{digits-div}
+use lib.Arith.{digits-div, digits-mod}
 use lib.Dec.{lit<}
 use lib.Pow.{pow-add, pow-mono, pow-pos, shr-lt}
 use Rattle.key.specs.Spread.{spread}
-use Rattle.key.specs.Picture.{Pixel, place, PlacedAt}
+use Rattle.key.specs.Picture.{Pixel, place}
 use Rattle.key.specs.Key.{pixelKey, blockKey}
 use Rattle.key.proofs.Standing.{PixelAt}
 use Rattle.key.proofs.Bits.{spread-split, spread-bit, spread-lt}
@@ -72,44 +72,43 @@ place-one (suc m) r c y x p q e =
     let above = place-one m (r / 2) (c / 2) (y / 2) (x / 2) (half p) (half q) (omega arith) in
     omega arith
 
--- and each place is a pixel's: it has one digit more in base 4 than that of a picture of half the side, which says in which half of it the row lies, and the column
-place-first : PlacedAt 0 0 0 0
-place-first = record { pixel = omega arith; is = omega (arith, place-lt {k = 0} {r = 0} {c = 0} (omega arith)) }
-
-place-digit : (m q y x : ℕ) → PlacedAt m (q / 4) y x → PlacedAt (suc m) q (2 * y + q % 4 / 2) (2 * x + q % 4 % 2)
-place-digit m q y x a =
-    let r : ℕ = 2 * y + q % 4 / 2 in
-    let c : ℕ = 2 * x + q % 4 % 2 in
-    let er : r / 2 ≡ y = omega arith in
-    let ec : c / 2 ≡ x = omega arith in
+-- and each place is a pixel's
+onto-step : (m q : ℕ) → PixelAt m (q / 4) → PixelAt (suc m) q
+onto-step m q a =
+    let r : ℕ = 2 * a .row + q % 4 / 2 in
+    let c : ℕ = 2 * a .col + q % 2 in
+    let er : r / 2 ≡ a .row = omega arith in
+    let ec : c / 2 ≡ a .col = omega arith in
     let up : place (r / 2) (c / 2) ≡ q / 4 = rw (er, ec) (a .is) in
     let digit : 2 * (r % 2) + c % 2 ≡ q % 4 = omega arith in
-    record { pixel = omega (arith, pow-suc 2 m, a .pixel); is = omega (arith, place-step r c) }
+    record { row = r; col = c; pixel = omega (arith, pow-suc 2 m, a .pixel); is = omega (arith, place-step r c) }
 
 pub place-onto : (m q : ℕ) → q < 4 ^ m → PixelAt m q
-place-onto zero q h = let z : q ≡ 0 = omega arith in record { row = 0; col = 0; pixel = place-first .pixel; is = rw z (place-first .is) }
-place-onto (suc m) q h =
-    let a = place-onto m (q / 4) (omega (arith, pow-suc 4 m)) in
-    let p = place-digit m q (a .row) (a .col) (record { pixel = a .pixel; is = a .is }) in
-    record { row = _; col = _; pixel = p .pixel; is = p .is }
+place-onto zero q h = record { row = 0; col = 0; pixel = omega arith; is = omega (arith, place-lt {k = 0} {r = 0} {c = 0} (omega arith)) }
+place-onto (suc m) q h = onto-step m q (place-onto m (q / 4) (omega (arith, pow-suc 4 m)))
+
+pub no-place : place 0 0 ≡ 0
+no-place = omega (arith, place-lt {k = 0} {r = 0} {c = 0} (omega arith))
 
 -- a pixel whose place is a block's first is that block's corner
 pub place-corner : (i r c : ℕ) → place r c / 4 ^ i * 4 ^ i ≡ place r c → (r / 2 ^ i * 2 ^ i ≡ r) × (c / 2 ^ i * 2 ^ i ≡ c)
 place-corner i r c e =
-    let none : place (r % 2 ^ i) (c % 2 ^ i) ≡ place 0 0 = omega (arith, place-split i r c, rw place-div at e, place-first .is) in
+    let none : place (r % 2 ^ i) (c % 2 ^ i) ≡ place 0 0 = omega (arith, place-split i r c, rw place-div at e, no-place) in
     let z = place-one i (r % 2 ^ i) (c % 2 ^ i) 0 0 (fine i r c) (omega (arith, pow-pos i)) none in
     (omega (arith, z, div-add-mod' r (2 ^ i)), omega (arith, z, div-add-mod' c (2 ^ i)))
 
--- of a place of the picture, digit by digit: at first none is read, and of k digits that are left one more
-pub placed-first : (m q : ℕ) → q < 4 ^ m → PlacedAt (m - m) (q / 4 ^ m) 0 0
-placed-first m q h = let z : m - m ≡ 0 = omega arith in rw (z, div-eq-of-lt h) place-first
+-- a pixel in quadrant d of a picture of twice the side
+quadrant : (d : ℕ) → d < 4 → place (d / 2) (d % 2) ≡ d
+quadrant d l =
+    let a : d / 2 / 2 ≡ 0 = omega arith in
+    let b : d % 2 / 2 ≡ 0 = omega arith in
+    let none : place (d / 2 / 2) (d % 2 / 2) ≡ 0 = rw (a, b) no-place in
+    omega (arith, place-step (d / 2) (d % 2))
 
-pub placed-next : (m k q y x : ℕ) → suc k ≤ m → PlacedAt (m - suc k) (q / 4 ^ suc k) y x
-    → PlacedAt (m - k) (q / 4 ^ k) (2 * y + q / 4 ^ k % 4 / 2) (2 * x + q / 4 ^ k % 4 % 2)
-placed-next m k q y x l a =
-    let e : m - k ≡ suc (m - suc k) = omega arith in
-    let d : q / 4 ^ suc k ≡ q / 4 ^ k / 4 = ap (λ (n : ℕ). q / n) (pow-suc 4 k) ∙ sym (div-div-eq-div-mul q (4 ^ k) 4) in
-    rw e (place-digit (m - suc k) (q / 4 ^ k) y x (rw d at a))
+pub place-quadrant : (k d r c : ℕ) → d < 4 → Pixel k r c → place (d / 2 * 2 ^ k + r) (d % 2 * 2 ^ k + c) ≡ d * 4 ^ k + place r c
+place-quadrant k d r c l p =
+    place-split k (d / 2 * 2 ^ k + r) (d % 2 * 2 ^ k + c)
+    ∙ rw (digits-div (d / 2) (p .row), digits-div (d % 2) (p .col), digits-mod (d / 2) (p .row), digits-mod (d % 2) (p .col), quadrant d l)
 
 -- ---- the key of a pixel has the digits of its place, each one more
 

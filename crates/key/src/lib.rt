@@ -6,16 +6,11 @@ pub enum Form {
     Malformed,
 }
 
-// A pixel's row and column.
-pub struct Position {
+// A square block, by its exponent and its corner's row and column.
+pub struct Square {
+    pub exponent: u32,
     pub row: u16,
     pub col: u16,
-}
-
-// The block of a key by its exponent and its corner's row and column, or malformed.
-pub enum Square {
-    Block { exponent: u32, row: u16, col: u16 },
-    Malformed,
 }
 
 // A number without zeros that it ends in, and how many were taken off.

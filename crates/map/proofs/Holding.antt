@@ -12,14 +12,16 @@ use lib.ListN.{length, getD}
 use borrow.Author.Tests.{lt-ltb, le-ltb}
 use Rattle.lists.proofs.Laws.{refuted, stretch-of, stretch-begins, nth-of, nth-less, nth-getD, before-none}
 use Rattle.key.specs.Picture.{Pixel, place}
+use Rattle.key.specs.Key.{pixelKey}
 use Rattle.key.specs.Form.{formOf}
 use Rattle.key.specs.Blocks.{Names, Among}
-use Rattle.key.proofs.Laws.{one-block, block-lies, holds-same, span-square, place-lt, place-one, pow-least}
+use Rattle.key.proofs.Laws.{one-block, block-lies, holds-key, holds-same, span-square, place-lt, place-one, pow-least}
 use Rattle.map.specs.Spans.{formExponent, holds}
 use Rattle.map.specs.Sound.{Follow, Spaced}
 use Rattle.map.specs.Records.{recordOf, exponentOf, pixelRecord, pixelExponent}
+use Rattle.map.specs.Runs.{Splits}
 use Rattle.map.proofs.Tiles.{Record, SomeRecord, Holder, Free, tileOf, Tiling, pixelTile}
-use Rattle.map.proofs.Order.{spaced, record-at, holder, find, one-holder}
+use Rattle.map.proofs.Order.{spaced, record-at, holder, find, keys-apart, one-holder}
 use Rattle.map.proofs.Tests.{exponent-is, holds-is}
 
 -- ---- by the record's number
@@ -168,6 +170,26 @@ module _ {m : ℕ} {keys : List ℕ} (F : Spaced m 0 keys) where
 module _ {m : ℕ} {keys : List ℕ} (F : Follow m 0 keys) where
   pub pixel-holder : {r c : ℕ} → Pixel m r c → Holder m keys (place r c)
   pixel-holder {r} {c} p = holder F (place r c) (omega arith) (place-lt p)
+
+  -- the record of a pixel is the last whose key is not over the pixel's
+  pub pixel-below : {r c n : ℕ} → Pixel m r c → Splits keys (pixelKey m r c + 1) n → n ≡ pixelRecord m keys r c + 1
+  pixel-below {r} {c} {n} p s = rw (record-of (spaced F) H) (both (decLt (H .index) n) (decLt (H .index + 1) n))
+    where
+      H : Holder m keys (place r c)
+      H = pixel-holder p
+
+      own : Among (getD keys (H .index) 0) (5 ^ H .exponent) (pixelKey m r c)
+      own = holds-key (H .is .names) p .0 (H .has)
+
+      next : H .index + 1 < n → ⊥
+      next l =
+          let R = record-at (spaced F) (H .index + 1) (omega (arith, s .room)) in
+          omega (arith, own, s .below (H .index + 1) l, keys-apart (spaced F) (H .index) (H .index + 1) (H .is) (R .is) (omega arith))
+
+      both : Dec (H .index < n) → Dec (H .index + 1 < n) → n ≡ H .index + 1
+      both (yes l) (yes h) = absurd (next h)
+      both (yes l) (no h) = omega (arith, l, h)
+      both (no l) t = absurd (omega (arith, own, s .over (H .index) (omega (arith, l)) (H .is .within)))
 
   -- each pixel's tile is its record
   pub tile-whole : {r c : ℕ} → Pixel m r c → pixelTile m keys r c ≡ pixelRecord m keys r c

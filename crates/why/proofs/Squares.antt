@@ -12,11 +12,9 @@ use borrow.Author.Tests.{leb-true, ltb-true, le-leb, lt-ltb}
 use Rattle.lists.specs.Lists.{all}
 use Rattle.lists.proofs.Laws.{agree, all-is}
 use Rattle.key.specs.declared.Square.{Square}
-use Rattle.key.specs.declared.Square.the-variants as square
 use Rattle.key.specs.Picture.{Pixel, place, Px}
 use Rattle.key.specs.Blocks.{SquareOf, Among}
-use Rattle.key.proofs.Laws.{block-lies, square-told, square-malformed, square-inside, place-onto, pow-least}
-use Rattle.key.proofs.Loops.{larger}
+use Rattle.key.proofs.Laws.{block-lies, square-names, square-inside, place-onto, pow-least}
 use Rattle.window.specs.declared.Window.{Window}
 use Rattle.window.specs.Window.{In, Inside}
 use Rattle.window.proofs.Laws.{pixel-in}
@@ -117,19 +115,11 @@ module _ {m : ℕ} {keys : List ℕ} (F : Spaced m 0 keys) {n i r c : ℕ} (R : 
             let u : In W (y, x) = omega (arith, I, a, b, d, e) in
             record { at = (y, x); inside = u; is = record-square F R v (pixel-in I u) .1 (omega (arith, a, b, pow-least 1 i), omega (arith, d, e, pow-least 1 i)) }
 
--- ---- a record, by what its key tells
+-- ---- a record, by the square that its key names
 
-module _ {m : ℕ} {keys : List ℕ} (F : Spaced m 0 keys) {n : ℕ} (within : n < length keys) {q : Square} (s : SquareOf m (getD keys n 0) q) where
-  -- its key is not malformed
-  pub record-some : q ≡ square.Malformed → ⊥
-  record-some e = square-malformed s e (record-at F n within .is .names)
-
-  module _ {i r c : ℕ} (e : q ≡ square.Block i r c) where
-    pub record-lies : (W : Window) → liesOf W (pixelsOf m keys n) ≡ squareLies W i (r, c)
-    record-lies W = let t = square-told s e in lies-square F (record { within = within; names = t .1 }) (t .0) W
-
-    pub record-small : m ≤ 12 → (i ≤ 12) × Pixel 12 r c
-    record-small small = let t = square-told s e in (omega (arith, block-lies (t .1)), larger small (t .0))
+module _ {m : ℕ} {keys : List ℕ} (F : Spaced m 0 keys) {n : ℕ} (within : n < length keys) {q : Square} (S : SquareOf m (getD keys n 0) q) where
+  pub record-lies : (W : Window) → liesOf W (pixelsOf m keys n) ≡ squareLies W (q .exponent) (q .row, q .col)
+  record-lies W = lies-square F (record { within = within; names = square-names S (record-at F n within .is .names) }) (S .pixel) W
 
 -- a record of the map that lies on no side shares a pixel with the window
 pub across-touches : {m : ℕ} {keys : List ℕ} → Spaced m 0 keys → {n : ℕ} → n < length keys → {W : Window} → Inside m W → liesOf W (pixelsOf m keys n) ≡ Across → Touches m keys W n

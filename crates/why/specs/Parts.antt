@@ -1,16 +1,12 @@
 -- What the functions on the way there promise.
 -- Assumes nothing.
 use mathlib.Core.Path.{_≡_}
-use mathlib.Core.List.{List, List·Memᴰ}
+use mathlib.Core.List.{List}
 use Prim.Native.Nat.{ℕ, _+_, _^_}
 use lib.Dec.{leb}
 use Rattle.lists.specs.Promises.{Nth}
-use Rattle.key.specs.declared.Fit.{Fit}
-use Rattle.key.specs.declared.Fit.the-variants.{Block, Other}
 use Rattle.key.specs.Picture.{Px}
 use Rattle.window.specs.declared.Window.{Window}
-use Rattle.window.specs.Keys.{keysOf}
-use Rattle.map.specs.Runs.{BlockOf}
 use Rattle.border.specs.Openings.{Opening}
 use Rattle.why.specs.declared.Lies.{Lies}
 use Rattle.why.specs.declared.Brought.{Brought}
@@ -24,8 +20,3 @@ squareLies W i p = firstSide (leb (p .0 + 2 ^ i) (W .r0)) (leb (W .r0 + W .h) (p
 pub record Brings (os : List Opening) (n : ℕ) (r : Brought) : Type 0 where
   pub number : r .opening ≡ bringer os n
   pub key-is : (o : Opening) → Nth os (r .opening) o → r .key ≡ o .key
-
--- the key is that of a maximal block of the window, of exponent i, or of none
-pub data IsMaximal (m : ℕ) (W : Window) (key : ℕ) : Fit → Type 0 where
-  block : {i : ℕ} → List·Memᴰ key (keysOf m m W) → BlockOf m key i → IsMaximal m W key (Block i)
-  other : (List·Memᴰ key (keysOf m m W) → ⊥) → IsMaximal m W key Other

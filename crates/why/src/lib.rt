@@ -1,24 +1,27 @@
 // Why a record, or a maximal block, is on the list of a window's openings, or is not.
 use answers::Verdict;
 use border::Found;
-use key::Fit;
 use key::Square;
 use window::Next;
 use window::Window;
 ghost use mathlib.Core.Path.{_≡_};
 ghost use mathlib.Core.Logic.{_↔_};
 ghost use mathlib.Core.Bool.{true};
+ghost use mathlib.Core.List.{List·Memᴰ};
 ghost use Prim.Native.Nat.{_≤_, _<_};
 ghost use lib.ListN.{length};
 ghost use Rattle.answers.specs.After.{after};
 ghost use Rattle.key.specs.Spread.{spreads};
 ghost use Rattle.key.specs.Picture.{Pixel};
+ghost use Rattle.key.specs.Blocks.{SquareOf};
 ghost use Rattle.window.specs.Window.{In, Inside};
-ghost use Rattle.map.specs.Sound.{Spaced};
+ghost use Rattle.window.specs.Keys.{keysOf};
+ghost use Rattle.map.specs.Sound.{Follow, Spaced};
+ghost use Rattle.map.specs.Records.{pixelRecord};
 ghost use Rattle.border.specs.Openings.{openings};
 ghost use Rattle.used.specs.Used.{Usable, spent};
 ghost use Rattle.why.specs.Why.{liesOf, pixelsOf, whyRecordOf, whyBlockOf};
-ghost use Rattle.why.specs.Parts.{squareLies, Brings, IsMaximal};
+ghost use Rattle.why.specs.Parts.{squareLies, Brings};
 
 // The sides of a window.
 pub enum Side {
@@ -71,16 +74,13 @@ fn square_lies(window: Window, i: u32, row: u16, col: u16) -> Lies
     Lies::Across
 }
 
-// Where a record lies, by its key. In a map that is sound no key is malformed.
+// Where a record lies: its key names a square.
 fn record_lies(m: u32, keys: &[u32], window: Window, index: usize) -> Lies
     requires { ⌜ (m ≤ 12) × Spaced m 0 (now keys) × Inside m window × (index < length (now keys)) ⌝ }
     ensures { λ r. ⌜ r ≡ liesOf window (pixelsOf m (now (keys .entry)) index) ⌝ }
 {
     let square = digits::square_of(m, keys[index]);
-    let Square::Block { exponent, row, col } = square else {
-        return Lies::Across;
-    };
-    square_lies(window, exponent, row, col)
+    square_lies(window, square.exponent, square.row, square.col)
 }
 
 // Goes from opening to opening until one hands out the record, and counts those before it. Where none does, it counts all.
@@ -130,32 +130,32 @@ fn has_pixel(window: Window, row: u16, col: u16) -> bool
     rows & cols
 }
 
-// The exponent of a key's block, if that is a maximal block of the window: from its corner on, the walk then comes to it first.
-fn maximal(m: u32, window: Window, key: u32) -> Fit
-    requires { ⌜ (m ≤ 12) × Inside m window ⌝ }
-    ensures { λ r. ⌜ IsMaximal m window key r ⌝ }
+// Whether a key is that of a maximal block of the window, by the square that it names: from its corner on, the walk then comes to that block first.
+fn maximal(table: &[u32; 256], m: u32, window: Window, key: u32, square: Square) -> bool
+    requires { ⌜ (now table ≡ spreads) × (m ≤ 12) × Inside m window × SquareOf m key square ⌝ }
+    ensures { λ r. ⌜ (r ≡ true) ↔ List·Memᴰ key (keysOf m m window) ⌝ }
 {
-    let square = digits::square_of(m, key);
-    let Square::Block { exponent, row, col } = square else {
-        return Fit::Other;
-    };
-    if !has_pixel(window, row, col) {
-        return Fit::Other;
+    if has_pixel(window, square.row, square.col) {
+        let next = walk::next_block(window, m, square.row, square.col);
+        if let Next::Block {
+            row,
+            col,
+            exponent,
+            ..
+        } = next {
+            return blocks::block_key(table, m, exponent, row, col) == key;
+        }
     }
-    let next = walk::next_block(window, m, row, col);
-    let Next::Block {
-        row: r,
-        col: c,
-        exponent: e,
-        ..
-    } = next
-    else {
-        return Fit::Other;
-    };
-    if (r == row) & (c == col) & (e == exponent) {
-        return Fit::Block { exponent };
-    }
-    Fit::Other
+    false
+}
+
+// The record of a pixel: the last one whose key is not over the pixel's.
+fn record_at(table: &[u32; 256], m: u32, keys: &[u32], row: u16, col: u16) -> u32
+    requires { ⌜ (now table ≡ spreads) × (m ≤ 12) × (length (now keys) ≤ 65536) × Follow m 0 (now keys) × Pixel m row col ⌝ }
+    ensures { λ r. ⌜ r ≡ pixelRecord m (now (keys .entry)) row col ⌝ }
+{
+    let behind = blocks::pixel_key(table, m, row, col) + 1;
+    (runs::keys_below(keys, behind, 0) - 1) as u32
 }
 
 // Why a record of the map is on the list, or is not.
@@ -192,7 +192,7 @@ pub fn of_record(
     }
 }
 
-// Why a maximal block, by its key, is on the list or is not. The first record that overlaps it is handed out there or, where the block lies in it, at an earlier one.
+// Why a maximal block, by its key, is on the list or is not. The record of its corner is handed out there or, where the block lies in it, at an earlier one.
 pub fn of_block(
     m: u32,
     keys: &[u32],
@@ -207,15 +207,15 @@ pub fn of_block(
     if let Verdict::Refused { number, place } = verdict {
         return Why::Refused { number, place };
     }
-    let fit = maximal(m, window, key);
-    let Fit::Block { exponent } = fit else {
+    let table = blocks::spread_table();
+    let square = digits::square_of(m, key);
+    if !maximal(&table, m, window, key, square) {
         return Why::Refused {
             number: 22,
             place: 0,
         };
-    };
-    let table = blocks::spread_table();
-    let index = runs::records_of(&table, m, keys, key, exponent).first;
+    }
+    let index = record_at(&table, m, keys, square.row, square.col);
     let brought = bring(&table, m, keys, window, index, border);
     let opening = brought.opening;
     if brought.key == key {

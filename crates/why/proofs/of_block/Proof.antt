@@ -1,21 +1,24 @@
 -- `why::of_block` meets its contract. Each test decides what its law in `Tables` and `Blocks` says.
 -- Assumes nothing.
 use mathlib.Core.Path.{_≡_, sym, ap, _∙_}
+use mathlib.Core.Bool.{Bool, not, Bool·not-not}
 use mathlib.Core.List.{List·Memᴰ}
+use native.Mathlib.Omega.{arith}
 use lib.ListN.{length}
 use borrow.Author.Needs.{needs}
+use Rattle.lists.proofs.Laws.{never}
 use Rattle.answers.specs.declared.Verdict.the-variants.{Passed}
 use Rattle.answers.specs.Refusals.{verdict}
 use Rattle.answers.specs.After.{after}
 use Rattle.window.specs.Keys.{keysOf}
-use Rattle.map.specs.declared.Run.{Run}
 use Rattle.map.specs.Sound.{Follow}
-use Rattle.map.specs.Runs.{runOf, BlockOf}
+use Rattle.map.specs.Runs.{runOf}
+use Rattle.border.proofs.Laws.{first-at}
 use Rattle.used.specs.Used.{Usable, useRefusals}
 use Rattle.used.proofs.Laws.{use-known, use-whole}
 use Rattle.why.specs.declared.Why.{Why}
 use Rattle.why.specs.Why.{blockSaid, whyBlockOf}
-use Rattle.why.proofs.Listed.{told-listed, told-unlisted}
+use Rattle.why.proofs.Listed.{listed-names}
 use Rattle.why.proofs.Blocks.{said-opened, said-skipped}
 use Rattle.why.proofs.Tables.{why-refused, why-more, why-done, key-refused, key-passed}
 use Rattle.why.proofs.of_block.Statement.{statement}
@@ -44,63 +47,76 @@ module _ (c : tie.After-enum-told) where
   known : let a = first .args in Usable (a .m) (a .m) (a .keys .now) (a .window) (length (a .border .now))
   known = use-known _ _ _ _ _ passed
 
-maximal-requires : tie.Need-maximal-requires
-maximal-requires c κs = let U = known c in (U .small, U .inside)
-
-enum-known-fit : tie.Need-enum-known-fit
-enum-known-fit c = search needs
-
-enum-told-2 : tie.Need-enum-told-2
-enum-told-2 c = search needs
-
-returns-2 : tie.Need-returns-2
-returns-2 c =
-    let asked = c .before .before in
-    sym (why-more _ _ _ _ _ _ _ (passed (asked .before)) (key-refused _ _ _ (told-unlisted (asked .maximal .ensures) (c .enum-told2 .given .1))))
-
--- the arm of a maximal block
-module _ (c : tie.After-known-told2) where
-  abbrev at : tie.After-enum-told
-  at = c .before .before .before .before
-
-  listed : let a = first at .args in List·Memᴰ (a .key) (keysOf (a .m) (a .m) (a .window)) × BlockOf (a .m) (a .key) (c .before .fit .given .0 .0)
-  listed = told-listed (c .before .before .before .maximal .ensures) (c .before .fit .given .1)
-
 spread-table-requires : tie.Need-spread-table-requires
 spread-table-requires c κs = search needs
 
-records-of-requires : tie.Need-records-of-requires
-records-of-requires c κs =
-    let told = c .before .before in
-    let U = known (at told) in
-    (c .before .spread-table .ensures, U .small, U .few, U .spaced, listed told .1)
+square-of-requires : tie.Need-square-of-requires
+square-of-requires c κs = known (c .before) .small
+
+-- what is asked of the key
+module _ (c : tie.After-maximal) where
+  abbrev squared : tie.After-square-of
+  squared = c .before .before
+
+  abbrev at : tie.After-enum-told
+  at = squared .before .before
+
+maximal-requires : tie.Need-maximal-requires
+maximal-requires c κs =
+    let squared = c .before in
+    let U = known (squared .before .before) in
+    (squared .before .spread-table .ensures, U .small, U .inside, squared .square-of .ensures)
+
+turned : {b t : Bool} → not b ≡ t → b ≡ not t
+turned {b} e = sym (Bool·not-not b) ∙ ap not e
+
+returns-2 : tie.Need-returns-2
+returns-2 c =
+    let asked = c .before in
+    sym (why-more _ _ _ _ _ _ _ (passed (at asked)) (key-refused _ _ _ (λ n. never (sym (asked .maximal .ensures .1 n) ∙ turned (c .if1 .taken)))))
+
+-- the arm of a maximal block
+module _ (c : tie.Else1) where
+  abbrev told : tie.After-enum-told
+  told = at (c .before)
+
+  listed : let a = first told .args in List·Memᴰ (a .key) (keysOf (a .m) (a .m) (a .window))
+  listed = c .before .maximal .ensures .0 (turned (c .if1 .left))
+
+  whole : Follow (first told .args .m) 0 (first told .args .keys .now)
+  whole = use-whole _ _ _ _ _ (passed told)
+
+record-at-requires : tie.Need-record-at-requires
+record-at-requires c κs =
+    let of = c .before in
+    let U = known (told of) in
+    (squared (of .before) .before .spread-table .ensures, U .small, U .few, whole of, squared (of .before) .square-of .ensures .pixel)
 
 bring-requires : tie.Need-bring-requires
 bring-requires c κs =
-    let spread = c .before .before .before .before in
-    (spread .spread-table .ensures, known (at (spread .before)))
+    let of = c .before .before .before .before in
+    (squared (of .before) .before .spread-table .ensures, known (told of))
 
--- what is said, by the opening that brings the first record that overlaps the block
+-- what is said, by the opening that brings the record of the block's corner
 module _ (c : tie.After-struct-known) where
   abbrev brought : tie.After-bring
   brought = c .before .before .before
 
-  abbrev run : tie.After-records-of
-  run = brought .before .before .before
+  abbrev found : tie.After-record-at
+  found = brought .before .before .before
 
-  abbrev of : tie.After-known-told2
-  of = run .before .before .before
+  abbrev of : tie.Else1
+  of = found .before .before
 
-  answers : {s : Why} → let a = first (at of) .args in
+  answers : {s : Why} → let a = first (told of) .args in
       blockSaid (a .m) (a .keys .now) (a .window) (a .key) ≡ s
       → after s (brought .bring .last .1 .1 .1 .1 .1 .0) ≡ whyBlockOf (a .m) (a .keys .now) (length (a .classes .now)) (a .window) (a .key) (a .border .now)
-  answers e = why-done _ _ _ _ _ _ _ (passed (at of)) (key-passed _ _ _ .1 (listed of .0)) e (brought .bring .ensures .1)
+  answers e = why-done _ _ _ _ _ _ _ (passed (told of)) (key-passed _ _ _ .1 (listed of)) e (brought .bring .ensures .1)
 
-  whole : Follow (first (at of) .args .m) 0 (first (at of) .args .keys .now)
-  whole = use-whole _ _ _ _ _ (passed (at of))
-
-  first-is : run .records-of .result .first ≡ runOf (first (at of) .args .m) (first (at of) .args .keys .now) (first (at of) .args .key) .first
-  first-is = ap (λ (r : Run). r .first) (run .records-of .ensures)
+  first-is : let a = first (told of) .args in found .record-at .result ≡ runOf (a .m) (a .keys .now) (a .key) .first
+  first-is =
+      let S = squared (of .before) .square-of .ensures in
+      found .record-at .ensures ∙ first-at (whole of) (known (told of) .inside) (omega arith) (listed of) (listed-names (known (told of) .inside) S (listed of))
 
 same-length : tie.Need-same-length
 same-length c = search needs
@@ -108,7 +124,7 @@ same-length c = search needs
 returns-3 : tie.Need-returns-3
 returns-3 c =
     let s = c .before in
-    answers s (said-opened (whole s) (known (at (of s)) .inside) (listed (of s) .0) (first-is s) (brought s .bring .ensures .0) (c .if1 .taken))
+    answers s (said-opened (whole (of s)) (known (told (of s)) .inside) (listed (of s)) (first-is s) (brought s .bring .ensures .0) (c .if2 .taken))
 
 same-length-2 : tie.Need-same-length-2
 same-length-2 c = search needs
@@ -116,7 +132,7 @@ same-length-2 c = search needs
 returns-4 : tie.Need-returns-4
 returns-4 c =
     let s = c .before in
-    answers s (said-skipped (whole s) (known (at (of s)) .inside) (listed (of s) .0) (first-is s) (brought s .bring .ensures .0) (c .if1 .left))
+    answers s (said-skipped (whole (of s)) (known (told (of s)) .inside) (listed (of s)) (first-is s) (brought s .bring .ensures .0) (c .if2 .left))
 
 pub of-block-spec : {M : Type 1} → statement M
 of-block-spec =
@@ -126,12 +142,11 @@ of-block-spec =
     enum-known-verdict
     returns
     enum-told
-    maximal-requires
-    enum-known-fit
-    enum-told-2
-    returns-2
     spread-table-requires
-    records-of-requires
+    square-of-requires
+    maximal-requires
+    returns-2
+    record-at-requires
     bring-requires
     same-length
     returns-3

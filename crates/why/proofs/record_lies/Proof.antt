@@ -1,10 +1,11 @@
--- `why::record_lies` meets its contract: a record is the square of its key.
+-- `why::record_lies` meets its contract: a record is the square that its key names.
 -- Assumes nothing.
-use mathlib.Core.Path.{_≡_, sym, _∙_}
+use mathlib.Core.Path.{sym, _∙_}
 use native.Mathlib.Omega.{arith}
 use borrow.Author.Needs.{needs}
+use Rattle.key.proofs.Loops.{larger}
 use Rattle.window.proofs.Laws.{inside-12}
-use Rattle.why.proofs.Squares.{record-some, record-lies, record-small}
+use Rattle.why.proofs.Squares.{record-lies}
 use Rattle.why.proofs.record_lies.Statement.{statement}
 use Rattle.why.proofs.record_lies.Tie as tie
 
@@ -17,25 +18,16 @@ shared-slice-read-square-of c = search needs
 square-of-requires : tie.Need-square-of-requires
 square-of-requires c κs = search needs
 
-enum-known-square : tie.Need-enum-known-square
-enum-known-square c = search needs
-
-enum-told : tie.Need-enum-told
-enum-told c = search needs
-
-returns : tie.Need-returns
-returns c = let p = c .before .before .before .before .before .pre in absurd (record-some (p .1) (p .3) (c .before .before .square-of .ensures) (c .enum-told .given .1))
-
 square-lies-requires : tie.Need-square-lies-requires
 square-lies-requires c κs =
-    let p = c .before .before .before .before .before .before .pre in
-    let t = record-small (p .1) (p .3) (c .before .before .before .square-of .ensures) (c .before .square .given .1) (p .0) in
-    (t .0, inside-12 (p .0) (p .2), t .1)
+    let p = c .before .before .before .pre in
+    let s = c .square-of .ensures in
+    (omega (arith, p .0, s .small), inside-12 (p .0) (p .2), larger (p .0) (s .pixel))
 
-returns-2 : tie.Need-returns-2
-returns-2 c =
-    let p = c .before .before .before .before .before .before .before .pre in
-    c .square-lies .ensures ∙ sym (record-lies (p .1) (p .3) (c .before .before .before .before .square-of .ensures) (c .before .before .square .given .1) _)
+returns : tie.Need-returns
+returns c =
+    let p = c .before .before .before .before .pre in
+    c .square-lies .ensures ∙ sym (record-lies (p .1) (p .3) (c .before .square-of .ensures) _)
 
 pub record-lies-spec : {M : Type 1} → statement M
 record-lies-spec =
@@ -44,8 +36,5 @@ record-lies-spec =
     mul-square-of
     shared-slice-read-square-of
     square-of-requires
-    enum-known-square
-    enum-told
-    returns
     square-lies-requires
-    returns-2)
+    returns)
