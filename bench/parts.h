@@ -22,8 +22,8 @@ typedef struct {
 } block;
 
 typedef struct {
-    uint32_t row, col;
-} position;
+    uint32_t row, col, exponent;
+} square;
 
 /*
  * So many records of a map, from the first on, which overlap a block; and the exponent of the larger of the block and
@@ -195,26 +195,20 @@ static inline bool read_key(uint32_t m, uint32_t key, uint32_t *exponent, uint32
     return read_digits(m, bare, start);
 }
 
-/* The pixel at a place, by the place's m digits in base 4, the most significant first. */
-static inline position pixel_of(uint32_t m, uint32_t place)
+/* The square that a number names if it is the key of a block, digit by digit from the small end; else some square. */
+static inline square square_of(uint32_t m, uint32_t key)
 {
-    position at = {0, 0};
-    for (uint32_t k = m; k-- > 0;) {
-        uint32_t digit = place / pixels(k) % 4;
-        at.row = 2 * at.row + digit / 2;
-        at.col = 2 * at.col + digit % 2;
+    square of = {0, 0, 0};
+    for (uint32_t k = 0; k < m; k++, key /= 5) {
+        uint32_t digit = key % 5;
+        if (digit == 0) {
+            of.exponent++;
+        } else {
+            of.row += (digit - 1) / 2 << k;
+            of.col += (digit - 1) % 2 << k;
+        }
     }
-    return at;
-}
-
-/* The block of a key, by its exponent and its corner; false where it is malformed. */
-static inline bool square_of(uint32_t m, uint32_t key, uint32_t *exponent, position *corner)
-{
-    uint32_t start;
-    if (!read_key(m, key, exponent, &start))
-        return false;
-    *corner = pixel_of(m, start);
-    return true;
+    return of;
 }
 
 static inline uint32_t alignment(uint32_t m, uint32_t x)

@@ -18,47 +18,39 @@ static lutniorad_reason refused_by(uint32_t refusal, uint32_t at)
 
 enum { ACROSS = 0 };
 
-/* What is said of the block of side 2^i whose corner this is, if it lies on a side of the window; otherwise ACROSS. */
-static uint32_t square_lies(window at, uint32_t i, position corner)
+/* What is said of a square, if it lies on a side of the window; otherwise ACROSS. */
+static uint32_t square_lies(window at, square of)
 {
-    uint32_t side = 1u << i;
-    if (corner.row + side <= at.r0)
+    uint32_t side = 1u << of.exponent;
+    if (of.row + side <= at.r0)
         return LUTNIORAD_NORTH;
-    if (at.r0 + at.h <= corner.row)
+    if (at.r0 + at.h <= of.row)
         return LUTNIORAD_SOUTH;
-    if (corner.col + side <= at.c0)
+    if (of.col + side <= at.c0)
         return LUTNIORAD_WEST;
-    if (at.c0 + at.w <= corner.col)
+    if (at.c0 + at.w <= of.col)
         return LUTNIORAD_EAST;
     return ACROSS;
 }
 
-static uint32_t record_lies(work on, uint32_t index)
+/* ---- Whether a block is maximal, and the record of its corner ---- */
+
+static bool has_pixel(window at, square of)
 {
-    uint32_t exponent;
-    position corner;
-    if (!square_of(on.m, on.keys[index], &exponent, &corner))
-        return ACROSS;
-    return square_lies(on.at, exponent, corner);
+    return at.r0 <= of.row && of.row < at.r0 + at.h && at.c0 <= of.col && of.col < at.c0 + at.w;
 }
 
-/* ---- Whether a block is maximal ---- */
-
-static bool has_pixel(window at, position p)
+/* From the corner of a maximal block on, the walk comes to it first. */
+static bool maximal(uint32_t m, window at, uint32_t key, square of)
 {
-    return at.r0 <= p.row && p.row < at.r0 + at.h && at.c0 <= p.col && p.col < at.c0 + at.w;
-}
-
-/* The exponent of a maximal block's key; false where it is none's. From its corner on, the walk comes to it first. */
-static bool maximal(uint32_t m, window at, uint32_t key, uint32_t *exponent)
-{
-    position corner;
     block next;
-    if (!square_of(m, key, exponent, &corner) || !has_pixel(at, corner))
-        return false;
-    if (!next_block(at, m, corner.row, corner.col, &next))
-        return false;
-    return next.row == corner.row && next.col == corner.col && next.exponent == *exponent;
+    return has_pixel(at, of) && next_block(at, m, of.row, of.col, &next)
+           && block_key(m, next.exponent, next.row, next.col) == key;
+}
+
+static uint32_t record_at(work on, square of)
+{
+    return (uint32_t)keys_below(on.keys, on.q, pixel_key(on.m, of.row, of.col) + 1, 0) - 1;
 }
 
 /* ---- Which opening hands out a record ---- */
@@ -96,7 +88,7 @@ lutniorad_reason plain_why_record(uint32_t m, const uint32_t *keys, size_t n_key
         return refused_by(verdict.refusal, verdict.place);
     if (n_keys <= record)
         return refused_by(19, 0);
-    side = record_lies(on, record);
+    side = square_lies(on.at, square_of(m, keys[record]));
     if (side != ACROSS) {
         fill(border, 0, w, (uint32_t)r0 + h);
         return answered_by(side, record, 0);
@@ -104,21 +96,22 @@ lutniorad_reason plain_why_record(uint32_t m, const uint32_t *keys, size_t n_key
     return answered_by(LUTNIORAD_HANDED_OUT, record, bring(on, record).number);
 }
 
-/* The first record that overlaps the block is handed out there or, where the block lies in it, at an earlier one. */
+/* The record of the block's corner is handed out there or, where the block lies in it, at an earlier one. */
 lutniorad_reason plain_why_block(uint32_t m, const uint32_t *keys, size_t n_keys, const uint8_t *classes,
                                  size_t n_classes, uint16_t r0, uint16_t c0, uint16_t h, uint16_t w, uint32_t key,
                                  uint16_t *border, size_t n_border)
 {
     work on = {m, keys, n_keys, {r0, c0, h, w}, border};
     lutniorad_answer verdict = usable(m, keys, n_keys, n_classes, on.at, n_border);
-    uint32_t exponent, record;
+    square of = square_of(m, key);
+    uint32_t record;
     brought by;
     (void)classes;
     if (verdict.refusal != 0)
         return refused_by(verdict.refusal, verdict.place);
-    if (!maximal(m, on.at, key, &exponent))
+    if (!maximal(m, on.at, key, of))
         return refused_by(22, 0);
-    record = records_of(m, keys, n_keys, key, exponent).first;
+    record = record_at(on, of);
     by = bring(on, record);
     if (by.key == key)
         return answered_by(LUTNIORAD_OPENED, 0, by.number);
