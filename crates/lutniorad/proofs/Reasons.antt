@@ -12,7 +12,9 @@ use Rattle.answers.specs.Refusals.{Refusal, answer, verdict}
 use Rattle.answers.specs.After.{after, unless}
 use Rattle.answers.proofs.Laws.{on-passed, passed-append, Numbered, numbered-append}
 use Rattle.window.specs.declared.Window.{Window}
+use Rattle.window.specs.Promises.{MaximalKey}
 use Rattle.window.specs.Keys.{keysOf}
+use Rattle.window.proofs.Laws.{key-maximal}
 use Rattle.border.specs.Openings.{Opening, openings}
 use Rattle.border.specs.Promises.{openingsIn}
 use Rattle.used.specs.Used.{useRefusals, spent}
@@ -130,13 +132,17 @@ module _ (m : ℕ) (keys classes : List ℕ) (W : Window) (n : ℕ) (border : Li
 -- ---- of a maximal block
 
 module _ (m : ℕ) (keys classes : List ℕ) (W : Window) (key : ℕ) (border : List ℕ) {r : Reason} {border′ : List ℕ} (call : WhyBlock m keys classes W key border r border′) where
-  behind-keys : Behind (keyRefusals m W key) (blockSaid m keys W key) 22 (List·Memᴰ key (keysOf m m W)) (¬ List·Memᴰ key (keysOf m m W))
+  listed : List·Memᴰ key (keysOf m m W) ↔ MaximalKey m m W key
+  listed = key-maximal m m W key
+
+  behind-keys : Behind (keyRefusals m W key) (blockSaid m keys W key) 22 (MaximalKey m m W key) (¬ MaximalKey m m W key)
   behind-keys = record {
     clear = block-alike m keys W key (λ (a : Why). ofWhy a .refusal) (λ k. refl) (λ i k. refl);
     large = omega arith;
     numbered = numbered-key m W key;
-    passes = key-passed m W key;
-    given = λ {rs} a N e. key-22 m W key noReason (λ (x : Reason). x .refusal) (λ k p. refl) (omega arith) N e;
+    passes = let t = key-passed m W key in (λ e. listed .0 (t .0 e), λ k. t .1 (listed .1 k));
+    given = λ {rs} a N e. let t = key-22 m W key noReason (λ (x : Reason). x .refusal) (λ k p. refl) (omega arith) N e in
+        (λ z. let x = t .0 z in (x .0, λ k. x .1 (listed .1 k)), λ x. t .1 (x .0, λ n. x .1 (listed .0 n)));
   }
 
   pub why-block-says : r ≡ answer noReason (useRefusals m keys (length classes) W (length border) ++ keyRefusals m W key) (ofWhy (blockSaid m keys W key))
@@ -145,11 +151,11 @@ module _ (m : ℕ) (keys classes : List ℕ) (W : Window) (key : ℕ) (border : 
   pub why-block-numbered : r .refusal ≤ 22
   why-block-numbered = most behind-keys m keys classes W border call
 
-  pub why-block-answered : (r .refusal ≡ 0) ↔ (Answerable m keys (length classes) W (length border) × List·Memᴰ key (keysOf m m W))
+  pub why-block-answered : (r .refusal ≡ 0) ↔ (Answerable m keys (length classes) W (length border) × MaximalKey m m W key)
   why-block-answered = answered behind-keys m keys classes W border call
 
   -- 22 is given exactly when all else can be answered, and the key is that of no maximal block
-  pub why-block-22 : (r .refusal ≡ 22) ↔ (Answerable m keys (length classes) W (length border) × (¬ List·Memᴰ key (keysOf m m W)))
+  pub why-block-22 : (r .refusal ≡ 22) ↔ (Answerable m keys (length classes) W (length border) × (¬ MaximalKey m m W key))
   why-block-22 = last behind-keys m keys classes W border call
 
   pub why-block-kept : (r .refusal ≡ 0 → ⊥) → border′ ≡ border
@@ -161,10 +167,11 @@ module _ (m : ℕ) (keys classes : List ℕ) (W : Window) (key : ℕ) (border : 
         let t = why-block-answered .0 z in
         let l = leaves behind-keys m keys classes W border call z in
         let F = t .0 .sound .records in
-        let e = block-either F (t .0 .inside) (t .1) in
+        let n = listed .1 (t .1) in
+        let e = block-either F (t .0 .inside) n in
         record {
-          opened = λ k. said-opened (l .0) e k (block-opened F (t .0 .inside) (t .1) k);
-          skipped = λ i k. said-skipped (l .0) e i k (block-skipped F (t .0 .inside) (t .1) i k);
+          opened = λ k. said-opened (l .0) e k (block-opened F (t .0 .inside) n k);
+          skipped = λ i k. said-skipped (l .0) e i k (block-skipped F (t .0 .inside) n i k);
           either = said-block (l .0) e;
           border-after = l .1;
         }

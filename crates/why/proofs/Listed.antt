@@ -3,7 +3,7 @@
 use mathlib.Core.Path.{_≡_, refl, sym, _∙_}
 use mathlib.Core.Logic.{_↔_}
 use mathlib.Core.List.{List·Memᴰ}
-use Prim.Native.Nat.{ℕ}
+use Prim.Native.Nat.{ℕ, _≤_}
 use native.Mathlib.Omega.{arith}
 use Rattle.key.specs.declared.Square.{Square}
 use Rattle.key.specs.Picture.{Px, place}
@@ -17,7 +17,10 @@ use Rattle.window.specs.Window.{In, Inside}
 use Rattle.window.specs.Blocks.{exponent, corner}
 use Rattle.window.specs.Walk.{Goes}
 use Rattle.window.specs.Keys.{keyOf, keysOf}
-use Rattle.window.proofs.Laws.{key-at, pixel-in, key-named, key-block, key-listed, goes-in, goes-corner, goes-exponent, goes-own, goes-some}
+use Rattle.window.proofs.Laws.{exponent-le, key-at, pixel-in, key-named, key-block, key-listed, goes-in, goes-corner, goes-exponent, goes-own, goes-some}
+
+pub next-small : {W : Window} {top r c i d : ℕ} {s : Px} → Goes W top s (next.Block r c i d) → i ≤ top
+next-small g = rw (goes-exponent g) (exponent-le _ _ _)
 
 module _ {m : ℕ} {W : Window} (I : Inside m W) {key : ℕ} {q : Square} (S : SquareOf m key q) where
   abbrev p : Px

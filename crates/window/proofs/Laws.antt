@@ -10,5 +10,5 @@ pub use Rattle.window.proofs.Largest.{largest-one, largest-some, larges
 pub use Rattle.window.proofs.Tests.{inside, not-outside, window-refused, window-passed, window-inside, numbered-window, inside-12}
 pub use Rattle.window.proofs.Drawn.{drawn-over, drawn-outside, drawn-short, drawn-done, numbered-drawn, drawn-passed, drawn-said, drawn-by-length, drawn-leaves, drawn-untouched}
 pub use Rattle.window.proofs.Past.{walked-first, walked-next, walked-last, walked-split, walked-room, goes-in, goes-exponent, goes-less, goes-corner, goes-own, goes-some}
-pub use Rattle.window.proofs.Keys.{keys-of, key-at, pixel-in, key-named, key-block, key-listed, keys-distinct, keys-length}
+pub use Rattle.window.proofs.Keys.{keys-of, key-at, pixel-in, key-named, key-maximal, key-block, key-listed, keys-distinct, keys-length}
 pub use Rattle.window.proofs.Counts.{rows-count, pixels-most, maximal-most, most-small, pixels-length, in-pixels}

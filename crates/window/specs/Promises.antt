@@ -4,6 +4,7 @@ use mathlib.Core.Path.{_≡_}
 use mathlib.Core.List.{[]}
 use Prim.Native.Nat.{ℕ, _+_, _^_, _≤_, _<_}
 use Rattle.key.specs.Picture.{Px}
+use Rattle.key.specs.Key.{blockKey}
 use Rattle.key.specs.Alignment.{alignment}
 use Rattle.window.specs.declared.Window.{Window}
 use Rattle.window.specs.Window.{In}
@@ -21,6 +22,13 @@ pub record Maximal (W : Window) (top i : ℕ) (p : Px) : Type 0 where
   pub col : floor i (p .1) ≡ p .1
   pub inside : (q : Px) → Same i p q → In W q
   pub largest : (j : ℕ) → i < j → j ≤ top → ((q : Px) → Same j p q → In W q) → ⊥
+
+-- the key is that of such a block
+pub record MaximalKey (m top : ℕ) (W : Window) (key : ℕ) : Type 0 where
+  pub exponent : ℕ
+  pub corner : Px
+  pub maximal : Maximal W top exponent corner
+  pub is : key ≡ blockKey m exponent (corner .0) (corner .1)
 
 -- p stands before q, by row and then by column
 pub data Before (p q : Px) : Type 0 where

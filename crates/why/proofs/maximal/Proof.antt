@@ -5,8 +5,8 @@ use native.Mathlib.Omega.{arith}
 use borrow.Author.Needs.{needs}
 use borrow.Author.Tests.{eqb-true, eq-eqb}
 use Rattle.lists.proofs.Laws.{never}
-use Rattle.window.proofs.Laws.{inside-12, pixel-in, exponent-le, goes-in, goes-exponent}
-use Rattle.why.proofs.Listed.{unlisted-outside, unlisted-ended, listed-next}
+use Rattle.window.proofs.Laws.{inside-12, pixel-in, goes-in}
+use Rattle.why.proofs.Listed.{next-small, unlisted-outside, unlisted-ended, listed-next}
 use Rattle.why.proofs.maximal.Statement.{statement}
 use Rattle.why.proofs.maximal.Tie as tie
 
@@ -27,7 +27,7 @@ block-key-requires c κs =
     let walked = c .before .before .before in
     let p = walked .before .before .before .pre in
     let g = rw (c .before .next .given .1) at (walked .next-block .ensures) in
-    (p .0, p .1, rw (goes-exponent g) (exponent-le _ _ _), pixel-in (p .2) (goes-in g))
+    (p .0, p .1, omega (arith, next-small g, p .3 .small), pixel-in (p .2) (goes-in g))
 
 returns : tie.Need-returns
 returns c =
