@@ -15,11 +15,15 @@ use Rattle.key.specs.declared.Form.{Form}
 use Rattle.key.specs.declared.Form.the-variants.{Block, Malformed}
 use Rattle.key.specs.Picture.{Pixel, place}
 use Rattle.key.specs.Form.{formOf, from}
-use Rattle.key.specs.Blocks.{Names, square, SquareOf, Among}
+use Rattle.key.specs.Blocks.{Names, SquareOf, Among}
 use Rattle.key.proofs.Powers.{pow-least}
 use Rattle.key.proofs.Digits.{form-whole, form-gap, form-digit}
 use Rattle.key.proofs.Pixels.{larger, no-place, place-corner, place-quadrant}
 use Rattle.key.proofs.Named.{one-block, block-named, block-lies, holds-own, holds-same}
+
+-- the square of exponent i whose corner is the pixel in row r, column c
+abbrev pub square : ℕ → ℕ → ℕ → Square
+square i r c = record { exponent = i; row = r; col = c }
 
 -- ---- what is told of a block's key
 
