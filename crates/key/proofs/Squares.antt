@@ -3,7 +3,8 @@
 use mathlib.Core.Path.{_≡_, refl, sym, ap, _∙_}
 use mathlib.Core.Logic.{_↔_}
 use Prim.Native.Nat.{ℕ, suc, _+_, _-_, _*_, _/_, _%_, _^_, _≤_, _<_}
-use native.Mathlib.Nat.{add-comm, one-mul, pow-suc, pow-succ', mul-le-mul-right, div-one, div-div-eq-div-mul, mod-lt, mod-eq-of-lt, div-mul-le-self, lt-div-mul-add, div-eq-of-lt, div-eq-of-lt-le, zero-mul, add-mul}
+use native.Mathlib.Nat.{add-comm, one-mul, pow-suc, pow-succ', mul-le-mul-right, div-one, div-div-eq-div-mul}
+use native.Mathlib.Nat.{mod-lt, mod-eq-of-lt, div-mul-le-self, lt-div-mul-add, div-eq-of-lt, div-eq-of-lt-le, zero-mul, add-mul}
 use native.Mathlib.Numerals.{add-one}
 use native.Mathlib.Decide.{decLt}
 use native.Mathlib.Omega.{arith}

@@ -2,7 +2,7 @@
 -- very list that opening gives.
 -- Assumes nothing.
 use mathlib.Core.Path.{_≡_, refl, sym, ap, _∙_}
-use mathlib.Core.Logic.{_↔_, _⊎_, inl, inr}
+use mathlib.Core.Logic.{_↔_, inl, inr, ⊎-elim}
 use mathlib.Core.List.{List, _++_, List·Memᴰ}
 use Prim.Native.Nat.{ℕ, _*_, _≤_, _<_}
 use native.Mathlib.Omega.{arith}
@@ -33,7 +33,7 @@ use Rattle.lutniorad.specs.Promises.{WhyRecordPromise, WhyBlockPromise}
 use Rattle.lutniorad.proofs.Crossing.{unless-crossed}
 use Rattle.lutniorad.proofs.Told.{five, told-most, told-when, told-kept, guarded-says, guarded-kept, guarded-leaves}
 use Rattle.lutniorad.proofs.Opening.{open-promise}
-use Rattle.lutniorad.proofs.Said.{said-handed-out, said-outside, said-record, said-opened, said-skipped, said-block}
+use Rattle.lutniorad.proofs.Said.{Back, handed-back, outside-back, opened-back, skipped-back, said-exactly}
 
 -- ---- both: what is said, behind refusals 1 to 7 and one more, which has number k and passes what is asked
 
@@ -121,11 +121,13 @@ module _ (m : ℕ) (keys classes : List ℕ) (W : Window) (n : ℕ) (border : Li
         let t = why-record-answered .0 z in
         let l = leaves behind m keys classes W border call z in
         let F = t .0 .sound .records in
-        let e = record-either F (t .0 .inside) (t .1) in
+        let I = t .0 .inside in
+        let e = record-either F I (t .1) in
+        let b : Back (recordSaid m keys W n) = ⊎-elim (λ x. rw (x .1) (handed-back n (x .0))) (λ x. rw (x .1) (outside-back n (x .0))) e in
         record {
-          handed = λ k. said-handed-out (l .0) e k (record-handed F (t .0 .inside) (t .1) k);
-          outside = λ side. said-outside (l .0) e side (record-outside F (t .0 .inside) (t .1) side);
-          either = said-record (l .0) e;
+          handed = λ k. said-exactly (l .0) b (handed-back n k) (record-handed F I (t .1) k);
+          outside = λ side. said-exactly (l .0) b (outside-back n side) (record-outside F I (t .1) side);
+          either = ⊎-elim (λ x. inl (x .0, l .0 ∙ ap ofWhy (x .1), x .2)) (λ x. inr (x .0, l .0 ∙ ap ofWhy (x .1), x .2)) e;
           border-after = l .1;
         }
 
@@ -167,12 +169,14 @@ module _ (m : ℕ) (keys classes : List ℕ) (W : Window) (key : ℕ) (border : 
         let t = why-block-answered .0 z in
         let l = leaves behind-keys m keys classes W border call z in
         let F = t .0 .sound .records in
+        let I = t .0 .inside in
         let n = listed .1 (t .1) in
-        let e = block-either F (t .0 .inside) n in
+        let e = block-either F I n in
+        let b : Back (blockSaid m keys W key) = ⊎-elim (λ x. rw (x .1) (opened-back (x .0))) (λ x. rw (x .2) (skipped-back (x .0) (x .1))) e in
         record {
-          opened = λ k. said-opened (l .0) e k (block-opened F (t .0 .inside) n k);
-          skipped = λ i k. said-skipped (l .0) e i k (block-skipped F (t .0 .inside) n i k);
-          either = said-block (l .0) e;
+          opened = λ k. said-exactly (l .0) b (opened-back k) (block-opened F I n k);
+          skipped = λ i k. said-exactly (l .0) b (skipped-back i k) (block-skipped F I n i k);
+          either = ⊎-elim (λ x. inl (x .0, l .0 ∙ ap ofWhy (x .1))) (λ x. inr (x .0, x .1, l .0 ∙ ap ofWhy (x .2))) e;
           border-after = l .1;
         }
 

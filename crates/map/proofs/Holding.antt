@@ -181,13 +181,10 @@ module _ {m : ℕ} {keys : List ℕ} (F : Follow m 0 keys) where
       own : Among (getD keys (H .index) 0) (5 ^ H .exponent) (pixelKey m r c)
       own = holds-key (H .is .names) p .0 (H .has)
 
-      next : H .index + 1 < n → ⊥
-      next l =
-          let R = record-at (spaced F) (H .index + 1) (omega (arith, s .room)) in
-          omega (arith, own, s .below (H .index + 1) l, keys-apart (spaced F) (H .index) (H .index + 1) (H .is) (R .is) (omega arith))
-
       both : Dec (H .index < n) → Dec (H .index + 1 < n) → n ≡ H .index + 1
-      both (yes l) (yes h) = absurd (next h)
+      both (yes l) (yes h) =
+          let R = record-at (spaced F) (H .index + 1) (omega (arith, s .room)) in
+          absurd (omega (arith, own, s .below (H .index + 1) h, keys-apart (spaced F) (H .index) (H .index + 1) (H .is) (R .is) (omega arith)))
       both (yes l) (no h) = omega (arith, l, h)
       both (no l) t = absurd (omega (arith, own, s .over (H .index) (omega (arith, l)) (H .is .within)))
 
