@@ -20,7 +20,7 @@ ROOT = pathlib.Path(__file__).resolve().parent.parent
 TABLE = 'docs/statement.txt'
 PAGE = 'docs/STATEMENT.md'
 LIBRARY = 'lutniorad'  # the crate with the C calls
-PROMISES = 'Promises'  # the module of a crate with the words in which its promises are said
+PROMISES = 'Promises.antt'  # how the name of a file ends that has the words in which promises are said
 DIFF_SHOWN = 40  # lines
 
 # Of antt and of contracts, what needs no `use` line: signs that name nothing, and names.
@@ -672,7 +672,7 @@ def uncited(project):
 
 def strays(project):
     """The definitions that stand among what contracts cite, and are cited by none. The words of promises stand apart."""
-    return [item for item in uncited(project) if not item.file.path.endswith('/%s.antt' % PROMISES)]
+    return [item for item in uncited(project) if not item.file.path.endswith(PROMISES)]
 
 
 def inner(project):
@@ -686,7 +686,7 @@ def check_strays(project):
     found = strays(project)
     show(found)
     if found:
-        print('no contract rests on these: they belong into proofs/ or into specs/%s.antt' % PROMISES)
+        print('no contract rests on these: they belong into proofs/ or into specs/*' + PROMISES)
     return 1 if found else 0
 
 

@@ -419,6 +419,10 @@ lutniorad_answer lutniorad_exist(uint32_t m,
  * On the map of the keys 5, 11, 12, 13, 14, 15, 20 at m = 2, with the classes 1, 2, 2, 3, 1, 1, 2, the window r0 = 0,
  * c0 = 1, h = 3, w = 3 has 4 pixels of class 1, 4 of class 2, 1 of class 3, and none of any other.
  *
+ * Windows of one map may be added and subtracted, cell by cell. Where two windows overlap and their union is a
+ * rectangle, their totals add up to those of the union and of the intersection. Where windows that share no pixel make
+ * up a window, their totals add up to its own.
+ *
  * Refuses by 1 to 7, as lutniorad_open does; and 8, with place 256, when `totals` has fewer cells than that. On 8 the
  * first w cells of `border` are r0 + h, and nothing else was written.
  */

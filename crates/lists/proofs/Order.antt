@@ -1,7 +1,7 @@
 -- Order: parts of an ordered list, two lists in one, the pigeonhole principle, and lists with the same elements. By induction over the list.
 -- Assumes nothing.
 use mathlib.Core.Path.{_≡_, refl, sym, ap, ap₂, _∙_, subst}
-use mathlib.Core.Logic.{_⊎_, inl, inr, _≢_}
+use mathlib.Core.Logic.{_↔_, _⊎_, inl, inr, _≢_}
 use mathlib.Core.List.{List, [], _∷_, _++_, map}
 use mathlib.Core.List.{List·Memᴰ, List·Memᴰ·head, List·Memᴰ·tail, List·Memᴰ·not-nil, List·Memᴰ·cases-cons, List·Memᴰ·append-cases, Memᴰ·append-left, Memᴰ·append-right, Memᴰ·of-map}
 use Prim.Native.Nat.{ℕ, suc, _≤_, _<_}
@@ -123,27 +123,38 @@ module _ {A B : Type 0} (R : A → B → Type 0) where
 
 -- ---- one list
 
+-- lists in one strict order
+module _ {A : Type 0} {R : A → A → Type 0} (strict : (x y : A) → R x y → R y x → ⊥) where
+  -- the first of one is that of the other
+  first-same : {x y : A} {l s : List A} → ((z : A) → List·Memᴰ z l → R x z) → ((z : A) → List·Memᴰ z s → R y z) → List·Memᴰ x (y ∷ s) → List·Memᴰ y (x ∷ l) → x ≡ y
+  first-same {x} {y} {l} {s} h k m n = go (List·Memᴰ·cases-cons m) (List·Memᴰ·cases-cons n)
+    where
+      go : (x ≡ y) ⊎ List·Memᴰ x s → (y ≡ x) ⊎ List·Memᴰ y l → x ≡ y
+      go (inl e) b = e
+      go (inr a) (inl e) = sym e
+      go (inr a) (inr b) = absurd (strict x y (h y b) (k x a))
+
+  -- what stands behind it in one stands behind it in the other
+  behind-same : {x y z : A} {l s : List A} → x ≡ y → ((z : A) → List·Memᴰ z l → R x z) → List·Memᴰ z (y ∷ s) → List·Memᴰ z l → List·Memᴰ z s
+  behind-same {x} {y} {z} {l} {s} e h m n = go (List·Memᴰ·cases-cons m)
+    where
+      go : (z ≡ y) ⊎ List·Memᴰ z s → List·Memᴰ z s
+      go (inl d) = let r : R x x = subst (λ (a : A). R x a) (d ∙ sym e) (h z n) in absurd (strict x x r r)
+      go (inr k) = k
+
+  -- with the same elements they are one
+  pub same-ordered : {l s : List A} → Ordered R l → Ordered R s → ((z : A) → List·Memᴰ z l ↔ List·Memᴰ z s) → l ≡ s
+  same-ordered none none same = refl
+  same-ordered none (more {x = y} h o) same = absurd (List·Memᴰ·not-nil (same y .1 (List·Memᴰ·head refl)))
+  same-ordered (more {x = x} h o) none same = absurd (List·Memᴰ·not-nil (same x .0 (List·Memᴰ·head refl)))
+  same-ordered (more {x = x} {l = l} h o) (more {x = y} {l = s} k p) same =
+      let e : x ≡ y = first-same h k (same x .0 (List·Memᴰ·head refl)) (same y .1 (List·Memᴰ·head refl)) in
+      ap₂ _∷_ e
+      (same-ordered o p (λ z. (λ n. behind-same e h (same z .0 (List·Memᴰ·tail n)) n, λ n. behind-same (sym e) k (same z .1 (List·Memᴰ·tail n)) n)))
+
 -- Of two rising lists one has all elements of the other, and is no longer: they are one.
 pub same-rising : {l s : List ℕ} → Ordered _<_ l → Ordered _<_ s → ((x : ℕ) → List·Memᴰ x l → List·Memᴰ x s) → length s ≤ length l → s ≡ l
-same-rising {s = []} none o k h = refl
-same-rising {s = y ∷ s} none o k h = absurd (omega arith)
-same-rising {s = []} (more {x = x} g o) p k h = absurd (List·Memᴰ·not-nil (k x (List·Memᴰ·head refl)))
-same-rising {s = y ∷ s} (more {x = x} {l = l} g o) (more u p) k h = go (List·Memᴰ·cases-cons (k x (List·Memᴰ·head refl))) (same-rising o p)
+same-rising {l} {s} o p k h = sym (same-ordered (λ x y a b. omega arith) o p (λ x. (k x, back x)))
   where
-    -- an element behind y
-    later : (z : ℕ) → y < z → List·Memᴰ z (x ∷ l) → List·Memᴰ z s
-    later z d n = pick (List·Memᴰ·cases-cons (k z n))
-      where
-        pick : (z ≡ y) ⊎ List·Memᴰ z s → List·Memᴰ z s
-        pick (inl e) = absurd (omega arith)
-        pick (inr i) = i
-
-    over : y < x → (z : ℕ) → List·Memᴰ z (x ∷ l) → y < z
-    over d z (List·Memᴰ·head e) = omega arith
-    over d z (List·Memᴰ·tail i) = omega (arith, g z i)
-
-    go : (x ≡ y) ⊎ List·Memᴰ x s → (((z : ℕ) → List·Memᴰ z l → List·Memᴰ z s) → length s ≤ length l → s ≡ l) → y ∷ s ≡ x ∷ l
-    go (inl e) ih = ap₂ _∷_ (sym e) (ih (λ z i. later z (omega (arith, g z i)) (List·Memᴰ·tail i)) (omega arith))
-    go (inr i) ih =
-        let d : y < x = u x i in
-        absurd (omega (arith, pigeon _≡_ s (rising-distinct (more {x = x} g o)) (λ z n. (z, later z (over d z n) n, refl)) (λ z z′ b n n′ e e′. e ∙ sym e′)))
+    back : (x : ℕ) → List·Memᴰ x s → List·Memᴰ x l
+    back x n = let t = pigeon-onto _≡_ s (rising-distinct o) (λ z m. (z, k z m, refl)) (λ z z′ b m m′ e e′. e ∙ sym e′) h x n in rw (← t .2) (t .1)

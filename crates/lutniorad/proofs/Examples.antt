@@ -42,8 +42,10 @@ use Rattle.exist.proofs.Examples.{glare}
 use Rattle.exist.proofs.Examples as queries
 use Rattle.lutniorad.specs.Numbers.{values, refused, reason}
 use Rattle.lutniorad.specs.Calls.{Decompose, DecomposeTiled, Open, OpenTiled, Windows, WhyRecord, WhyBlock, Exist, MonthClear, MonthAdd}
-use Rattle.lutniorad.specs.Promises.{DecomposePromise, OpenPromise, WindowsPromise, SomePixel, MonthRow, cleared, added}
-use Rattle.lutniorad.specs.Promises as promises
+use Rattle.lutniorad.specs.Promises.{DecomposePromise, OpenPromise, SomePixel}
+use Rattle.lutniorad.specs.ManyPromises.{WindowsPromise}
+use Rattle.lutniorad.specs.MonthPromises.{MonthRow, cleared, added}
+use Rattle.lutniorad.specs.MonthPromises as months
 use Rattle.lutniorad.proofs.Crossing.{crossing}
 use Rattle.lutniorad.proofs.Decomposing.{decompose-promise}
 use Rattle.lutniorad.proofs.Opening.{open-promise}
@@ -135,7 +137,7 @@ month-row =
     let clears : MonthClear 2 W (old 1031) (values 0 0) (empty ++ 99 ∷ []) = crossing refl refl (sym (examples .clears)) in
     let takes : MonthAdd 2 keys classes (old 4) (empty ++ 99 ∷ []) (values 1 0) (3 ∷ 3 ∷ 3 ∷ 99 ∷ []) (first-day ++ 99 ∷ []) = crossing refl refl (sym (examples .adds)) in
     let refuses : MonthAdd 2 (1 ∷ []) (3 ∷ []) (old 3) (first-day ++ 99 ∷ []) (refused 3 0) (old 3) (first-day ++ 99 ∷ []) = crossing refl refl (sym (examples .refuses)) in
-    promises.refused (added (cleared clears refl) 2 keys classes (old 4) takes refl) 2 (1 ∷ []) (3 ∷ []) (old 3) refuses (λ e. omega (arith, e))
+    months.refused (added (cleared clears refl) 2 keys classes (old 4) takes refl) 2 (1 ∷ []) (3 ∷ []) (old 3) refuses (λ e. omega (arith, e))
 
 -- so the table is that of the one map
 month-is : first-day ++ 99 ∷ [] ≡ overwrite (monthOf 2 W ((keys, classes) ∷ [])) (old 1031)

@@ -10,7 +10,7 @@ use Rattle.many.specs.Many.{windowsIn, linesOf, leftBy, widest}
 use Rattle.many.proofs.Laws.{windows-length, windows-append, lines-append, widest-append, widest-wider, left-append}
 use Rattle.lutniorad.specs.declared.Answer.{Answer}
 use Rattle.lutniorad.specs.Calls.{Windows}
-use Rattle.lutniorad.specs.Promises.{WindowsJoined}
+use Rattle.lutniorad.specs.ManyPromises.{WindowsJoined}
 use Rattle.lutniorad.proofs.Windows.{windows-answered, windows-number, windows-border, windows-lines, windows-promise}
 
 -- a list in two parts, the first of n windows; three calls, of which the third gets the border that the second leaves

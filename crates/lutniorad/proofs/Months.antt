@@ -26,7 +26,7 @@ use Rattle.month.proofs.Laws.{month-none, next-m, next-window, next-maps, next-
 use Rattle.lutniorad.specs.declared.Answer.{Answer}
 use Rattle.lutniorad.specs.Numbers.{values, refused, ofCleared, ofAdded}
 use Rattle.lutniorad.specs.Calls.{MonthClear, MonthAdd}
-use Rattle.lutniorad.specs.Promises.{MonthClearPromise, MonthAddPromise}
+use Rattle.lutniorad.specs.MonthPromises.{MonthClearPromise, MonthAddPromise}
 use Rattle.lutniorad.proofs.Drawing.{drawn-crossed, drawn-says, drawn-numbered, drawn-answered, drawn-kept, drawn-done}
 use Rattle.lutniorad.proofs.Crossing.{both-slices, unless-crossed}
 use Rattle.lutniorad.proofs.Told.{four, told-most, told-when, told-kept, guarded-says, guarded-kept, guarded-leaves}

@@ -29,7 +29,7 @@ use Rattle.lutniorad.specs.declared.Answer.{Answer}
 use Rattle.lutniorad.specs.declared.Reason.{Reason}
 use Rattle.lutniorad.specs.Numbers.{noReason, ofWhy}
 use Rattle.lutniorad.specs.Calls.{Call, Open, WhyRecord, WhyBlock}
-use Rattle.lutniorad.specs.Promises.{WhyRecordPromise, WhyBlockPromise}
+use Rattle.lutniorad.specs.WhyPromises.{WhyRecordPromise, WhyBlockPromise}
 use Rattle.lutniorad.proofs.Crossing.{unless-crossed}
 use Rattle.lutniorad.proofs.Told.{five, told-most, told-when, told-kept, guarded-says, guarded-kept, guarded-leaves}
 use Rattle.lutniorad.proofs.Opening.{open-promise}

@@ -26,7 +26,7 @@ use Rattle.many.proofs.Laws.{line-is}
 use Rattle.lutniorad.specs.declared.Answer.{Answer}
 use Rattle.lutniorad.specs.Numbers.{values, refused}
 use Rattle.lutniorad.specs.Calls.{Open, Report}
-use Rattle.lutniorad.specs.Promises.{Roomy}
+use Rattle.lutniorad.specs.ManyPromises.{Roomy}
 use Rattle.lutniorad.proofs.Opening.{open-says}
 use Rattle.lutniorad.proofs.Asked.{report-says}
 

@@ -19,7 +19,7 @@ use Rattle.month.specs.Promises.{Map, monthOf, Sane}
 use Rattle.month.proofs.Laws.{add-addable, month-next, month-over, month-length, month-m, month-maps, sane-none, sane-next, Outcome, unsound, other, full, narrow, taken, outcome}
 use Rattle.lutniorad.specs.declared.Answer.{Answer}
 use Rattle.lutniorad.specs.Calls.{MonthAdd}
-use Rattle.lutniorad.specs.Promises.{MonthRow, cleared, added, refused}
+use Rattle.lutniorad.specs.MonthPromises.{MonthRow, cleared, added, refused}
 use Rattle.lutniorad.proofs.Months.{month-clear-answered, month-clear-promise, month-add-answered, month-add-kept, month-add-table, month-add-number}
 
 -- a map that is taken has the m of the table

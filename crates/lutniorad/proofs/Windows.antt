@@ -23,7 +23,7 @@ use Rattle.many.proofs.Laws.{many-askable, many-25, numbered-many, many-is}
 use Rattle.lutniorad.specs.declared.Answer.{Answer}
 use Rattle.lutniorad.specs.Numbers.{values, refused, ofMany}
 use Rattle.lutniorad.specs.Calls.{Windows}
-use Rattle.lutniorad.specs.Promises.{WindowsPromise}
+use Rattle.lutniorad.specs.ManyPromises.{WindowsPromise}
 use Rattle.lutniorad.proofs.Crossing.{both-slices, unless-crossed}
 use Rattle.lutniorad.proofs.Told.{four, told-most, told-when, told-kept, guarded-says, guarded-kept, guarded-leaves}
 use Rattle.lutniorad.proofs.Roomy.{open-line, report-line}

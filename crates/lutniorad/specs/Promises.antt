@@ -1,11 +1,11 @@
--- What is promised of each call that was answered, in the words of the scope: by the numbers that it returned and the cells that it left.
+-- What is promised of each call that was answered, in the words of the scope: by the numbers that it returned and the cells that it left. Many windows, reasons, months and windows
+-- that share pixels have files of their own.
 -- Assumes nothing.
 use mathlib.Core.Path.{_≡_}
-use mathlib.Core.Logic.{_↔_, _⊎_, _≢_}
+use mathlib.Core.Logic.{_↔_, _≢_}
 use mathlib.Core.Bool.{true}
-use mathlib.Core.List.{List, [], _∷_, _++_, List·Memᴰ, map}
+use mathlib.Core.List.{List, List·Memᴰ, map}
 use Prim.Native.Nat.{ℕ, _+_, _*_, _/_, _^_, _≤_, _<_}
-use lib.Dec.{eqb}
 use lib.ListN.{length, getD, take, drop}
 use Rattle.lists.specs.Promises.{sum}
 use Rattle.lists.specs.Lists.{Ordered}
@@ -14,29 +14,19 @@ use Rattle.key.specs.Picture.{place, Px}
 use Rattle.key.specs.Key.{blockKey}
 use Rattle.key.specs.Form.{formOf}
 use Rattle.window.specs.declared.Window.{Window}
-use Rattle.window.specs.Window.{In, Inside}
+use Rattle.window.specs.Window.{In}
 use Rattle.window.specs.Promises.{Maximal, Before}
 use Rattle.map.specs.Spans.{holds}
 use Rattle.map.specs.Records.{pixelRecord}
 use Rattle.map.specs.Classes.{notSeen}
 use Rattle.border.specs.Openings.{Opening, openings, cellsOf, allHands}
-use Rattle.border.specs.Promises.{Overlaps, HandedOut, HandedBy, OpenedAs, SkippedFor, Apart, Enough}
+use Rattle.border.specs.Promises.{Overlaps, HandedOut, Apart, Enough}
 use Rattle.used.specs.Used.{spent}
-use Rattle.many.specs.Many.{windowAt, windowsIn}
-use Rattle.many.specs.Promises.{LeftIn}
-use Rattle.why.specs.declared.Side.{Side}
-use Rattle.why.specs.declared.Lies.the-variants.{Outside}
-use Rattle.why.specs.Promises.{AllNorth, AllSouth, AllWest, AllEast, FirstTrue}
 use Rattle.house.specs.File.{fileOf, fileM, fileQ, fileKeys, fileClasses}
 use Rattle.totals.specs.Totals.{total}
 use Rattle.select.specs.Select.{selection}
-use Rattle.rows.specs.Rows.{rowIn, withMap}
-use Rattle.month.specs.Month.{mIn, windowIn, mapsIn}
-use Rattle.month.specs.Promises.{Map, monthOf, Sane}
 use Rattle.lutniorad.specs.declared.Answer.{Answer}
-use Rattle.lutniorad.specs.declared.Reason.{Reason}
-use Rattle.lutniorad.specs.Numbers.{values, reason, sideNumber}
-use Rattle.lutniorad.specs.Calls.{Open, Report, MonthClear, MonthAdd}
+use Rattle.lutniorad.specs.Numbers.{values}
 
 -- what opening, report or select leaves where it is refused: the answer slice as it was, and the border too, but that 8 leaves it as an answered call does. Other calls leave all
 -- lent cells as they were
@@ -78,55 +68,6 @@ pub record OpenPromise (m top : ℕ) (keys : List ℕ) (W : Window) (border out 
   pub numbers : r ≡ values (length os) (length (allHands os))
   -- cells beyond keep their content, and the first w border cells hold r0 + h
   pub cells : out′ ≡ overwrite (cellsOf os) out
-  pub border-after : border′ ≡ spent W border
-
--- a call on a window had room enough: it is refused neither for its border nor for its slice
-abbrev pub Roomy : Answer → Type 0
-Roomy r = (r .refusal ≡ 7 → ⊥) × (r .refusal ≡ 8 → ⊥)
-
--- many windows, of which window i has five cells from 5i on
-pub record WindowsPromise (m : ℕ) (keys classes windows border out : List ℕ) (r : Answer) (border′ out′ : List ℕ) : Type 0 where
-  -- `first` is their number
-  pub number : r ≡ values (length (windowsIn windows)) 0
-  pub fours : length windows ≡ 4 * r .first
-  -- the first four cells are what opening that window returns, called with any slices that have room enough
-  pub opened : (i : ℕ) → i < r .first → (b o : List ℕ) {s : Answer} {b′ o′ : List ℕ} → Open m keys classes (windowAt windows i) b o s b′ o′ → Roomy s
-      → take 4 (drop (5 * i) out′) ≡ s .refusal ∷ s .place ∷ s .first ∷ s .second ∷ []
-  -- the fifth is the number of pixels that report returns, called so
-  pub reported : (i : ℕ) → i < r .first → (b o : List ℕ) {s : Answer} {b′ o′ : List ℕ} → Report m keys classes (windowAt windows i) b o s b′ o′ → Roomy s
-      → getD out′ (5 * i + 4) 0 ≡ s .first
-  -- a window that does not lie inside the picture is refused alone
-  pub refused-alone : (i : ℕ) → i < r .first → ¬ Inside m (windowAt windows i) → take 5 (drop (5 * i) out′) ≡ 6 ∷ 0 ∷ 0 ∷ 0 ∷ 0 ∷ []
-  -- cells beyond keep their content
-  pub beyond : drop (5 * r .first) out′ ≡ drop (5 * r .first) out
-  -- in each border cell stands x exactly when it is what the last window left there that lies inside the picture and reaches it, or where there is none what was there
-  pub border-after : (j x : ℕ) → (getD border′ j 0 ≡ x) ↔ LeftIn m (windowsIn windows) border j x
-  pub border-long : length border′ ≡ length border
-
--- a list of windows and its two parts, called one after the other with one border: the lines of the whole are those of the parts, and the border is the same
-pub record WindowsJoined (r : Answer) (border out : List ℕ) (r₁ : Answer) (one : List ℕ) (r₂ : Answer) (border₂ two : List ℕ) : Type 0 where
-  pub numbers : r .first ≡ r₁ .first + r₂ .first
-  pub lines : take (5 * r .first) out ≡ take (5 * r₁ .first) one ++ take (5 * r₂ .first) two
-  pub border-after : border ≡ border₂
-
--- why record n is on the list of openings os, or is not
-pub record WhyRecordPromise (m : ℕ) (keys : List ℕ) (W : Window) (n : ℕ) (os : List Opening) (border : List ℕ) (r : Reason) (border′ : List ℕ) : Type 0 where
-  -- it is said to be handed out by opening number k, counted from 0, exactly when that opening hands it out
-  pub handed : (k : ℕ) → (r ≡ reason 1 n k) ↔ HandedBy os k n
-  -- it is said to lie north, south, west or east of the window exactly when this is the first of them that is true of all its pixels
-  pub outside : (side : Side) → (r ≡ reason (sideNumber side) n 0) ↔ FirstTrue (AllNorth m keys W n) (AllSouth m keys W n) (AllWest m keys W n) (AllEast m keys W n) (Outside side)
-  -- one of these is said: the first where the record shares a pixel with the window, and one of the others where it shares none
-  pub either : ((k : ℕ) × (r ≡ reason 1 n k) × Overlaps m keys W n) ⊎ ((side : Side) × (r ≡ reason (sideNumber side) n 0) × (¬ Overlaps m keys W n))
-  pub border-after : border′ ≡ spent W border
-
--- why the maximal block of a key is on the list of openings os, or is not
-pub record WhyBlockPromise (m : ℕ) (keys : List ℕ) (W : Window) (key : ℕ) (os : List Opening) (border : List ℕ) (r : Reason) (border′ : List ℕ) : Type 0 where
-  -- it is said to be opened as number k exactly when opening number k is at that key
-  pub opened : (k : ℕ) → (r ≡ reason 6 0 k) ↔ OpenedAs os key k
-  -- it is said to be skipped for record n, handed out by opening number k, exactly when it lies in that record, opening number k hands this out, and comes before the block
-  pub skipped : (n k : ℕ) → (r ≡ reason 7 n k) ↔ SkippedFor m m keys W os key n k
-  -- one of these is said
-  pub either : ((k : ℕ) × (r ≡ reason 6 0 k)) ⊎ ((n : ℕ) × (k : ℕ) × (r ≡ reason 7 n k))
   pub border-after : border′ ≡ spent W border
 
 -- the class of a pixel is that of its record
@@ -189,33 +130,3 @@ pub record WritePromise (m : ℕ) (keys classes out : List ℕ) (r : Answer) (ou
   pub number : r ≡ values (20 + 5 * length keys) 0
   pub long : length (fileOf m keys classes) ≡ 20 + 5 * length keys
   pub cells : out′ ≡ overwrite (fileOf m keys classes) out
-
--- clearing: the table of no map
-pub record MonthClearPromise (m : ℕ) (W : Window) (table : List ℕ) (r : Answer) (table′ : List ℕ) : Type 0 where
-  pub number : r ≡ values 0 0
-  pub cells : table′ ≡ overwrite (monthOf m W []) table
-
--- adding a map, to any table for which it is answered
-pub record MonthAddPromise (m : ℕ) (keys classes border table : List ℕ) (r : Answer) (border′ table′ : List ℕ) : Type 0 where
-  -- `first` is the number of maps now
-  pub number : r ≡ values (mapsIn table + 1) 0
-  pub maps : mapsIn table′ ≡ mapsIn table + 1
-  -- m and the window stay
-  pub same-m : mIn table′ ≡ mIn table
-  pub window : windowIn table′ ≡ windowIn table
-  -- each class has a map more, by its pixels in the table's window
-  pub rows : (class : ℕ) → class < 256 → rowIn table′ class ≡ withMap (eqb (mapsIn table) 0) (total m keys classes (windowIn table) class) (rowIn table class)
-  -- nothing overflows: 26 lets the table pass again, and no sum is over 1,000 * 4,096 * 4,096
-  pub sane : Sane m table′
-  pub small : (class : ℕ) → class < 256 → rowIn table′ class .sum ≤ 16777216000
-  -- cells beyond keep their content
-  pub beyond : drop 1030 table′ ≡ drop 1030 table
-  pub border-after : border′ ≡ spent (windowIn table) border
-
--- a row of calls on a table that was `old`: a clearing one that is answered, and then adding ones, of which `maps` are the maps for which they are answered
-pub data MonthRow (m : ℕ) (W : Window) (old : List ℕ) : List Map → List ℕ → Type 0 where
-  cleared : {r : Answer} {table : List ℕ} → MonthClear m W old r table → r .refusal ≡ 0 → MonthRow m W old [] table
-  added : {maps : List Map} {table : List ℕ} → MonthRow m W old maps table → (k : ℕ) (keys classes border : List ℕ) {border′ table′ : List ℕ} {r : Answer}
-      → MonthAdd k keys classes border table r border′ table′ → r .refusal ≡ 0 → MonthRow m W old (maps ++ (keys, classes) ∷ []) table′
-  refused : {maps : List Map} {table : List ℕ} → MonthRow m W old maps table → (k : ℕ) (keys classes border : List ℕ) {border′ table′ : List ℕ} {r : Answer}
-      → MonthAdd k keys classes border table r border′ table′ → (r .refusal ≡ 0 → ⊥) → MonthRow m W old maps table′

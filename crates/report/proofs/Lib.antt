@@ -1,4 +1,4 @@
 mod Tables
 mod Told
-mod Examples
+pub mod Examples
 pub mod Laws

@@ -18,7 +18,8 @@ use Rattle.key.specs.Picture.{Px}
 use Rattle.window.specs.declared.Window.{Window}
 use Rattle.window.specs.Window.{In, Inside}
 use Rattle.window.specs.Blocks.{pixels}
-use Rattle.window.proofs.Laws.{pixels-length, in-pixels}
+use Rattle.window.specs.PairPromises.{Union, Intersection, Parted}
+use Rattle.window.proofs.Laws.{pixels-length, in-pixels, counts-shared, counts-parted}
 use Rattle.map.specs.Sound.{Follow}
 use Rattle.map.specs.Records.{pixelRecord}
 use Rattle.map.specs.Classes.{classed, hasClass}
@@ -146,6 +147,17 @@ module _ (m : ℕ) (keys classes : List ℕ) (W : Window) where
 
       each : (k : ℕ) → k < 256 → getD (gathered m keys classes W ns (replicate 256 0)) k 0 ≡ getD (totals m keys classes W) k 0
       each k l = gathered-counts o l ∙ many-same (pixels W) (λ p n. same k p (in-pixels W .0 n)) ∙ sym (totals-at k l)
+
+-- ---- windows that share pixels, and windows that part another
+
+module _ (m : ℕ) (keys classes : List ℕ) (k : ℕ) where
+  pub total-shared : {A B U I : Window} → Union A B U → Intersection A B I → total m keys classes A k + total m keys classes B k ≡ total m keys classes U k + total m keys classes I k
+  unfolding total
+  total-shared u i = counts-shared u i (hasClass m keys classes k)
+
+  pub total-parted : {U : Window} {parts : List Window} → Parted U parts → sum (map (λ W. total m keys classes W k) parts) ≡ total m keys classes U k
+  unfolding total
+  total-parted t = counts-parted t (hasClass m keys classes k)
 
 -- the openings of a window hand out such records
 pub openings-gathered : {m top : ℕ} {keys : List ℕ} → Follow m 0 keys → {W : Window} → Inside m W → top ≤ m → (classes : List ℕ)

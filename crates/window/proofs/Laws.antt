@@ -12,3 +12,6 @@ pub use Rattle.window.proofs.Drawn.{drawn-over, drawn-outside, drawn-sh
 pub use Rattle.window.proofs.Past.{walked-first, walked-next, walked-last, walked-split, walked-room, goes-in, goes-exponent, goes-less, goes-corner, goes-own, goes-some}
 pub use Rattle.window.proofs.Keys.{keys-of, key-at, pixel-in, key-named, key-maximal, key-block, key-listed, keys-distinct, keys-length}
 pub use Rattle.window.proofs.Counts.{rows-count, pixels-most, maximal-most, most-small, pixels-length, in-pixels}
+pub use Rattle.window.proofs.Parts.{counts-shared, counts-parted}
+pub use Rattle.window.proofs.Pairs.{meet-is, meet-inside, overlapping-is, intersection-is, hull-has, hull-inside, hull-least, union-is}
+pub use Rattle.window.proofs.Sides.{touching-is, parted-two}
