@@ -8,7 +8,7 @@ use lib.ListN.{getD}
 use Rattle.answers.specs.After.{after}
 use Rattle.answers.proofs.P1.{keys, classes, old}
 use Rattle.window.specs.declared.Window.{Window}
-use Rattle.window.specs.PairPromises.{Union, hull, meet}
+use Rattle.window.specs.SharingPromises.{Union, hull, meet}
 use Rattle.window.proofs.P1.{W, column, columns, row, lower, first-two, middle, pixel, north-west, south-east}
 use Rattle.window.proofs.Examples.{pairs}
 use Rattle.report.specs.declared.Reported.the-variants.{Done}

@@ -10,7 +10,7 @@ use Rattle.lists.specs.Promises.{sum}
 use Rattle.lists.proofs.Laws.{sum-none, sum-next, sums-same}
 use Rattle.window.specs.declared.Window.{Window}
 use Rattle.window.specs.Window.{Inside}
-use Rattle.window.specs.PairPromises.{Union, Intersection, Overlapping, Parted, Touching, hull, meet}
+use Rattle.window.specs.SharingPromises.{Union, Intersection, Overlapping, Parted, Touching, hull, meet}
 use Rattle.window.proofs.Laws.{meet-is, meet-inside, intersection-is, hull-inside, union-is, touching-is, parted-two}
 use Rattle.totals.specs.Totals.{total}
 use Rattle.totals.proofs.Laws.{total-shared, total-parted}

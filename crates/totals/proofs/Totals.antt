@@ -18,7 +18,7 @@ use Rattle.key.specs.Picture.{Px}
 use Rattle.window.specs.declared.Window.{Window}
 use Rattle.window.specs.Window.{In, Inside}
 use Rattle.window.specs.Blocks.{pixels}
-use Rattle.window.specs.PairPromises.{Union, Intersection, Parted}
+use Rattle.window.specs.SharingPromises.{Union, Intersection, Parted}
 use Rattle.window.proofs.Laws.{pixels-length, in-pixels, counts-shared, counts-parted}
 use Rattle.map.specs.Sound.{Follow}
 use Rattle.map.specs.Records.{pixelRecord}

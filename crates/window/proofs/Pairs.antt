@@ -7,7 +7,7 @@ use native.Mathlib.Omega.{arith}
 use Rattle.key.specs.Picture.{Px}
 use Rattle.window.specs.declared.Window.{Window}
 use Rattle.window.specs.Window.{window, In, Inside}
-use Rattle.window.specs.PairPromises.{Union, Intersection, Overlapping, hull, meet, Filled}
+use Rattle.window.specs.SharingPromises.{Union, Intersection, Overlapping, hull, meet, Filled}
 use Rattle.window.proofs.Parts.{sizes-shared, sizes-fill}
 
 -- ---- edges and pixels
@@ -43,6 +43,13 @@ pub meet-is : (A B : Window) → Intersection A B (meet A B)
 unfolding meet
 meet-is A B p = (λ v. (omega (arith, v), omega (arith, v)), λ v. omega (arith, v .0, v .1))
 
+-- and where they overlap no other window is
+pub intersection-is : {A B I : Window} → Overlapping A B → Intersection A B I ↔ (I ≡ meet A B)
+intersection-is {A} {B} {I} o = (
+  λ i. same-window (i (o .0) .1 (o .1, o .2)) (λ p. (λ v. meet-is A B p .1 (i p .0 v), λ v. i p .1 (meet-is A B p .0 v))),
+  λ e. rw e (meet-is A B),
+)
+
 -- it has a row and a column exactly when they overlap
 pub overlapping-is : (A B : Window) → Overlapping A B ↔ ((1 ≤ meet A B .h) × (1 ≤ meet A B .w))
 overlapping-is A B = (
@@ -53,13 +60,6 @@ overlapping-is A B = (
 pub meet-inside : {m : ℕ} {A B : Window} → Inside m A → Inside m B → Overlapping A B → Inside m (meet A B)
 unfolding meet
 meet-inside I J o = omega (arith, I, J, o .1, o .2)
-
--- and no other window that has a pixel is
-pub intersection-is : {A B I : Window} → Overlapping A B → Intersection A B I ↔ (I ≡ meet A B)
-intersection-is {A} {B} {I} o = (
-  λ i. same-window (i (o .0) .1 (o .1, o .2)) (λ p. (λ v. meet-is A B p .1 (i p .0 v), λ v. i p .1 (meet-is A B p .0 v))),
-  λ e. rw e (meet-is A B),
-)
 
 -- ---- the union is from the least edges to the greatest
 

@@ -16,7 +16,7 @@ use Rattle.window.specs.declared.Window.{Window}
 use Rattle.window.specs.Window.{In}
 use Rattle.window.specs.Blocks.{pixels}
 use Rattle.window.specs.Promises.{Before}
-use Rattle.window.specs.PairPromises.{Union, Intersection, Parted, size}
+use Rattle.window.specs.SharingPromises.{Union, Intersection, Parted, size}
 use Rattle.window.proofs.Listed.{before-irrefl, before-trans, rows-ordered}
 use Rattle.window.proofs.Counts.{pixels-length, in-pixels}
 

@@ -10,7 +10,7 @@ use Rattle.lists.specs.Lists.{none, more}
 use Rattle.key.specs.Picture.{Px}
 use Rattle.window.specs.declared.Window.{Window}
 use Rattle.window.specs.Window.{In, Inside}
-use Rattle.window.specs.PairPromises.{Union, Disjoint, Parted, Touching, east, west, south, north, hull}
+use Rattle.window.specs.SharingPromises.{Union, Disjoint, Parted, Touching, east, west, south, north, hull}
 use Rattle.window.proofs.Pairs.{Within, within, hull-has, hull-inside}
 
 -- x is one of the n numbers from a on
