@@ -13,6 +13,7 @@
 #include "many.h"
 #include "maps.h"
 #include "months.h"
+#include "pairs.h"
 #include "queries.h"
 #include "tiles.h"
 #include "why.h"
@@ -598,6 +599,10 @@ static const group groups[] = {
     {"refusals of reasons", group_reason_refusals, false},
     {"large reasons", group_large_reasons, true},
     {"random reasons", group_random_reasons, true},
+    {"small pairs", group_small_pairs, false},
+    {"random pairs", group_random_pairs, true},
+    {"small parts", group_small_parts, false},
+    {"random parts", group_random_parts, true},
 };
 
 int main(int argc, char **argv)

@@ -285,14 +285,13 @@ void ask_with_reasons_together(window at, const need *needs, size_t n)
 
 /* ---- Questions together ---- */
 
-/* The totals that are reported of a window, on slices that are long enough. False where they are refused. */
-static bool take_totals(const map *a, window at, uint32_t totals[CLASSES])
+lutniorad_answer take_totals(const map *a, window at, uint32_t totals[CLASSES])
 {
     question report = {&REPORT, a, NO_TILE, at, NO_CLASS};
-    if (answer_in_full(report).refusal != 0)
-        return false;
-    memcpy(totals, left(3), CLASSES * sizeof *totals);
-    return true;
+    lutniorad_answer answer = answer_in_full(report);
+    if (answer.refusal == 0)
+        memcpy(totals, left(3), CLASSES * sizeof *totals);
+    return answer;
 }
 
 static void ask_exist(const map *a, window at, uint8_t of_class, const uint32_t totals[CLASSES])
@@ -312,7 +311,7 @@ static void ask_select(question q, const uint32_t totals[CLASSES])
 void try_exist(const map *a, window at, const uint8_t *asked, size_t n)
 {
     uint32_t totals[CLASSES];
-    if (!take_totals(a, at, totals))
+    if (take_totals(a, at, totals).refusal != 0)
         return;
     for (size_t i = 0; i < n; i++)
         ask_exist(a, at, asked[i], totals);
@@ -321,7 +320,7 @@ void try_exist(const map *a, window at, const uint8_t *asked, size_t n)
 void try_queries(const map *a, window at, const uint8_t *asked, size_t n)
 {
     uint32_t totals[CLASSES];
-    if (!take_totals(a, at, totals))
+    if (take_totals(a, at, totals).refusal != 0)
         return;
     for (size_t i = 0; i < n; i++) {
         question select = {&SELECT, a, NO_TILE, at, asked[i]};
@@ -336,7 +335,7 @@ void try_tile(const map *a, uint32_t tile, window at, const uint8_t *asked, size
     question open = {&OPEN_TILED, a, tile, at, NO_CLASS};
     compare_decompose_tiled(a->m, tile, at, enough_tiled(tile, at));
     ask_in_full(open);
-    if (!take_totals(a, at, totals))
+    if (take_totals(a, at, totals).refusal != 0)
         return;
     for (size_t i = 0; i < n; i++) {
         question select = {&SELECT_TILED, a, tile, at, asked[i]};

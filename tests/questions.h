@@ -76,6 +76,9 @@ typedef struct {
 /* Each reason with each other: m, the slices' lengths, the records, the window, the border and the answer slice. */
 void ask_with_reasons_together(window at, const need *needs, size_t n);
 
+/* Report, on slices that are long enough. Where that is answered, the totals are kept. */
+lutniorad_answer take_totals(const map *a, window at, uint32_t totals[CLASSES]);
+
 /* Report, and exist about n classes, on slices that are long enough. What they answer must fit together. */
 void try_exist(const map *a, window at, const uint8_t *asked, size_t n);
 

@@ -243,6 +243,158 @@ step 'why sees that the number is missing' example_says '' "$usage" 2 why sound 
 step 'why sees that it cannot write' sees_failed_output why sound 0 1 3 3 record 5
 step 'why sees that it cannot write a refusal' sees_failed_output why short 0 1 3 3 record 5
 
+one_record 9 0 >"$files/large"
+usage='usage: planner FILE R0 C0 H W R0 C0 H W, with a house file'
+columns='class     first    second     union    shared'
+side_by_side="first: row 0, column 1, 3 by 1, pixels 3
+second: row 0, column 2, 3 by 2, pixels 6
+union: row 0, column 1, 3 by 3, pixels 9
+shared: nothing
+$columns
+    1         3         1         4         0
+    2         0         4         4         0
+    3         0         1         1         0"
+above="first: row 2, column 2, 2 by 2, pixels 4
+second: row 0, column 2, 2 by 2, pixels 4
+union: row 0, column 2, 4 by 2, pixels 8
+shared: nothing
+$columns
+    1         0         1         1         0
+    2         4         2         6         0
+    3         0         1         1         0"
+overlapping="first: row 0, column 1, 3 by 2, pixels 6
+second: row 0, column 2, 3 by 2, pixels 6
+union: row 0, column 1, 3 by 3, pixels 9
+shared: row 0, column 2, 3 by 1, pixels 3
+$columns
+    1         3         1         4         0
+    2         2         4         4         2
+    3         1         1         1         1"
+overlapping_above="first: row 0, column 0, 3 by 3, pixels 9
+second: row 1, column 0, 3 by 3, pixels 9
+union: row 0, column 0, 4 by 3, pixels 12
+shared: row 1, column 0, 2 by 3, pixels 6
+$columns
+    1         6         6         8         4
+    2         2         2         3         1
+    3         1         1         1         1"
+inside="first: row 0, column 0, 4 by 4, pixels 16
+second: row 1, column 1, 2 by 2, pixels 4
+union: row 0, column 0, 4 by 4, pixels 16
+shared: row 1, column 1, 2 by 2, pixels 4
+$columns
+    1         9         2         9         2
+    2         6         1         6         1
+    3         1         1         1         1"
+around="first: row 1, column 1, 2 by 2, pixels 4
+second: row 0, column 0, 4 by 4, pixels 16
+union: row 0, column 0, 4 by 4, pixels 16
+shared: row 1, column 1, 2 by 2, pixels 4
+$columns
+    1         2         9         9         2
+    2         1         6         6         1
+    3         1         1         1         1"
+same="first: row 2, column 0, 2 by 1, pixels 2
+second: row 2, column 0, 2 by 1, pixels 2
+union: row 2, column 0, 2 by 1, pixels 2
+shared: row 2, column 0, 2 by 1, pixels 2
+$columns
+    1         2         2         2         2"
+one_not_seen="first: row 0, column 3, 1 by 1, pixels 1
+second: row 0, column 2, 1 by 1, pixels 1
+union: row 0, column 2, 1 by 2, pixels 2
+shared: nothing
+$columns
+    2         0         1         1         0
+  255         1         0         1         0"
+one_pixel="first: row 0, column 0, 1 by 1, pixels 1
+second: row 0, column 0, 1 by 1, pixels 1
+union: row 0, column 0, 1 by 1, pixels 1
+shared: row 0, column 0, 1 by 1, pixels 1
+$columns
+    1         1         1         1         1"
+no_rectangle='the union of the two windows is no rectangle'
+
+said_of() { # WINDOW COLUMN FILE: the window, and the pixels of each class in it
+    awk -v window="$1:" -v column="$2" '$1 == window { sub(window " ", ""); print } /^ / { print $1, $column }' "$3"
+}
+
+# The union, given twice, is asked of the library itself.
+union_is_as_reported() { # R0 C0 H W R0 C0 H W
+    run planner examples/lake.map "$@" >"$files/together" || return 1
+    union=$(sed -n 's/^union: row \(.*\), column \(.*\), \(.*\) by \(.*\), pixels .*/\1 \2 \3 \4/p' "$files/together")
+    # shellcheck disable=SC2086 # four numbers
+    run planner examples/lake.map $union $union >"$files/alone" || return 1
+    added=$(said_of union 4 "$files/together") reported=$(said_of first 2 "$files/alone")
+    [ -n "$added" ] && [ "$added" = "$reported" ] && return 0
+    echo "planner examples/lake.map $* said of the union '$added', and the library '$reported'"
+    return 1
+}
+
+unions_are_as_reported() {
+    for both in '0 0 32 13 0 13 32 19' '14 4 5 14 6 4 8 14' '12 8 10 16 12 15 10 17' '11 2 21 9 3 2 17 9' \
+        '5 6 7 8 0 0 32 32' '12 8 10 16 14 8 3 9' '6 4 8 14 6 4 8 14' '31 31 1 1 31 30 1 1'; do
+        # shellcheck disable=SC2086 # eight numbers
+        union_is_as_reported $both || return 1
+    done
+}
+
+step 'the example planner is built' build planner examples/planner.c
+step 'planner adds windows side by side' example_says "$side_by_side" '' 0 planner sound 0 1 3 1 0 2 3 2
+step 'planner adds windows one above the other' example_says "$above" '' 0 planner sound 2 2 2 2 0 2 2 2
+step 'planner subtracts what windows side by side share' \
+    example_says "$overlapping" '' 0 planner sound 0 1 3 2 0 2 3 2
+step 'planner subtracts what windows one above the other share' \
+    example_says "$overlapping_above" '' 0 planner sound 0 0 3 3 1 0 3 3
+step 'planner takes a window inside the first' example_says "$inside" '' 0 planner sound 0 0 4 4 1 1 2 2
+step 'planner takes a window around the first' example_says "$around" '' 0 planner sound 1 1 2 2 0 0 4 4
+step 'planner takes the same window twice' example_says "$same" '' 0 planner sound 2 0 2 1 2 0 2 1
+step 'planner counts what was not seen' example_says "$one_not_seen" '' 0 planner partly 0 3 1 1 0 2 1 1
+step 'planner takes a picture twice' example_says "$one_pixel" '' 0 planner pixel 0 0 1 1 0 0 1 1
+step 'planner says of a union what the library says' unions_are_as_reported
+step 'planner says that windows overlap at a corner' \
+    example_says "$no_rectangle" '' 1 planner sound 0 0 3 3 1 1 3 3
+step 'planner says that windows cross' example_says "$no_rectangle" '' 1 planner sound 1 0 2 4 0 1 4 2
+step 'planner says that a window sticks out of the side of another' \
+    example_says "$no_rectangle" '' 1 planner sound 0 0 4 2 1 1 2 3
+step 'planner says that there are columns between windows' \
+    example_says "$no_rectangle" '' 1 planner sound 0 0 4 1 0 2 4 2
+step 'planner says that there are rows between windows' \
+    example_says "$no_rectangle" '' 1 planner sound 3 0 1 4 0 0 2 4
+step 'planner says that windows touch by a part of both sides' \
+    example_says "$no_rectangle" '' 1 planner sound 0 0 2 2 1 2 2 2
+step 'planner says that windows touch by a part of one side' \
+    example_says "$no_rectangle" '' 1 planner sound 0 0 4 2 0 2 2 2
+step 'planner says that windows touch at a corner' \
+    example_says "$no_rectangle" '' 1 planner sound 0 0 2 2 2 2 2 2
+# If what these share were -1 by -1 in 16 bits, the sizes would add up.
+step 'planner says that there are rows and columns between windows' \
+    example_says "$no_rectangle" '' 1 planner large 0 0 255 255 256 256 255 255
+step 'planner refuses a first window that sticks out' \
+    example_says "first: $bad_window" '' 1 planner sound 2 0 3 1 0 0 1 1
+step 'planner refuses a second window that sticks out' \
+    example_says "second: $bad_window" '' 1 planner sound 0 0 1 1 2 0 3 1
+step 'planner refuses an empty window inside another' \
+    example_says "second: $bad_window" '' 1 planner sound 0 0 4 4 1 1 0 2
+step 'planner refuses the first of two windows that stick out' \
+    example_says "first: $bad_window" '' 1 planner sound 65535 65535 65535 65535 65535 65535 65535 65535
+step 'planner refuses a second window whose end wraps round' \
+    example_says "second: $bad_window" '' 1 planner sound 0 0 4 4 65535 0 2 4
+step 'planner refuses a file cut short' example_says "$bad_layout" '' 1 planner short 0 1 3 2 0 2 3 2
+step 'planner refuses an unsound map' example_says "first: $bad_key" '' 1 planner unsound 0 1 3 2 0 2 3 2
+step 'planner sees that a file is missing' \
+    example_says '' 'missing: cannot be opened' 2 planner missing 0 1 3 2 0 2 3 2
+step 'planner sees that a file cannot be read' \
+    example_says '' 'folder: cannot be read' 2 planner folder 0 1 3 2 0 2 3 2
+step 'planner sees that a number is too great' example_says '' "$usage" 2 planner sound 0 1 3 2 0 65536 3 2
+step 'planner sees that a number is none' example_says '' "$usage" 2 planner sound 0 1 -3 2 0 2 3 2
+step 'planner sees that the second window is missing' example_says '' "$usage" 2 planner sound 0 1 3 2
+step 'planner sees that there is a number too many' example_says '' "$usage" 2 planner sound 0 1 3 2 0 2 3 2 1
+step 'planner sees that it cannot write' sees_failed_output planner sound 0 1 3 2 0 2 3 2
+step 'planner sees that it cannot write a refusal' sees_failed_output planner short 0 1 3 2 0 2 3 2
+step 'planner sees that it cannot write which window is refused' sees_failed_output planner sound 2 0 3 1 0 2 3 2
+step 'planner sees that it cannot write that there is no rectangle' sees_failed_output planner sound 0 0 2 2 2 2 2 2
+
 house_file 5 1 3 3 1 1 1 2 >"$files/second"
 house_file 5 1 2 2 2 1 2 255 >"$files/third"
 one_record 12 1 >"$files/garbled"
