@@ -315,7 +315,8 @@ static void fail(const char *why, ...)
     vprintf(why, more);
     printf("\n");
     va_end(more);
-    print_call(&running);
+    if (running.operation != NULL) /* else it failed before the first call */
+        print_call(&running);
     printf("run again: tests/run --seed %" PRIu64 " --case %" PRIu64 "\n", seed, case_number);
     exit(1);
 }
