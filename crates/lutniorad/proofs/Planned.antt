@@ -23,35 +23,52 @@ use Rattle.lutniorad.proofs.Sharing.{reports-shared, reports-touching}
 told : {X : Window} {n : ℕ} {border cells : List ℕ} → reportOf 2 keys classes X (old 3) (old 256) ≡ after (Done n) (border, cells) → Reported 2 keys classes X cells
 told {n = n} {border = border} e = record { border = old 3; border′ = border; old = old 256; r = values n 0; call = crossing refl refl (sym e); answered = refl }
 
+record Reports : Type 0 where
+  whole : Reported 2 keys classes W (counts 4 4 1)
+  in-column : Reported 2 keys classes column (counts 3 0 0)
+  in-columns : Reported 2 keys classes columns (counts 1 4 1)
+  in-row : Reported 2 keys classes row (counts 1 2 0)
+  in-lower : Reported 2 keys classes lower (counts 3 2 1)
+  in-first-two : Reported 2 keys classes first-two (counts 3 2 1)
+  in-middle : Reported 2 keys classes middle (counts 0 2 1)
+  in-pixel : Reported 2 keys classes pixel (counts 0 0 1)
+  in-north-west : Reported 2 keys classes north-west (counts 2 1 1)
+  in-south-east : Reported 2 keys classes south-east (counts 1 2 1)
+  -- by edges, of the two corners
+  around : Reported 2 keys classes (hull north-west south-east) (counts 4 4 1)
+  shared : Reported 2 keys classes (meet north-west south-east) (counts 0 0 1)
+
+reports : Reports
+reports = record {
+  whole = told (examples .whole);
+  in-column = told (examples .in-column);
+  in-columns = told (examples .in-columns);
+  in-row = told (examples .in-row);
+  in-lower = told (examples .in-lower);
+  in-first-two = told (examples .in-first-two);
+  in-middle = told (examples .in-middle);
+  in-pixel = told (examples .in-pixel);
+  in-north-west = told (examples .in-north-west);
+  in-south-east = told (examples .in-south-east);
+  around = rw (pairs .corners-around) (told (examples .whole));
+  shared = rw (pairs .corners-shared) (told (examples .in-pixel));
+}
+
 record Planned : Type 0 where
-  -- class 1 has 3 + 1 pixels, class 2 has 0 + 4, class 3 has 0 + 1, and no other class has any
   side-by-side : (k : ℕ) → k < 256 → getD (counts 3 0 0) k 0 + getD (counts 1 4 1) k 0 ≡ getD (counts 4 4 1) k 0
   one-above-the-other : (k : ℕ) → k < 256 → getD (counts 1 2 0) k 0 + getD (counts 3 2 1) k 0 ≡ getD (counts 4 4 1) k 0
   overlapping : AddUp (counts 3 2 1) (counts 1 4 1) (counts 4 4 1) (counts 0 2 1)
   one-inside-the-other : AddUp (counts 4 4 1) (counts 0 0 1) (counts 4 4 1) (counts 0 0 1)
   -- class 1 has 2 + 1 pixels in the two corners, but 4 + 0 in the window around them and in the pixel that they share
-  corners : Reported 2 keys classes north-west (counts 2 1 1) × Reported 2 keys classes south-east (counts 1 2 1)
-  around : Reported 2 keys classes (hull north-west south-east) (counts 4 4 1)
-  shared : Reported 2 keys classes (meet north-west south-east) (counts 0 0 1)
   no-rectangle : (U : Window) → Union north-west south-east U → ⊥
   no-sum : AddUp (counts 2 1 1) (counts 1 2 1) (counts 4 4 1) (counts 0 0 1) → ⊥
 
 planned : Planned
 planned = record {
-  side-by-side = reports-touching (told (examples .in-column)) (told (examples .in-columns)) whole (pairs .beside) (pairs .beside-union);
-  one-above-the-other = reports-touching (told (examples .in-row)) (told (examples .in-lower)) whole (pairs .above) (pairs .above-union);
-  overlapping =
-      reports-shared (told (examples .in-first-two)) (told (examples .in-columns)) whole (told (examples .in-middle)) (pairs .over-union) (pairs .over-shared);
-  one-inside-the-other = reports-shared whole centre whole centre (pairs .inner-union) (pairs .inner-shared);
-  corners = (told (examples .in-north-west), told (examples .in-south-east));
-  around = rw (pairs .corners-around) whole;
-  shared = rw (pairs .corners-shared) centre;
+  side-by-side = reports-touching (reports .in-column) (reports .in-columns) (reports .whole) (pairs .beside) (pairs .beside-union);
+  one-above-the-other = reports-touching (reports .in-row) (reports .in-lower) (reports .whole) (pairs .above) (pairs .above-union);
+  overlapping = reports-shared (reports .in-first-two) (reports .in-columns) (reports .whole) (reports .in-middle) (pairs .over-union) (pairs .over-shared);
+  one-inside-the-other = reports-shared (reports .whole) (reports .in-pixel) (reports .whole) (reports .in-pixel) (pairs .inner-union) (pairs .inner-shared);
   no-rectangle = pairs .corners-none;
   no-sum = λ e. omega (arith, e 1 (omega arith));
 }
-  where
-    whole : Reported 2 keys classes W (counts 4 4 1)
-    whole = told (examples .whole)
-
-    centre : Reported 2 keys classes pixel (counts 0 0 1)
-    centre = told (examples .in-pixel)

@@ -1,4 +1,5 @@
--- Totals gathered from different records count each pixel once. So no sum passes the number of the window's pixels, and records that have all pixels give the totals.
+-- Totals gathered from different records count each pixel once. So no sum passes the number of the window's pixels, and records that have all pixels give the totals. And totals of
+-- windows that share pixels, or that part another, add up.
 -- Assumes nothing.
 use mathlib.Core.Path.{_≡_, refl, sym, _∙_}
 use mathlib.Core.Logic.{_≢_}

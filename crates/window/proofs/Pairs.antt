@@ -87,7 +87,7 @@ module _ {m : ℕ} {A B : Window} (I : Inside m A) (J : Inside m B) where
   -- the union is a rectangle exactly when they fill the window around both, and then it is that window
   pub union-is : {U : Window} → Union A B U ↔ (Filled A B × (U ≡ hull A B))
   union-is {U} = (
-    λ u. let e = only u in (sizes-shared (rw e at u) (meet-is A B), e),
+    λ u. let e = only u in (omega (arith, sizes-shared (rw e at u) (meet-is A B)), e),
     λ t. rw (t .1) (λ p. (sizes-fill (λ q v. hull-has A B q (inl v)) (λ q v. hull-has A B q (inr v)) (meet-is A B) (t .0) p, hull-has A B p)),
   )
     where

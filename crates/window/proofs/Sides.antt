@@ -18,15 +18,6 @@ record Of (a n x : ℕ) : Type 0 where
   least : a ≤ x
   most : x < a + n
 
--- two ranges that share no number, and of which none lies between
-adjoin : {a n b k : ℕ} → a ≤ b → 1 ≤ n → 1 ≤ k → ((x : ℕ) → Of a n x → Of b k x → ⊥) → ((x : ℕ) → a ≤ x → x < b + k → Of a n x ⊎ Of b k x) → a + n ≡ b
-adjoin {a} {n} {b} {k} l some some′ apart all = go (decLe (a + n) b) (decLe b (a + n))
-  where
-    go : Dec (a + n ≤ b) → Dec (b ≤ a + n) → a + n ≡ b
-    go (yes h) (yes g) = omega arith
-    go (no h) g = absurd (apart b (omega arith) (omega arith))
-    go (yes h) (no g) = absurd (⊎-elim (λ r. omega (arith, r)) (λ r. omega (arith, r)) (all (a + n) (omega arith) (omega arith)))
-
 which-side : (x b : ℕ) → (x < b) ⊎ (b ≤ x)
 which-side x b = go (decLe b x)
   where
@@ -55,6 +46,17 @@ module _ {m : ℕ} {A B U : Window} (I : Inside m A) (J : Inside m B) (d : Disjo
   not-second : Within A B → ⊥
   not-second t = d (A .r0, A .c0) (omega (arith, I)) (omega (arith, I, t))
 
+  -- along a row or a column, of which A has the n pixels from a on, B the k from b on, and the union all from a on to the last of B's: B's follow on A's
+  adjoin : (at : ℕ → Px) {a n b k : ℕ} → a ≤ b → 1 ≤ n → 1 ≤ k → ((x : ℕ) → In A (at x) ↔ Of a n x) → ((x : ℕ) → In B (at x) ↔ Of b k x)
+      → ((x : ℕ) → a ≤ x → x < b + k → In U (at x)) → a + n ≡ b
+  adjoin at {a} {n} {b} {k} l some some′ first second all = go (decLe (a + n) b) (decLe b (a + n))
+    where
+      go : Dec (a + n ≤ b) → Dec (b ≤ a + n) → a + n ≡ b
+      go (yes h) (yes g) = omega arith
+      go (no h) g = absurd (d (at b) (first b .1 (omega arith)) (second b .1 (omega arith)))
+      go (yes h) (no g) =
+          absurd (⊎-elim (λ v. omega (arith, first (a + n) .0 v)) (λ v. omega (arith, second (a + n) .0 v)) (u (at (a + n)) .0 (all (a + n) (omega arith) (omega arith))))
+
   -- the other corners
   abbrev ne : Px
   ne = (U .r0, U .c0 + U .w - 1)
@@ -70,14 +72,14 @@ module _ {m : ℕ} {A B U : Window} (I : Inside m A) (J : Inside m B) (d : Disjo
     where
       above : B .c0 ≡ A .c0 → B .w ≡ A .w → A .r0 ≤ B .r0 → Touching A B
       above e f l =
-          let at : A .r0 + A .h ≡ B .r0 = adjoin l (I .tall) (J .tall) (λ x r s. d (x, A .c0) (omega (arith, I, r)) (omega (arith, I, s, e, f)))
-          (λ x g h. ⊎-map (λ v. omega (arith, v)) (λ v. omega (arith, v)) (u (x, A .c0) .0 (omega (arith, I, a, b)))) in
+          let at : A .r0 + A .h ≡ B .r0 = adjoin (λ x. (x, A .c0)) l (I .tall) (J .tall) (λ x. (λ v. omega (arith, v), λ r. omega (arith, I, r)))
+          (λ x. (λ v. omega (arith, v), λ r. omega (arith, I, r, e, f))) (λ x g h. omega (arith, I, a, b, g, h)) in
           south (omega (arith, at, e, f))
 
       beside : B .r0 ≡ A .r0 → B .h ≡ A .h → A .c0 ≤ B .c0 → Touching A B
       beside e f l =
-          let at : A .c0 + A .w ≡ B .c0 = adjoin l (I .wide) (J .wide) (λ x r s. d (A .r0, x) (omega (arith, I, r)) (omega (arith, I, s, e, f)))
-          (λ x g h. ⊎-map (λ v. omega (arith, v)) (λ v. omega (arith, v)) (u (A .r0, x) .0 (omega (arith, I, a, b)))) in
+          let at : A .c0 + A .w ≡ B .c0 = adjoin (λ x. (A .r0, x)) l (I .wide) (J .wide) (λ x. (λ v. omega (arith, v), λ r. omega (arith, I, r)))
+          (λ x. (λ v. omega (arith, v), λ r. omega (arith, I, r, e, f))) (λ x g h. omega (arith, I, a, b, g, h)) in
           east (omega (arith, at, e, f))
 
       -- which of them has the other three corners
