@@ -15,28 +15,28 @@ use Rattle.report.specs.declared.Reported.the-variants.{Done}
 use Rattle.report.specs.Report.{reportOf}
 use Rattle.report.proofs.Examples.{counts, examples}
 use Rattle.lutniorad.specs.Numbers.{values}
-use Rattle.lutniorad.specs.SharingPromises.{Reported, AddUp}
+use Rattle.lutniorad.specs.SharingPromises.{ReportLeaves, AddUp}
 use Rattle.lutniorad.proofs.Crossing.{crossing}
 use Rattle.lutniorad.proofs.Sharing.{reports-shared, reports-touching}
 
 -- a call that was answered
-told : {X : Window} {n : ℕ} {border cells : List ℕ} → reportOf 2 keys classes X (old 3) (old 256) ≡ after (Done n) (border, cells) → Reported 2 keys classes X cells
+told : {X : Window} {n : ℕ} {border cells : List ℕ} → reportOf 2 keys classes X (old 3) (old 256) ≡ after (Done n) (border, cells) → ReportLeaves 2 keys classes X cells
 told {n = n} {border = border} e = record { border = old 3; border′ = border; old = old 256; r = values n 0; call = crossing refl refl (sym e); answered = refl }
 
 record Reports : Type 0 where
-  whole : Reported 2 keys classes W (counts 4 4 1)
-  in-column : Reported 2 keys classes column (counts 3 0 0)
-  in-columns : Reported 2 keys classes columns (counts 1 4 1)
-  in-row : Reported 2 keys classes row (counts 1 2 0)
-  in-lower : Reported 2 keys classes lower (counts 3 2 1)
-  in-first-two : Reported 2 keys classes first-two (counts 3 2 1)
-  in-middle : Reported 2 keys classes middle (counts 0 2 1)
-  in-pixel : Reported 2 keys classes pixel (counts 0 0 1)
-  in-north-west : Reported 2 keys classes north-west (counts 2 1 1)
-  in-south-east : Reported 2 keys classes south-east (counts 1 2 1)
+  whole : ReportLeaves 2 keys classes W (counts 4 4 1)
+  in-column : ReportLeaves 2 keys classes column (counts 3 0 0)
+  in-columns : ReportLeaves 2 keys classes columns (counts 1 4 1)
+  in-row : ReportLeaves 2 keys classes row (counts 1 2 0)
+  in-lower : ReportLeaves 2 keys classes lower (counts 3 2 1)
+  in-first-two : ReportLeaves 2 keys classes first-two (counts 3 2 1)
+  in-middle : ReportLeaves 2 keys classes middle (counts 0 2 1)
+  in-pixel : ReportLeaves 2 keys classes pixel (counts 0 0 1)
+  in-north-west : ReportLeaves 2 keys classes north-west (counts 2 1 1)
+  in-south-east : ReportLeaves 2 keys classes south-east (counts 1 2 1)
   -- by edges, of the two corners
-  around : Reported 2 keys classes (hull north-west south-east) (counts 4 4 1)
-  shared : Reported 2 keys classes (meet north-west south-east) (counts 0 0 1)
+  around : ReportLeaves 2 keys classes (hull north-west south-east) (counts 4 4 1)
+  shared : ReportLeaves 2 keys classes (meet north-west south-east) (counts 0 0 1)
 
 reports : Reports
 reports = record {

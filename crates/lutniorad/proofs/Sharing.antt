@@ -18,13 +18,13 @@ use Rattle.used.specs.Promises.{Answerable}
 use Rattle.lutniorad.specs.declared.Answer.{Answer}
 use Rattle.lutniorad.specs.Calls.{Report}
 use Rattle.lutniorad.specs.Promises.{ReportPromise}
-use Rattle.lutniorad.specs.SharingPromises.{Reported, AllReported, none, more, AddUp}
+use Rattle.lutniorad.specs.SharingPromises.{ReportLeaves, ReportsLeave, none, more, AddUp}
 use Rattle.lutniorad.proofs.Asked.{report-answered, report-promise}
 
 module _ {m : ℕ} {keys classes : List ℕ} where
   -- ---- one call
 
-  module _ {W : Window} {cells : List ℕ} (R : Reported m keys classes W cells) where
+  module _ {W : Window} {cells : List ℕ} (R : ReportLeaves m keys classes W cells) where
     promised : ReportPromise m keys classes W (R .border) (R .old) (R .r) (R .border′) cells
     promised = report-promise m keys classes W (R .border) (R .old) (R .call) (R .answered)
 
@@ -40,39 +40,39 @@ module _ {m : ℕ} {keys classes : List ℕ} where
 
   -- ---- windows that part another
 
-  pub reports-parted : {parts : List Window} {reports : List (List ℕ)} {U : Window} {u : List ℕ} → AllReported m keys classes parts reports → Reported m keys classes U u → Parted U parts
+  pub reports-parted : {parts : List Window} {reports : List (List ℕ)} {U : Window} {u : List ℕ} → ReportsLeave m keys classes parts reports → ReportLeaves m keys classes U u → Parted U parts
       → (k : ℕ) → k < 256 → sum (map (λ cells. getD cells k 0) reports) ≡ getD u k 0
   reports-parted all z parted k l = ap sum (each all) ∙ total-parted m keys classes k parted ∙ sym (promised z .cells k l)
     where
-      each : {parts : List Window} {reports : List (List ℕ)} → AllReported m keys classes parts reports
+      each : {parts : List Window} {reports : List (List ℕ)} → ReportsLeave m keys classes parts reports
           → map (λ cells. getD cells k 0) reports ≡ map (λ W. total m keys classes W k) parts
       each none = refl
       each (more R rest) = ap₂ _∷_ (promised R .cells k l) (each rest)
 
   -- ---- the union is a rectangle
 
-  module _ {A B : Window} {a b : List ℕ} (x : Reported m keys classes A a) (y : Reported m keys classes B b) where
+  module _ {A B : Window} {a b : List ℕ} (x : ReportLeaves m keys classes A a) (y : ReportLeaves m keys classes B b) where
     -- cell by cell, report of A plus report of B is report of the union plus report of the intersection
-    pub reports-shared : {U I : Window} {u i : List ℕ} → Reported m keys classes U u → Reported m keys classes I i → Union A B U → Intersection A B I → AddUp a b u i
+    pub reports-shared : {U I : Window} {u i : List ℕ} → ReportLeaves m keys classes U u → ReportLeaves m keys classes I i → Union A B U → Intersection A B I → AddUp a b u i
     reports-shared z w union shared k l =
         rw (promised x .cells k l, promised y .cells k l, promised z .cells k l, promised w .cells k l) (total-shared m keys classes k union shared)
 
     -- for two windows that touch along a whole side of both, it is report of the union
-    pub reports-touching : {U : Window} {u : List ℕ} → Reported m keys classes U u → Touching A B → Union A B U → (k : ℕ) → k < 256 → getD a k 0 + getD b k 0 ≡ getD u k 0
+    pub reports-touching : {U : Window} {u : List ℕ} → ReportLeaves m keys classes U u → Touching A B → Union A B U → (k : ℕ) → k < 256 → getD a k 0 + getD b k 0 ≡ getD u k 0
     reports-touching {u = u} z touching union k l =
         let apart = touching-is (asked x .inside) (asked y .inside) .0 touching .0 in
         let all = reports-parted (more x (more y none)) z (parted-two union apart) k l in
         omega (arith, all, sum-next (getD a k 0) (getD b k 0 ∷ []), sum-next (getD b k 0) [], sum-none)
 
     -- without a rectangle it is never so of the windows by edges: the reports add up exactly when the union is one
-    pub reports-when : {u i : List ℕ} → Reported m keys classes (hull A B) u → Reported m keys classes (meet A B) i → ((n : ℕ) → getD classes n 0 < 256)
+    pub reports-when : {u i : List ℕ} → ReportLeaves m keys classes (hull A B) u → ReportLeaves m keys classes (meet A B) i → ((n : ℕ) → getD classes n 0 < 256)
         → AddUp a b u i ↔ Union A B (hull A B)
     reports-when {u} {i} z w bytes = (
       λ add. union-is (asked x .inside) (asked y .inside) .1 (omega (arith, sums-same 256 a b u i add, all x, all y, all z, all w), refl),
       λ union. reports-shared z w union (meet-is A B),
     )
       where
-        all : {W : Window} {cells : List ℕ} → Reported m keys classes W cells → sum (take 256 cells) ≡ W .h * W .w
+        all : {W : Window} {cells : List ℕ} → ReportLeaves m keys classes W cells → sum (take 256 cells) ≡ W .h * W .w
         all R = promised R .together bytes
 
     -- ---- calls on the union and on the intersection are answered where there is room

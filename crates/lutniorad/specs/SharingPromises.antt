@@ -8,8 +8,8 @@ use Rattle.window.specs.declared.Window.{Window}
 use Rattle.lutniorad.specs.declared.Answer.{Answer}
 use Rattle.lutniorad.specs.Calls.{Report}
 
--- some call of report on the window was answered, and left these cells
-pub record Reported (m : ℕ) (keys classes : List ℕ) (W : Window) (cells : List ℕ) : Type 0 where
+-- report leaves these cells for the window: some call of it was answered, and left them
+pub record ReportLeaves (m : ℕ) (keys classes : List ℕ) (W : Window) (cells : List ℕ) : Type 0 where
   pub border : List ℕ
   pub border′ : List ℕ
   pub old : List ℕ
@@ -17,11 +17,11 @@ pub record Reported (m : ℕ) (keys classes : List ℕ) (W : Window) (cells : Li
   pub call : Report m keys classes W border old r border′ cells
   pub answered : r .refusal ≡ 0
 
--- and so for each window of a list
-pub data AllReported (m : ℕ) (keys classes : List ℕ) : List Window → List (List ℕ) → Type 0 where
-  none : AllReported m keys classes [] []
-  more : {W : Window} {cells : List ℕ} {parts : List Window} {reports : List (List ℕ)} → Reported m keys classes W cells → AllReported m keys classes parts reports
-      → AllReported m keys classes (W ∷ parts) (cells ∷ reports)
+-- and so it leaves a list of them for a list of windows
+pub data ReportsLeave (m : ℕ) (keys classes : List ℕ) : List Window → List (List ℕ) → Type 0 where
+  none : ReportsLeave m keys classes [] []
+  more : {W : Window} {cells : List ℕ} {parts : List Window} {reports : List (List ℕ)} → ReportLeaves m keys classes W cells → ReportsLeave m keys classes parts reports
+      → ReportsLeave m keys classes (W ∷ parts) (cells ∷ reports)
 
 -- cell by cell, what was left in a and in b adds up to what was left in u and in i
 abbrev pub AddUp : List ℕ → List ℕ → List ℕ → List ℕ → Type 0
