@@ -2,3 +2,4 @@
 -- Assumes nothing.
 pub use Rattle.exist.proofs.Found.{exists-means, exists-hands}
 pub use Rattle.exist.proofs.Tables.{presence-is, exist-leaves, exist-untouched, exist-by-lengths}
+pub use Rattle.exist.proofs.View.{exists-view, presence-view}

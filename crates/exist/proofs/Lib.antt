@@ -1,5 +1,6 @@
 mod Found
 mod Seeking
 mod Tables
+mod View
 pub mod Examples
 pub mod Laws

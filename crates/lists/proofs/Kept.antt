@@ -110,6 +110,16 @@ module _ {A : Type 0} (f : A → Bool) where
   keep-same g [] h = refl
   keep-same g (x ∷ xs) h = rw (h x (List·Memᴰ·head refl), keep-same g xs (λ y l. h y (List·Memᴰ·tail l)))
 
+  -- a wider test before it takes nothing away
+  pub keep-keep : (g : A → Bool) (xs : List A) → ((x : A) → List·Memᴰ x xs → f x ≡ true → g x ≡ true) → keep f (keep g xs) ≡ keep f xs
+  unfolding keep
+  keep-keep g [] h = refl
+  keep-keep g (x ∷ xs) h = go (g x) refl (keep-keep g xs (λ y l. h y (List·Memᴰ·tail l)))
+    where
+      go : (b : Bool) → g x ≡ b → keep f (keep g xs) ≡ keep f xs → keep f (cond b (x ∷ keep g xs) (keep g xs)) ≡ cond (f x) (x ∷ keep f xs) (keep f xs)
+      go true e ih = ap (λ (l : List A). cond (f x) (x ∷ l) l) ih
+      go false e ih = rw (refuted (f x) (λ t. never (sym (h x (List·Memᴰ·head refl) t) ∙ e))) ih
+
 -- of the first numbers, only the n from a on pass
 keep-middle : (f : ℕ → Bool) (a n d : ℕ) → ((x : ℕ) → x < a + (n + d) → f x ≡ true → (a ≤ x) × (x < a + n)) → keep f (upFrom 0 (a + (n + d))) ≡ keep f (upFrom a n)
 keep-middle f a n d h =

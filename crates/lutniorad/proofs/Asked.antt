@@ -10,7 +10,8 @@ use lib.ListN.{length, getD, take}
 use lib.Seq.{getD-take}
 use Rattle.lists.specs.Promises.{sum}
 use Rattle.lists.proofs.Laws.{never}
-use Rattle.answers.specs.Refusals.{refusal, answer}
+use Rattle.answers.specs.declared.Verdict.the-variants.{Passed}
+use Rattle.answers.specs.Refusals.{answer, verdict}
 use Rattle.answers.specs.After.{after, roomRefusals}
 use Rattle.answers.proofs.Laws.{on-passed, take-overwrite, drop-overwrite}
 use Rattle.window.specs.declared.Window.{Window}
@@ -18,7 +19,7 @@ use Rattle.map.specs.Classes.{notSeen}
 use Rattle.used.specs.Used.{useRefusals, usedFor}
 use Rattle.used.specs.Promises.{Answerable}
 use Rattle.used.proofs.Laws.{use-answerable}
-use Rattle.exist.specs.Exist.{exists}
+use Rattle.exist.specs.Exist.{exists, presence}
 use Rattle.exist.specs.declared.Existence.the-variants as existence
 use Rattle.exist.proofs.Laws.{exists-means, presence-is, exist-leaves}
 use Rattle.totals.specs.Totals.{totals}
@@ -65,10 +66,16 @@ three {A} {B} false false is-a is-b e =
 
 module _ (m : ℕ) (keys classes : List ℕ) (W : Window) (class : ℕ) (border : List ℕ) {border′ : List ℕ} {r : Answer}
     (call : Exist m keys classes W class border r border′) (z : r .refusal ≡ 0) where
+  passed : verdict (useRefusals m keys (length classes) W (length border)) ≡ Passed
+  passed = use-answerable m keys (length classes) W (length border) .1 (exist-answered m keys classes W class border call .0 z)
+
+  -- an answered call says one of the three
+  pub exist-three : r ≡ ofExistence (presence m keys classes W class)
+  exist-three = exist-says m keys classes W class border call ∙ on-passed refused _ _ passed
+
   pub exist-promise : ExistPromise m keys classes W class border r border′
   exist-promise =
-      let passed = use-answerable m keys (length classes) W (length border) .1 (exist-answered m keys classes W class border call .0 z) in
-      let said = exist-says m keys classes W class border call ∙ on-passed refused _ _ passed ∙ ap ofExistence (presence-is m keys classes W class) in
+      let said = exist-three ∙ ap ofExistence (presence-is m keys classes W class) in
       let means = exists-means m keys classes in
       let t = three (exists m keys classes W class) (exists m keys classes W notSeen) (means class W) (means notSeen W) said in
       record {

@@ -71,20 +71,21 @@ module _ (m top : ℕ) (keys classes : List ℕ) (W : Window) (border out : List
   open-kept = tiled-kept (length os) (handedCount os) (cellsOf os) m top keys (length classes) W border out opened
 
   module _ (z : r .refusal ≡ 0) where
-    left : (r ≡ values (length os) (handedCount os)) × (border′ ≡ spent W border) × (out′ ≡ overwrite (cellsOf os) out)
-    left = tiled-leaves (length os) (handedCount os) (cellsOf os) m top keys (length classes) W border out opened z
+    pub open-leaves : (r ≡ values (length os) (handedCount os)) × (border′ ≡ spent W border) × (out′ ≡ overwrite (cellsOf os) out)
+    open-leaves = tiled-leaves (length os) (handedCount os) (cellsOf os) m top keys (length classes) W border out opened z
 
-    stand : openingsIn (take (3 * r .first) out′) ≡ os
-    stand =
-        let n : 3 * r .first ≡ length (cellsOf os) = ap (λ (x : Answer). 3 * x .first) (left .0) ∙ sym (cells-length os) in
-        rw (n, left .2, take-overwrite (cellsOf os) out) (openings-in os)
+    -- the openings stand in the first cells
+    pub open-stand : openingsIn (take (3 * r .first) out′) ≡ os
+    open-stand =
+        let n : 3 * r .first ≡ length (cellsOf os) = ap (λ (x : Answer). 3 * x .first) (open-leaves .0) ∙ sym (cells-length os) in
+        rw (n, open-leaves .2, take-overwrite (cellsOf os) out) (openings-in os)
 
     pub open-promise : OpenPromise m top keys W border out (openingsIn (take (3 * r .first) out′)) r border′ out′
     open-promise =
         let cap = open-answered .0 z .0 in
         let A = open-answered .0 z .1 .0 in
         let F = A .sound .records in
-        rw stand (record {
+        rw open-stand (record {
           all = hands-all (spaced F) (A .inside) cap;
           once = hands-once (spaced F) (A .inside) cap;
           in-order = refl;
@@ -92,9 +93,9 @@ module _ (m top : ℕ) (keys classes : List ℕ) (W : Window) (border out : List
           few-whole = λ e. rw e (openings-few (spaced F) (A .inside));
           some = hands-some F (A .inside) cap;
           fewest = fewest-whole F (A .inside) cap;
-          numbers = left .0 ∙ ap (values (length os)) (hands-count os);
-          cells = left .2;
-          border-after = left .1;
+          numbers = open-leaves .0 ∙ ap (values (length os)) (hands-count os);
+          cells = open-leaves .2;
+          border-after = open-leaves .1;
         })
 
 -- with a tile as large as the picture the call answers and leaves what the one without a tile does

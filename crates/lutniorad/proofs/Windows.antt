@@ -98,7 +98,7 @@ module _ (m : ℕ) (keys classes windows border out : List ℕ) {r : Answer} {bo
     windows-lines = rw (whole, left .1) (take-overwrite (linesOf m keys Ws) out)
 
     -- the five cells of a window
-    line-at : (i : ℕ) → i < r .first → take 5 (drop (5 * i) out′) ≡ lineCells (lineOf m keys (windowAt windows i))
+    pub line-at : (i : ℕ) → i < r .first → take 5 (drop (5 * i) out′) ≡ lineCells (lineOf m keys (windowAt windows i))
     line-at i l =
         let lines : List ℕ = linesOf m keys Ws in
         let long = lines-length m keys Ws in

@@ -12,7 +12,10 @@ use Rattle.answers.proofs.Laws.{on-passed, on-refused}
 use Rattle.window.specs.declared.Window.{Window}
 use Rattle.window.specs.Window.{Inside, outside, windowRefusals}
 use Rattle.window.proofs.Laws.{inside, window-refused, window-passed}
+use Rattle.map.specs.Sound.{Spaced}
 use Rattle.border.specs.Openings.{openings, handedCount}
+use Rattle.border.specs.ViewPromises.{SameView}
+use Rattle.border.proofs.Laws.{openings-tell, brought-numbers}
 use Rattle.many.specs.Many.{windowAt, windowsIn, line, lineOf, lineCells, linesOf}
 use Rattle.many.proofs.Windows.{windowsFrom, windows-count, windows-split}
 
@@ -69,3 +72,15 @@ module _ (m : ℕ) (keys : List ℕ) where
       let Ws : List Window = windowsFrom windows 0 i in
       let e : 5 * i ≡ 5 * length Ws = ap (λ (n : ℕ). 5 * n) (sym (windows-count windows 0 i)) in
       ap (λ (all : List Window). take 5 (drop (5 * i) (linesOf m keys all))) (windows-split windows i l) ∙ rw e (behind Ws (windowAt windows i) _)
+
+-- on two maps with the same view through the window the line is the same
+pub line-view : {m : ℕ} {keys keys′ : List ℕ} → Spaced m 0 keys → Spaced m 0 keys′ → {W : Window} {classes classes′ : List ℕ} → SameView m keys classes keys′ classes′ W
+    → lineOf m keys W ≡ lineOf m keys′ W
+line-view {m} {keys} {keys′} F F′ {W} {classes} {classes′} same = go (outside m W) refl
+  where
+    go : (b : Bool) → outside m W ≡ b → lineOf m keys W ≡ lineOf m keys′ W
+    go true e = line-outside m keys W e ∙ sym (line-outside m keys′ W e)
+    go false e =
+        let all = openings-tell {top = m} F F′ (inside m W e) (omega arith) classes classes′ .1 same in
+        let n = brought-numbers keys classes keys′ classes′ (openings m m keys W) (openings m m keys′ W) all in
+        line-inside m keys W e ∙ rw (n .0, n .1) (sym (line-inside m keys′ W e))

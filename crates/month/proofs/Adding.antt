@@ -37,6 +37,14 @@ pub map-length : (m : ℕ) (keys classes table : List ℕ) → length (addMap m 
 unfolding addMap
 map-length m keys classes table = table-length m (windowIn table) _ _
 
+-- maps with the same totals in its window add the same
+pub map-totals : (m : ℕ) (keys classes keys′ classes′ table : List ℕ)
+    → ((class : ℕ) → total m keys classes (windowIn table) class ≡ total m keys′ classes′ (windowIn table) class) → addMap m keys classes table ≡ addMap m keys′ classes′ table
+unfolding addMap tableOf
+map-totals m keys classes keys′ classes′ table same =
+    ap (λ (rows : List Row). headOf m (windowIn table) ++ (mapsIn table + 1) ∷ rowCells rows)
+    (map-same (upFrom 0 256) (λ class l. ap (λ (n : ℕ). withMap (eqb (mapsIn table) 0) n (rowIn table class)) (same class)))
+
 -- the first six cells, when the number of maps has been stored
 six-cells : (l : List ℕ) (v : ℕ) → 6 ≤ length l → take 6 (set l 5 v) ≡ headOf (mIn l) (windowIn l) ++ v ∷ []
 six-cells [] v h = absurd (omega arith)

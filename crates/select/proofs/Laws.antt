@@ -3,3 +3,4 @@
 pub use Rattle.select.proofs.Picked.{block-selected}
 pub use Rattle.select.proofs.Selection.{selection-once, selection-has, selection-holds, selection-one, selection-capped, selection-few, selection-pixels}
 pub use Rattle.select.proofs.Tables.{select-is, select-within}
+pub use Rattle.select.proofs.View.{selection-view}

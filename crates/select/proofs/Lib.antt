@@ -3,6 +3,7 @@ mod Picked
 mod Blockwise
 mod Chosen
 mod Selection
+mod View
 mod Selects
 mod Tables
 mod Examples

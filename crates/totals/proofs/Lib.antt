@@ -1,4 +1,5 @@
 mod Totals
+mod View
 mod Areas
 mod Parts
 mod Gathers
