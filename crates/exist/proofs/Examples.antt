@@ -8,7 +8,7 @@ use Rattle.answers.specs.Refusals.{answer}
 use Rattle.answers.specs.Sizes.{wrongCount, sizeRefusals, pictureRefusals, countRefusals}
 use Rattle.answers.specs.Cells.{overwrite}
 use Rattle.answers.specs.After.{after}
-use Rattle.answers.proofs.P1.{keys, classes, old}
+use Rattle.answers.proofs.P1.{keys, classes, glare, old}
 use Rattle.key.specs.Spread.{spreadTo, spread}
 use Rattle.key.specs.Picture.{place}
 use Rattle.key.specs.Form.{from, formOf}
@@ -21,10 +21,6 @@ use Rattle.map.specs.Records.{recordOf}
 use Rattle.used.specs.Used.{useRefusals, spent, borderRefusals}
 use Rattle.exist.specs.declared.Existence.the-variants as existence
 use Rattle.exist.specs.Exist.{exists, presence, existing, existOf}
-
--- P1's classes, but that the last record, the south-east quarter, was not seen
-abbrev pub glare : List ℕ
-glare = 1 ∷ 2 ∷ 2 ∷ 3 ∷ 1 ∷ 1 ∷ 255 ∷ []
 
 -- the four pixels of a picture
 abbrev pixels : List ℕ

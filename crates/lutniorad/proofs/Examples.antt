@@ -11,7 +11,7 @@ use Rattle.answers.specs.Refusals.{answer}
 use Rattle.answers.specs.Sizes.{wrongCount, sizeRefusals, pictureRefusals, countRefusals, tileRefusals}
 use Rattle.answers.specs.Cells.{overwrite}
 use Rattle.answers.specs.After.{roomRefusals, roomFor}
-use Rattle.answers.proofs.P1.{keys, classes, old}
+use Rattle.answers.proofs.P1.{keys, classes, glare, old}
 use Rattle.key.specs.Spread.{spreadTo, spread}
 use Rattle.key.specs.Picture.{place}
 use Rattle.key.specs.Key.{pixelKey, blockKey}
@@ -38,7 +38,6 @@ use Rattle.why.proofs.Examples as reasons
 use Rattle.month.specs.Promises.{monthOf}
 use Rattle.month.proofs.P1.{empty, first-day}
 use Rattle.month.proofs.Examples.{examples}
-use Rattle.exist.proofs.Examples.{glare}
 use Rattle.exist.proofs.Examples as queries
 use Rattle.lutniorad.specs.Numbers.{values, refused, reason}
 use Rattle.lutniorad.specs.Calls.{Decompose, DecomposeTiled, Open, OpenTiled, Windows, WhyRecord, WhyBlock, Exist, MonthClear, MonthAdd}

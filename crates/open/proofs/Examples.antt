@@ -10,7 +10,7 @@ use Rattle.answers.specs.Refusals.{answer}
 use Rattle.answers.specs.Sizes.{wrongCount, sizeRefusals, pictureRefusals, countRefusals, tileRefusals}
 use Rattle.answers.specs.Cells.{overwrite}
 use Rattle.answers.specs.After.{after, roomRefusals, roomFor}
-use Rattle.answers.proofs.P1.{keys}
+use Rattle.answers.proofs.P1.{keys, keys-cut, keys-west}
 use Rattle.key.specs.Spread.{spreadTo, spread}
 use Rattle.key.specs.Picture.{place}
 use Rattle.key.specs.Key.{pixelKey, blockKey}
@@ -18,7 +18,7 @@ use Rattle.key.specs.Form.{from, formOf}
 use Rattle.window.specs.Window.{window, beyond, outside, windowRefusals}
 use Rattle.window.specs.Blocks.{floor, lies, fits, exponent, corner, across, rows, isCorner, maximal}
 use Rattle.window.specs.Keys.{keyOf, keysOf}
-use Rattle.window.proofs.P1.{W}
+use Rattle.window.proofs.P1.{W, columns}
 use Rattle.map.specs.Spans as spans
 use Rattle.map.specs.Spans.{within}
 use Rattle.map.specs.Check.{late, refusalsFrom, mapRefusals}
@@ -32,7 +32,7 @@ use Rattle.open.specs.declared.Opened.the-variants.{Done, Refused}
 use Rattle.open.specs.Open.{openOf, openTiled}
 
 -- old contents of a border and of an answer slice
-abbrev old : List ℕ
+abbrev pub old : List ℕ
 old = 90 ∷ 91 ∷ 92 ∷ 93 ∷ 94 ∷ 95 ∷ 96 ∷ 97 ∷ 98 ∷ 99 ∷ 100 ∷ 101 ∷ 102 ∷ []
 
 pub record Examples : Type 0 where
@@ -50,6 +50,10 @@ pub record Examples : Type 0 where
   pub pixels : openTiled 2 0 keys 7 W (take 3 old) (take 3 old) ≡ after (Refused 8 21) (3 ∷ 3 ∷ 3 ∷ [], take 3 old)
   pub tile-over : openTiled 2 3 [] 7 (window 0 0 0 0) [] [] ≡ after (Refused 17 0) ([], [])
   pub tile-next : openTiled 13 14 [] 7 (window 0 0 0 0) [] [] ≡ after (Refused 1 0) ([], [])
+  -- the columns 2 and 3 alone; with other records in the west, only the first indices differ; with the last record cut in four, there is an opening more
+  pub east : openOf 2 keys 7 columns (take 2 old) (take 7 old) ≡ after (Done 2 5) (3 ∷ 3 ∷ [], 10 ∷ 1 ∷ 4 ∷ 21 ∷ 6 ∷ 1 ∷ 96 ∷ [])
+  pub east-of-other : openOf 2 keys-west 10 columns (take 3 old) (take 6 old) ≡ after (Done 2 5) (3 ∷ 3 ∷ 92 ∷ [], 10 ∷ 4 ∷ 4 ∷ 21 ∷ 9 ∷ 1 ∷ [])
+  pub east-of-cut : openOf 2 keys-cut 10 columns (take 2 old) (take 9 old) ≡ after (Done 3 6) (3 ∷ 3 ∷ [], 10 ∷ 1 ∷ 4 ∷ 21 ∷ 6 ∷ 1 ∷ 22 ∷ 7 ∷ 1 ∷ [])
 
 pub examples : Examples
 unfolding pictureRefusals countRefusals borderRefusals roomRefusals roomFor answer wrongCount sizeRefusals overwrite upFrom spreadTo spread place
@@ -68,4 +72,7 @@ examples = record {
   pixels = refl;
   tile-over = refl;
   tile-next = refl;
+  east = refl;
+  east-of-other = refl;
+  east-of-cut = refl;
 }

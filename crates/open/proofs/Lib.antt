@@ -1,6 +1,6 @@
 mod Accepted
 mod Opening
 mod Answered
-mod Examples
+pub mod Examples
 mod Room
 pub mod Laws
