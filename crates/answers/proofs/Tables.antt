@@ -56,6 +56,14 @@ module _ {A : Type 0} (refuse : ℕ → ℕ → A) where
   unfolding by
   on-refused rs a e = by-verdict rs a ∙ ap (λ (v : Verdict). by v a) e
 
+  -- what stands behind refusals counts only where they pass
+  pub answer-same : (rs : List Refusal) (a a′ : A) → (verdict rs ≡ Passed → a ≡ a′) → answer refuse rs a ≡ answer refuse rs a′
+  answer-same rs a a′ h = go (verdict rs) refl
+    where
+      go : (v : Verdict) → verdict rs ≡ v → answer refuse rs a ≡ answer refuse rs a′
+      go Passed e = on-passed rs a e ∙ h e ∙ sym (on-passed rs a′ e)
+      go (Refused n p) e = on-refused rs a e ∙ sym (on-refused rs a′ e)
+
   pub append-passed : (rs ss : List Refusal) (a : A) → verdict rs ≡ Passed → answer refuse (rs ++ ss) a ≡ answer refuse ss a
   append-passed rs ss a e = answer-append rs ss a ∙ on-passed rs (answer refuse ss a) e
 

@@ -1,6 +1,6 @@
 -- Refusals 1 to 7, test by test; which calls they pass, and what is known of those.
 -- Assumes nothing.
-use mathlib.Core.Path.{_≡_, ap, _∙_}
+use mathlib.Core.Path.{_≡_, sym, ap, _∙_}
 use mathlib.Core.Logic.{_↔_}
 use mathlib.Core.Bool.{true, false}
 use mathlib.Core.List.{List, []}
@@ -11,12 +11,12 @@ use lib.ListN.{length}
 use borrow.Author.Tests.{lt-ltb, le-ltb, ltb-false}
 use Rattle.answers.specs.declared.Verdict.the-variants as verdict-of
 use Rattle.answers.specs.Refusals.{answer, verdict}
-use Rattle.answers.proofs.Laws.{refusal-held, answer-append, append-passed, append-refused, passed-one, passed-append, Numbered, none, numbered-next, numbered-append}
+use Rattle.answers.proofs.Laws.{refusal-held, answer-append, on-passed, append-passed, append-refused, passed-one, passed-append, Numbered, none, numbered-next, numbered-append}
 use Rattle.window.specs.declared.Window.{Window}
 use Rattle.window.specs.Window.{outside, windowRefusals}
 use Rattle.window.proofs.Laws.{window-refused, window-passed, window-inside, numbered-window}
 use Rattle.map.specs.Check.{mapRefusals}
-use Rattle.map.specs.Sound.{Follow}
+use Rattle.map.specs.Sound.{Follow, SoundMap}
 use Rattle.map.proofs.Laws.{sound-map, spaced, numbered-map}
 use Rattle.used.specs.Used.{Usable, borderRefusals, useRefusals}
 use Rattle.used.specs.Promises.{Answerable}
@@ -106,3 +106,12 @@ module _ (m : ℕ) (keys : List ℕ) (classes : ℕ) (W : Window) (cells : ℕ) 
 
     pub use-same : length keys ≡ classes
     use-same = given .sound .sizes .same
+
+-- of sound maps refusals 1 to 7 are the same
+pub use-sound : {m : ℕ} {keys keys′ : List ℕ} {classes classes′ : ℕ} → SoundMap m keys classes → SoundMap m keys′ classes′ → (W : Window) (cells : ℕ) {A : Type 0} (refuse : ℕ → ℕ → A) (a : A)
+    → answer refuse (useRefusals m keys classes W cells) a ≡ answer refuse (useRefusals m keys′ classes′ W cells) a
+use-sound {m} S S′ W cells {A} refuse a = behind S ∙ sym (behind S′)
+  where
+    behind : {ks : List ℕ} {n : ℕ} → SoundMap m ks n
+        → answer refuse (useRefusals m ks n W cells) a ≡ answer refuse (windowRefusals m W) (answer refuse (borderRefusals (W .w) cells) a)
+    behind {ks} {n} T = use-parts m ks n W cells refuse a ∙ on-passed refuse (mapRefusals m ks n) _ (sound-map m ks n .1 T)

@@ -1,0 +1,95 @@
+-- Refusals tell nothing of the rest of the map either: on sound maps with the same view through the window, two calls with borders and slices of the same lengths return the same
+-- numbers, an answer or a refusal with its place.
+-- Assumes nothing.
+use mathlib.Core.Path.{_≡_, sym, ap, ap₂, _∙_}
+use mathlib.Core.List.{List, _++_}
+use Prim.Native.Nat.{ℕ, _*_, _≤_}
+use lib.ListN.{length}
+use Rattle.answers.specs.Refusals.{answer}
+use Rattle.answers.specs.Sizes.{tileRefusals}
+use Rattle.answers.specs.After.{roomRefusals}
+use Rattle.answers.proofs.Laws.{answer-append, answer-same, tile-passed}
+use Rattle.window.specs.declared.Window.{Window}
+use Rattle.window.specs.Window.{Inside}
+use Rattle.map.specs.Sound.{SoundMap}
+use Rattle.map.proofs.Laws.{spaced}
+use Rattle.border.specs.Openings.{openings, handedCount, cellsOf}
+use Rattle.border.specs.ViewPromises.{SameView}
+use Rattle.border.proofs.Laws.{cells-length, openings-tell, brought-numbers}
+use Rattle.used.specs.Used.{useRefusals}
+use Rattle.used.proofs.Laws.{use-answerable, use-sound}
+use Rattle.exist.proofs.Laws.{presence-view}
+use Rattle.totals.specs.Totals.{totals}
+use Rattle.totals.proofs.Laws.{totals-length}
+use Rattle.select.specs.Select.{selection}
+use Rattle.select.proofs.Laws.{selection-view}
+use Rattle.lutniorad.specs.declared.Answer.{Answer}
+use Rattle.lutniorad.specs.Numbers.{values, refused, ofExistence}
+use Rattle.lutniorad.specs.Calls.{OpenTiled, Exist, Report, SelectTiled}
+use Rattle.lutniorad.proofs.Answered.{exist-says}
+use Rattle.lutniorad.proofs.Opening.{open-says}
+use Rattle.lutniorad.proofs.Asked.{report-says}
+use Rattle.lutniorad.proofs.Selecting.{select-says}
+
+module _ {m : ℕ} {keys classes keys′ classes′ : List ℕ} {W : Window} (S : SoundMap m keys (length classes)) (S′ : SoundMap m keys′ (length classes′))
+    (same : SameView m keys classes keys′ classes′ W) where
+  -- behind refusals 1 to 7
+  used : {cells cells′ : ℕ} → cells ≡ cells′ → (a a′ : Answer) → (Inside m W → a ≡ a′)
+      → answer refused (useRefusals m keys (length classes) W cells) a ≡ answer refused (useRefusals m keys′ (length classes′) W cells′) a′
+  used {cells′ = cells′} e a a′ h =
+      rw e (use-sound S S′ W cells′ refused a) ∙ answer-same refused (useRefusals m keys′ (length classes′) W cells′) a a′
+      (λ passed. h (use-answerable m keys′ (length classes′) W cells′ .0 passed .inside))
+
+  -- and behind 17, before 8
+  tiled : (top : ℕ) {cells cells′ room room′ : ℕ} → cells ≡ cells′ → room ≡ room′ → {needed needed′ : ℕ} (a a′ : Answer) → (top ≤ m → Inside m W → (needed ≡ needed′) × (a ≡ a′))
+      → answer refused (tileRefusals m top ++ (useRefusals m keys (length classes) W cells ++ roomRefusals room needed)) a
+      ≡ answer refused (tileRefusals m top ++ (useRefusals m keys′ (length classes′) W cells′ ++ roomRefusals room′ needed′)) a′
+  tiled top {cells} {cells′} {room} {room′} e d {needed} {needed′} a a′ h =
+      answer-append refused (tileRefusals m top) _ a
+      ∙ answer-same refused (tileRefusals m top) _ _ (
+      λ passed.
+      answer-append refused (useRefusals m keys (length classes) W cells) (roomRefusals room needed) a
+      ∙ used e _ _ (λ I. let t = h (tile-passed m top .0 passed .1) I in ap₂ (λ (n : ℕ) (x : Answer). answer refused (roomRefusals room n) x) (t .0) (t .1) ∙ rw d)
+      ∙ sym (answer-append refused (useRefusals m keys′ (length classes′) W cells′) (roomRefusals room′ needed′) a′)
+      )
+      ∙ sym (answer-append refused (tileRefusals m top) _ a′)
+
+  pub open-alike : (top : ℕ) (border out other older : List ℕ) {r r′ : Answer} {border′ out′ other′ older′ : List ℕ} → length border ≡ length other → length out ≡ length older
+      → OpenTiled m top keys classes W border out r border′ out′ → OpenTiled m top keys′ classes′ W other older r′ other′ older′ → r ≡ r′
+  open-alike top border out other older e d call call′ =
+      open-says m top keys classes W border out call
+      ∙ tiled top e d _ _ (
+      λ cap I.
+      let os = openings m top keys W in
+      let os′ = openings m top keys′ W in
+      let n = brought-numbers keys classes keys′ classes′ os os′ (openings-tell (spaced (S .records)) (spaced (S′ .records)) I cap classes classes′ .1 same) in
+      (cells-length os ∙ ap (λ (x : ℕ). 3 * x) (n .0) ∙ sym (cells-length os′), ap₂ values (n .0) (n .1))
+      )
+      ∙ sym (open-says m top keys′ classes′ W other older call′)
+
+  pub exist-alike : (class : ℕ) (border other : List ℕ) {r r′ : Answer} {border′ other′ : List ℕ} → length border ≡ length other
+      → Exist m keys classes W class border r border′ → Exist m keys′ classes′ W class other r′ other′ → r ≡ r′
+  exist-alike class border other e call call′ =
+      exist-says m keys classes W class border call
+      ∙ used e _ _ (λ I. ap ofExistence (presence-view (S .records) (S′ .records) I same class))
+      ∙ sym (exist-says m keys′ classes′ W class other call′)
+
+  pub report-alike : (border out other older : List ℕ) {r r′ : Answer} {border′ out′ other′ older′ : List ℕ} → length border ≡ length other → length out ≡ length older
+      → Report m keys classes W border out r border′ out′ → Report m keys′ classes′ W other older r′ other′ older′ → r ≡ r′
+  report-alike border out other older e d call call′ =
+      report-says m keys classes W border out call
+      ∙ answer-append refused (useRefusals m keys (length classes) W (length border)) _ _
+      ∙ used e _ _ (λ I. rw (d, totals-length m keys classes W, totals-length m keys′ classes′ W))
+      ∙ sym (answer-append refused (useRefusals m keys′ (length classes′) W (length other)) _ _)
+      ∙ sym (report-says m keys′ classes′ W other older call′)
+
+  pub select-alike : (top class : ℕ) (border out other older : List ℕ) {r r′ : Answer} {border′ out′ other′ older′ : List ℕ} → length border ≡ length other → length out ≡ length older
+      → SelectTiled m top keys classes W class border out r border′ out′ → SelectTiled m top keys′ classes′ W class other older r′ other′ older′ → r ≡ r′
+  select-alike top class border out other older e d call call′ =
+      select-says m top keys classes W class border out call
+      ∙ tiled top e d _ _ (
+      λ cap I.
+      let ks = selection-view (spaced (S .records)) (spaced (S′ .records)) I cap same class in
+      (ap length ks, ap (λ (xs : List ℕ). values (length xs) 0) ks)
+      )
+      ∙ sym (select-says m top keys′ classes′ W class other older call′)
