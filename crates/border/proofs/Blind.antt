@@ -1,15 +1,15 @@
 -- Openings are a function of the view, up to the indices: what they bring is found from the records that overlap the window alone. And it tells which these are.
 -- Assumes nothing.
-use mathlib.Core.Path.{_≡_, refl, sym, ap, ap₂, _∙_}
+use mathlib.Core.Path.{_≡_, refl, sym, ap, _∙_}
 use mathlib.Core.Logic.{_↔_}
 use mathlib.Core.Bool.{Bool, true, false, cond}
-use mathlib.Core.List.{List, [], _∷_, _++_, map, map-append, map-map, List·Memᴰ, List·Memᴰ·head, List·Memᴰ·tail, Memᴰ·map, Memᴰ·of-map}
+use mathlib.Core.List.{List, [], _∷_, _++_, map, map-append, List·Memᴰ, List·Memᴰ·head, List·Memᴰ·tail, Memᴰ·map, Memᴰ·of-map}
 use Prim.Native.Nat.{ℕ, zero, suc, _+_, _*_, _≤_, _<_}
 use native.Mathlib.Omega.{arith}
 use lib.ListN.{length, getD, length-map}
 use Rattle.lists.specs.Promises.{sum}
 use Rattle.lists.specs.Lists.{upFrom, any, keep}
-use Rattle.lists.proofs.Laws.{up-length, keep-map, keep-run, keep-all, any-map, sum-none, sum-next}
+use Rattle.lists.proofs.Laws.{up-in, up-length, keep-map, keep-run, keep-all, any-map, sum-none, sum-next}
 use Rattle.key.specs.Picture.{place, Px}
 use Rattle.key.specs.Form.{formOf}
 use Rattle.key.specs.Blocks.{Names, Among}
@@ -22,10 +22,10 @@ use Rattle.map.specs.Spans.{within, overlap}
 use Rattle.map.specs.Sound.{Spaced}
 use Rattle.map.specs.Runs.{runOf}
 use Rattle.map.proofs.Laws.{Meets, record-at, block-records, overlap-is}
-use Rattle.border.specs.Openings.{isHanded, Opening, made, opening, hands, met, openFrom, openings, handedCount, cellsOf}
-use Rattle.border.specs.ViewPromises.{recordAt, recordsOf, view, SameView, InView, openingIn, brought, meeting, broughtFrom, broughtBy}
+use Rattle.border.specs.Openings.{isHanded, Opening, hands, met, openFrom, openings, handedCount, cellsOf}
+use Rattle.border.specs.ViewPromises.{recordAt, view, SameView, InView, openingIn, brought, meeting, broughtFrom, broughtBy}
 use Rattle.border.specs.Step.{Corner}
-use Rattle.border.proofs.Fold.{opening-key, met-in, opens-none, skip-opens, take-opens, openings-are}
+use Rattle.border.proofs.Fold.{opening-key, met-run, opens-none, skip-opens, take-opens, openings-are}
 use Rattle.border.proofs.Handing.{listed-corner}
 use Rattle.border.proofs.Once.{hands-all}
 use Rattle.border.proofs.View.{keep-view, touched, views-one}
@@ -38,12 +38,10 @@ module _ {m top : ℕ} {keys : List ℕ} (F : Spaced m 0 keys) {W : Window} (I :
 
   -- the records that overlap a maximal block are those of the view that do
   met-view : {b : Px} → Corner W top b → map (recordAt keys classes) (met m keys (keyOf m top W b)) ≡ meeting m seen (keyOf m top W b)
-  unfolding opening
-  met-view {b} C = sym (
-      keep-view F W classes (λ r. test (r .0)) (λ n l e. let R = record-at F n l in touched F I small C (R .is) (overlap-is named (R .is .names) .0 e))
-      ∙ keep-map (λ r. test (r .0)) (recordAt keys classes) (upFrom 0 (length keys))
-      ∙ ap (map (recordAt keys classes)) (run ∙ whole)
-      )
+  met-view {b} C =
+      rw (met-run m keys k) (ap (map (recordAt keys classes)) (sym (run ∙ whole)))
+      ∙ sym (keep-map (λ r. test (r .0)) (recordAt keys classes) (upFrom 0 (length keys)))
+      ∙ sym (keep-view F W classes (λ r. test (r .0)) (λ n l e. let R = record-at F n l in touched F I small C (R .is) (overlap-is named (R .is .names) .0 e)))
     where
       k : ℕ
       k = keyOf m top W b
@@ -51,24 +49,30 @@ module _ {m top : ℕ} {keys : List ℕ} (F : Spaced m 0 keys) {W : Window} (I :
       test : ℕ → Bool
       test x = overlap (formOf m k) (formOf m x)
 
+      first : ℕ
+      first = runOf m keys k .first
+
+      count : ℕ
+      count = runOf m keys k .count
+
       named : Names m k (exponent W top b) (place (b .0) (b .1))
       named = key-named I small (C .inside) (C .own)
 
-      meets : Meets m keys (exponent W top b) (place (b .0) (b .1)) (runOf m keys k .first) (runOf m keys k .count)
+      meets : Meets m keys (exponent W top b) (place (b .0) (b .1)) first count
       meets = block-records F named
 
-      among : (n : ℕ) → n < length keys → (test (getD keys n 0) ≡ true) ↔ Among (runOf m keys k .first) (runOf m keys k .count) n
+      among : (n : ℕ) → n < length keys → (test (getD keys n 0) ≡ true) ↔ Among first count n
       among n l =
           let R = record-at F n l in
           let o = overlap-is named (R .is .names) in
           let x = meets .exactly (R .is) in
           (λ e. x .0 (o .0 e), λ a. o .1 (x .1 a))
 
-      run : keep (λ n. test (getD keys n 0)) (upFrom 0 (length keys)) ≡ keep (λ n. test (getD keys n 0)) (met m keys k)
-      run = keep-run (λ n. test (getD keys n 0)) (runOf m keys k .first) (runOf m keys k .count) (length keys) (meets .room) (λ n l e. let a = among n l .0 e in (a .least, a .most))
+      run : keep (λ n. test (getD keys n 0)) (upFrom 0 (length keys)) ≡ keep (λ n. test (getD keys n 0)) (upFrom first count)
+      run = keep-run (λ n. test (getD keys n 0)) first count (length keys) (meets .room) (λ n l e. let a = among n l .0 e in (a .least, a .most))
 
-      whole : keep (λ n. test (getD keys n 0)) (met m keys k) ≡ met m keys k
-      whole = keep-all (λ n. test (getD keys n 0)) (met m keys k) (λ n l. let a = met-in m keys k n .0 l in among n (omega (arith, meets .room)) .1 a)
+      whole : keep (λ n. test (getD keys n 0)) (upFrom first count) ≡ upFrom first count
+      whole = keep-all (λ n. test (getD keys n 0)) (upFrom first count) (λ n l. let a = up-in first count n .0 l in among n (omega (arith, meets .room)) .1 (omega arith))
 
   -- a block lies in one of the records handed out, by these records
   handed-brought : (out : List ℕ) (k : ℕ) → isHanded m keys out k ≡ any (λ r. within (formOf m k) (formOf m (r .0))) (map (recordAt keys classes) out)
@@ -77,9 +81,9 @@ module _ {m top : ℕ} {keys : List ℕ} (F : Spaced m 0 keys) {W : Window} (I :
 
   opens-view : (bs : List Px) → ((b : Px) → List·Memᴰ b bs → Corner W top b) → (out : List ℕ)
       → map (brought keys classes) (openFrom m keys out (map (keyOf m top W) bs)) ≡ broughtFrom m seen (map (recordAt keys classes) out) (map (keyOf m top W) bs)
-  unfolding broughtFrom openFrom
-  opens-view [] C out = refl
-  opens-view (b ∷ bs) C out = rw (← handed-brought out k) (go (isHanded m keys out k) (opens-view bs (λ x l. C x (List·Memᴰ·tail l))))
+  unfolding broughtFrom
+  opens-view [] C out = rw (opens-none m keys out)
+  opens-view (b ∷ bs) C out = rw (← handed-brought out k) (go (isHanded m keys out k) refl (opens-view bs (λ x l. C x (List·Memᴰ·tail l))))
     where
       k : ℕ
       k = keyOf m top W b
@@ -90,11 +94,13 @@ module _ {m top : ℕ} {keys : List ℕ} (F : Spaced m 0 keys) {W : Window} (I :
       own : map (recordAt keys classes) (met m keys k) ≡ meeting m seen k
       own = met-view (C b (List·Memᴰ·head refl))
 
-      go : (t : Bool) → ((h : List ℕ) → map (brought keys classes) (openFrom m keys h ks) ≡ broughtFrom m seen (map (recordAt keys classes) h) ks)
-          → map (brought keys classes) (cond t (openFrom m keys out ks) (opening m keys k ∷ openFrom m keys (out ++ met m keys k) ks))
+      go : (t : Bool) → isHanded m keys out k ≡ t
+          → ((h : List ℕ) → map (brought keys classes) (openFrom m keys h ks) ≡ broughtFrom m seen (map (recordAt keys classes) h) ks)
+          → map (brought keys classes) (openFrom m keys out (k ∷ ks))
           ≡ cond t (broughtFrom m seen (map (recordAt keys classes) out) ks) ((k, meeting m seen k) ∷ broughtFrom m seen (map (recordAt keys classes) out ++ meeting m seen k) ks)
-      go true ih = ih out
-      go false ih = rw (← own, ← map-append (recordAt keys classes) out (met m keys k), ← ih (out ++ met m keys k), opening-key m keys k)
+      go true e ih = rw (skip-opens m keys out k ks e) (ih out)
+      go false e ih =
+          rw (take-opens m keys out k ks e, ← own, ← map-append (recordAt keys classes) out (met m keys k), ← ih (out ++ met m keys k), opening-key m keys k)
 
   pub openings-view : map (brought keys classes) (openings m top keys W) ≡ broughtBy m top W seen
   unfolding broughtBy

@@ -1,7 +1,7 @@
 -- The view of a window: which records it has, that it is one as a list and as a set, and what of it is all that can be found out: the record of each pixel of the window, and what passes
 -- a test that no record outside passes.
 -- Assumes nothing.
-use mathlib.Core.Path.{_≡_, refl, sym, ap, _∙_, subst}
+use mathlib.Core.Path.{_≡_, refl, sym, ap, _∙_}
 use mathlib.Core.Logic.{_↔_}
 use mathlib.Core.Bool.{Bool, true}
 use mathlib.Core.List.{List, List·Memᴰ, Memᴰ·map, Memᴰ·of-map}

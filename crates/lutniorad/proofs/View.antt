@@ -3,7 +3,7 @@
 use mathlib.Core.Path.{_≡_, sym, ap, ap₂, _∙_}
 use mathlib.Core.Logic.{_↔_}
 use mathlib.Core.List.{List, [], map}
-use Prim.Native.Nat.{ℕ, _+_, _*_, _≤_, _<_}
+use Prim.Native.Nat.{ℕ, _+_, _*_, _<_}
 use native.Mathlib.Omega.{arith}
 use lib.ListN.{length, getD, take, drop, length-map}
 use Rattle.lists.specs.Lists.{upFrom}
@@ -11,10 +11,8 @@ use Rattle.lists.proofs.Laws.{up-length}
 use Rattle.answers.specs.Cells.{overwrite}
 use Rattle.answers.proofs.Laws.{overwrite-at}
 use Rattle.window.specs.declared.Window.{Window}
-use Rattle.window.specs.Window.{Inside}
-use Rattle.map.specs.Sound.{Follow}
 use Rattle.map.proofs.Laws.{spaced}
-use Rattle.border.specs.Openings.{Opening, made, hands, openings, handedCount, cellsOf}
+use Rattle.border.specs.Openings.{Opening, openings, handedCount, cellsOf}
 use Rattle.border.specs.Promises.{openingsIn}
 use Rattle.border.specs.ViewPromises.{recordAt, SameView, openingIn, brought}
 use Rattle.border.proofs.Laws.{cells-length, openings-tell, brought-at, brought-numbers}

@@ -6,7 +6,7 @@ use mathlib.Core.List.{List, [], _∷_, _++_, map, map-map, List·Memᴰ, List·
 use Prim.Native.Nat.{ℕ, _≤_, _<_}
 use native.Mathlib.Omega.{arith}
 use lib.Dec.{eqb}
-use lib.ListN.{length, getD}
+use lib.ListN.{length}
 use Rattle.lists.specs.Lists.{upFrom, any, keep}
 use Rattle.lists.proofs.Laws.{keep-map, any-map}
 use Rattle.key.specs.Picture.{place, Px}
@@ -28,24 +28,28 @@ use Rattle.border.proofs.Laws.{listed-corner, keep-view, any-view, touched}
 use Rattle.select.specs.Select.{around, inside, selected, allSelected, selection}
 use Rattle.select.proofs.Choices.{around-is, inside-is}
 
--- a record of the class, by key and class, and the block of a key: the block lies in it, or it in the block
-abbrev lyingIn : ℕ → ℕ → ℕ → ℕ × ℕ → Bool
-lyingIn m class key r = eqb (r .1) class && within (formOf m key) (formOf m (r .0))
+-- `around` and `inside`, of a record by its key and its class
+abbrev recordAround : ℕ → ℕ → ℕ → ℕ × ℕ → Bool
+recordAround m class key r = eqb (r .1) class && within (formOf m key) (formOf m (r .0))
 
-abbrev lyingOver : ℕ → ℕ → ℕ → ℕ × ℕ → Bool
-lyingOver m class key r = eqb (r .1) class && within (formOf m (r .0)) (formOf m key)
+abbrev recordInside : ℕ → ℕ → ℕ → ℕ × ℕ → Bool
+recordInside m class key r = eqb (r .1) class && within (formOf m (r .0)) (formOf m key)
 
 -- what is selected from the block of a key, by records
 abbrev chosen : ℕ → ℕ → ℕ → List (ℕ × ℕ) → List ℕ
-chosen m class key records = cond (any (lyingIn m class key) records) (key ∷ []) (map (λ r. r .0) (keep (lyingOver m class key) records))
+chosen m class key records = cond (any (recordAround m class key) records) (key ∷ []) (map (λ r. r .0) (keep (recordInside m class key) records))
 
 module _ {m top : ℕ} {keys : List ℕ} (F : Spaced m 0 keys) {W : Window} (I : Inside m W) (small : top ≤ m) (classes : List ℕ) (class : ℕ) where
   -- by all records of the map
   selected-records : (key : ℕ) → selected m keys classes class key ≡ chosen m class key (recordsOf keys classes)
   unfolding selected around inside
   selected-records key =
-      let inner : List ℕ = keep (λ n. lyingOver m class key (recordAt keys classes n)) records in
-      rw (any-map (lyingIn m class key) (recordAt keys classes) records, keep-map (lyingOver m class key) (recordAt keys classes) records, map-map (λ (r : ℕ × ℕ). r .0) (recordAt keys classes) inner)
+      let inner : List ℕ = keep (λ n. recordInside m class key (recordAt keys classes n)) records in
+      rw (
+        any-map (recordAround m class key) (recordAt keys classes) records,
+        keep-map (recordInside m class key) (recordAt keys classes) records,
+        map-map (λ (r : ℕ × ℕ). r .0) (recordAt keys classes) inner,
+      )
     where
       records : List ℕ
       records = upFrom 0 (length keys)
@@ -53,7 +57,7 @@ module _ {m top : ℕ} {keys : List ℕ} (F : Spaced m 0 keys) {W : Window} (I :
   -- by those of the view
   selected-view : {b : Px} → Corner W top b → selected m keys classes class (keyOf m top W b) ≡ chosen m class (keyOf m top W b) (view m keys classes W)
   unfolding around inside
-  selected-view {b} C = selected-records key ∙ sym (rw (any-view F W classes (lyingIn m class key) round, keep-view F W classes (lyingOver m class key) inner))
+  selected-view {b} C = selected-records key ∙ sym (rw (any-view F W classes (recordAround m class key) round, keep-view F W classes (recordInside m class key) inner))
     where
       key : ℕ
       key = keyOf m top W b

@@ -108,7 +108,8 @@ module _ (m : ℕ) (keys : List ℕ) (classes : ℕ) (W : Window) (cells : ℕ) 
     use-same = given .sound .sizes .same
 
 -- of sound maps refusals 1 to 7 are the same
-pub use-sound : {m : ℕ} {keys keys′ : List ℕ} {classes classes′ : ℕ} → SoundMap m keys classes → SoundMap m keys′ classes′ → (W : Window) (cells : ℕ) {A : Type 0} (refuse : ℕ → ℕ → A) (a : A)
+pub use-sound : {m : ℕ} {keys keys′ : List ℕ} {classes classes′ : ℕ} → SoundMap m keys classes → SoundMap m keys′ classes′
+    → (W : Window) (cells : ℕ) {A : Type 0} (refuse : ℕ → ℕ → A) (a : A)
     → answer refuse (useRefusals m keys classes W cells) a ≡ answer refuse (useRefusals m keys′ classes′ W cells) a
 use-sound {m} S S′ W cells {A} refuse a = behind S ∙ sym (behind S′)
   where
