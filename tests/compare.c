@@ -16,6 +16,7 @@
 #include "pairs.h"
 #include "queries.h"
 #include "tiles.h"
+#include "views.h"
 #include "why.h"
 #include "windows.h"
 
@@ -603,6 +604,8 @@ static const group groups[] = {
     {"random pairs", group_random_pairs, true},
     {"small parts", group_small_parts, false},
     {"random parts", group_random_parts, true},
+    {"small views", group_small_views, false},
+    {"random views", group_random_views, true},
 };
 
 int main(int argc, char **argv)

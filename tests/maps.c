@@ -43,8 +43,7 @@ size_t most_cuts(uint32_t exponent)
     return (((size_t)1 << 2 * exponent) - 1) / 3;
 }
 
-/* Appends the records of a block of side 2^exponent that is cut so many times, 1 + 3 * cuts of them. */
-static void cut_block(map *a, shape how, uint32_t exponent, uint32_t key, size_t cuts)
+void cut_block(map *a, shape how, uint32_t exponent, uint32_t key, size_t cuts)
 {
     if (cuts == 0) {
         a->keys[a->q++] = key;
@@ -183,6 +182,38 @@ size_t side_of_block(uint32_t m, uint32_t key)
     return side;
 }
 
+bool cut_record(map *a, size_t i)
+{
+    const uint32_t key = a->keys[i], place = last_place(a->m, key) / 5;
+    const uint8_t of_class = a->classes[i];
+    if (place == 0 || a->q + 3 > MOST_RECORDS)
+        return false;
+    for (int times = 0; times < 3; times++)
+        insert_record(a, i, 0);
+    for (uint32_t digit = 1; digit <= 4; digit++, i++) {
+        a->keys[i] = key + digit * place;
+        a->classes[i] = of_class;
+    }
+    return true;
+}
+
+bool merge_record(map *a, size_t i)
+{
+    const uint32_t key = a->keys[i], place = last_place(a->m, key), digit = key / place % 5;
+    const uint32_t parent = key - digit * place;
+    const size_t first = i + 1 - digit; /* of the four */
+    if (digit == 0 || i + 1 < digit || first + 4 > a->q)
+        return false;
+    for (uint32_t k = 0; k < 4; k++)
+        if (a->keys[first + k] != parent + (k + 1) * place)
+            return false;
+    a->keys[first] = parent;
+    a->classes[first] = a->classes[i];
+    for (int times = 0; times < 3; times++)
+        drop(a, first + 1);
+    return true;
+}
+
 static void take_parent(map *a, size_t i)
 {
     uint32_t place = last_place(a->m, a->keys[i]);
@@ -276,6 +307,11 @@ window whole_picture(uint32_t m)
 {
     window at = {0, 0, side_of(m), side_of(m)};
     return at;
+}
+
+bool is_inside(window at, uint32_t m)
+{
+    return at.h > 0 && at.w > 0 && at.r0 + at.h <= side_of(m) && at.c0 + at.w <= side_of(m);
 }
 
 size_t n_small_windows(uint32_t m)

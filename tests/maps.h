@@ -41,6 +41,9 @@ size_t most_cuts(uint32_t exponent);
 /* How the cuts are dealt out to the four quadrants: all to as few as will take them, evenly, or at random. */
 typedef enum { DEEP, EVEN, RAGGED, SHAPES } shape;
 
+/* Appends the keys of a block of side 2^exponent that is cut so many times, 1 + 3 * cuts of them. */
+void cut_block(map *a, shape how, uint32_t exponent, uint32_t key, size_t cuts);
+
 /* A map of 1 + 3 * cuts records, with random classes: any, or few. */
 void make_map(map *a, uint32_t m, shape how, size_t cuts);
 
@@ -67,6 +70,13 @@ uint8_t some_class(const map *a);
 /* The side of a key's block. */
 size_t side_of_block(uint32_t m, uint32_t key);
 
+/*
+ * Cuts the block of record i in four, or merges the four of which it is one. The class of the record is that of all
+ * that come in its place. False where that cannot be done: the map is as it was.
+ */
+bool cut_record(map *a, size_t i);
+bool merge_record(map *a, size_t i);
+
 /* ---- Damaged maps ---- */
 
 /* The damages, by number: each spoils a map at record i. */
@@ -88,6 +98,8 @@ void become_a_quadrant(map *a, size_t i);
 uint16_t side_of(uint32_t m); /* of a picture, 2^m */
 
 window whole_picture(uint32_t m);
+
+bool is_inside(window at, uint32_t m); /* the picture, and not empty */
 
 /* Windows by number, inside and outside: each of the four numbers from 0 on to one beyond the side. */
 size_t n_small_windows(uint32_t m);

@@ -185,11 +185,6 @@ static size_t number_of(uint64_t set)
     return numbers[place_of(set)];
 }
 
-static bool is_inside(window at, uint32_t m)
-{
-    return at.h > 0 && at.w > 0 && at.r0 + at.h <= side_of(m) && at.c0 + at.w <= side_of(m);
-}
-
 /* All windows of the map at hand. */
 static void list_windows(void)
 {

@@ -395,6 +395,112 @@ step 'planner sees that it cannot write a refusal' sees_failed_output planner sh
 step 'planner sees that it cannot write which window is refused' sees_failed_output planner sound 2 0 3 1 0 2 3 2
 step 'planner sees that it cannot write that there is no rectangle' sees_failed_output planner sound 0 0 2 2 2 2 2 2
 
+map_of() { # KEYS CLASSES: lists of the same length; m is 2
+    q=$(echo "$1" | wc -w)
+    bytes $((20 + 5 * q)) 0 0 0 2 0 0 0 "$q" 0 0 0 20 0 0 0 $((20 + 4 * q)) 0 0 0
+    for key in $1; do
+        bytes "$key" 0 0 0
+    done
+    # shellcheck disable=SC2086 # a list
+    bytes $2
+}
+
+# Like sound in the south, and elsewhere in fewer records, in as many, and in more.
+map_of '5 10 15 20' '1 3 1 2' >"$files/coarse"
+map_of '6 7 8 9 10 15 20' '0 1 2 3 4 1 2' >"$files/turned"
+map_of '6 7 8 9 11 12 13 14 15 20' '1 1 1 1 2 2 3 1 1 2' >"$files/fine"
+# Like sound but for the last record: it has another class; it is cut in four of its class.
+house_file 5 1 2 2 3 1 1 3 >"$files/repainted"
+map_of '5 11 12 13 14 15 21 22 23 24' '1 2 2 3 1 1 2 2 2 2' >"$files/cut-in-four"
+one_record 12 0 >"$files/largest"
+usage='usage: partner FILE R0 C0 H W, with a house file'
+given='openings 4, records 7
+block 7
+  record 5, class 1
+block 10
+  record 11, class 2
+  record 12, class 2
+  record 13, class 3
+  record 14, class 1
+block 17
+  record 15, class 1
+block 21
+  record 20, class 2
+class 1, pixels 4
+class 2, pixels 4
+class 3, pixels 1'
+part_of_record='openings 1, records 1
+block 16
+  record 15, class 1
+class 1, pixels 2'
+whole_picture='openings 1, records 1
+block 0
+  record 0, class 1
+class 1, pixels 16777216'
+
+gives() { # FILE R0 C0 H W: on standard output
+    (cd "$files" && run partner "$@")
+}
+
+# Though the files differ, and what it gives of the whole picture too.
+gives_the_same() {
+    gives sound 2 0 2 4 >"$files/south" && gives sound 0 0 4 4 >"$files/whole" || return 1
+    for other in coarse turned fine; do
+        gives "$other" 2 0 2 4 >"$files/other" && cmp "$files/south" "$files/other" || return 1
+        gives "$other" 0 0 4 4 >"$files/other" && ! cmp -s "$files/whole" "$files/other" || return 1
+    done
+}
+
+# The windows are the south, one pixel of the record, and what is beside it.
+gives_something_else() {
+    for other in repainted cut-in-four; do
+        for at in '2 0 2 4' '3 3 1 1'; do
+            # shellcheck disable=SC2086 # four numbers
+            gives sound $at >"$files/south" && gives "$other" $at >"$files/other" || return 1
+            ! cmp -s "$files/south" "$files/other" || return 1
+        done
+        gives sound 0 0 4 2 >"$files/west" && gives "$other" 0 0 4 2 | cmp - "$files/west" || return 1
+    done
+}
+
+# What it says of a window first, and what it gives then: blocks, records and pixels. Many says the same of the windows
+# of a grid; the last window has more openings than these.
+gives_as_many_as_it_says() {
+    run many examples/lake.map 3 | tr -c '0-9\n' ' ' >"$files/grid"
+    echo 1 1 30 30 94 238 900 >>"$files/grid"
+    while read -r r0 c0 h w n q pixels; do
+        counted=$(run partner examples/lake.map "$r0" "$c0" "$h" "$w" </dev/null | awk '
+            NR == 1 { print }
+            /^block/ { blocks++ }
+            /^  record/ { records++ }
+            /^class/ { pixels += $NF }
+            END { print blocks, records, pixels }')
+        [ "$counted" = "openings $n, records $q
+$n $q $pixels" ] && continue
+        echo "partner examples/lake.map $r0 $c0 $h $w said and gave '$counted', and not $n, $q, $pixels"
+        return 1
+    done <"$files/grid"
+}
+
+step 'the example partner is built' build partner examples/partner.c
+step 'partner gives openings by their records' example_says "$given" '' 0 partner sound 0 1 3 3
+step 'partner gives a record larger than the window' example_says "$part_of_record" '' 0 partner sound 2 0 2 1
+step 'partner gives the largest picture' example_says "$whole_picture" '' 0 partner largest 0 0 4096 4096
+step 'partner gives as many openings, records and pixels as there are' gives_as_many_as_it_says
+step 'partner gives the same of maps that agree on the window' gives_the_same
+step 'partner gives something else where a record of the window differs' gives_something_else
+step 'partner refuses a window that sticks out' example_says "$bad_window" '' 1 partner sound 2 0 3 1
+step 'partner refuses a file cut short' example_says "$bad_layout" '' 1 partner short 0 1 3 3
+step 'partner refuses an unsound map' example_says "$bad_key" '' 1 partner unsound 0 1 3 3
+step 'partner sees that a file is missing' example_says '' 'missing: cannot be opened' 2 partner missing 0 1 3 3
+step 'partner sees that a file cannot be read' example_says '' 'folder: cannot be read' 2 partner folder 0 1 3 3
+step 'partner sees that a number is too great' example_says '' "$usage" 2 partner sound 0 1 3 65536
+step 'partner sees that a number is missing' example_says '' "$usage" 2 partner sound 0 1 3
+step 'partner sees that there is a number too many' example_says '' "$usage" 2 partner sound 0 1 3 3 1
+step 'partner sees that it cannot write' sees_failed_output partner sound 0 1 3 3
+step 'partner sees that it cannot write a refusal' sees_failed_output partner short 0 1 3 3
+step 'partner sees that it cannot write that a window is refused' sees_failed_output partner sound 2 0 3 1
+
 house_file 5 1 3 3 1 1 1 2 >"$files/second"
 house_file 5 1 2 2 2 1 2 255 >"$files/third"
 one_record 12 1 >"$files/garbled"
