@@ -3,9 +3,10 @@
  * window has; of each opening the key of its block, and its records by key and class; and how many pixels of the window
  * are of each class. House file and window are named on the command line.
  *
- * It says the same, byte for byte, of all maps that have the same records with a pixel in the window, whatever they
- * have elsewhere. That is proved of all answers about a window but one: the index of an opening's first record tells
- * how many records of the map come before. So the index is not said, and the records stand in its place.
+ * It says the same, byte for byte, of all sound maps of one m that have the same records with a pixel in the window,
+ * whatever they have elsewhere. That is proved of what opening and report answer, but for one number: the index of an
+ * opening's first record tells how many records of the map come before. So the index is not said, and the records stand
+ * in its place. A record that sticks out of the window is said whole, by its key.
  */
 #include "common.h"
 

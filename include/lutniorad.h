@@ -36,6 +36,14 @@
  * with a pixel in the window is handed out once, and no other is; and no choice of maximal blocks that meets all of
  * these records has fewer blocks than there are openings.
  *
+ * The VIEW of a map through a window is the list of its records with a pixel there, each by key and class. Answers
+ * about a window tell nothing of the rest of the map: on two sound maps of one m with the same view, lutniorad_open,
+ * lutniorad_exist, lutniorad_report, lutniorad_select, those with a tile and lutniorad_windows answer and write the
+ * same for the window, and lutniorad_month_add adds the same to its table. Only the index of an opening's first record
+ * may differ, and the records from there on are the same. It tells how many records of the map come before. Whoever
+ * hands answers on to others, who are to know no more than their own window, leaves it out, and the reasons of
+ * lutniorad_why_record and lutniorad_why_block too, which may say an index.
+ *
  * The BORDER is lent for opening a window, or many, for each question about its classes or its openings, and for adding
  * a map to a month: a 16-bit cell for each column of the window. It holds how far down the column has been handed out.
  * So in the end each of the first w cells is r0 + h; after many windows, by the last of them that reached the cell.
