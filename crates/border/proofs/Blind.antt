@@ -146,13 +146,14 @@ openings-tell {m} {top} {keys} {keys′} F F′ {W} I small classes classes′ =
 -- ---- in the cells
 
 module _ (keys classes : List ℕ) where
-  -- how many records they bring
+  -- an opening brings as many records as it counts
+  pub brought-length : (o : Opening) → length (map (recordAt keys classes) (hands o)) ≡ o .count
+  brought-length o = length-map (hands o) (recordAt keys classes) ∙ up-length (o .first) (o .count)
+
   count-brought : (os : List Opening) → handedCount os ≡ sum (map (λ x. length (x .1)) (map (brought keys classes) os))
   unfolding handedCount
   count-brought [] = sym sum-none
-  count-brought (o ∷ os) =
-      let n : length (map (recordAt keys classes) (hands o)) ≡ o .count = length-map (hands o) (recordAt keys classes) ∙ up-length (o .first) (o .count) in
-      rw (sum-next _ _, n, ← count-brought os)
+  count-brought (o ∷ os) = rw (sum-next _ _, brought-length o, ← count-brought os)
 
   -- opening j by what it brings, as it stands in its cells
   pub brought-at : (os : List Opening) (j : ℕ) → j < length os → getD (map (brought keys classes) os) j (0, []) ≡ brought keys classes (openingIn (cellsOf os) j)
@@ -165,10 +166,16 @@ module _ (keys classes : List ℕ) where
       let c : 3 * suc j + 2 ≡ suc (suc (suc (3 * j + 2))) = omega arith in
       rw (c, b, a) (brought-at os j (omega arith))
 
--- where the same is brought, the numbers of openings and of records are the same
-pub brought-numbers : (keys classes keys′ classes′ : List ℕ) (os os′ : List Opening) → map (brought keys classes) os ≡ map (brought keys′ classes′) os′
-    → (length os ≡ length os′) × (handedCount os ≡ handedCount os′)
-brought-numbers keys classes keys′ classes′ os os′ e = (
-  sym (length-map os (brought keys classes)) ∙ ap length e ∙ length-map os′ (brought keys′ classes′),
-  count-brought keys classes os ∙ ap (λ (l : List (ℕ × List (ℕ × ℕ))). sum (map (λ x. length (x .1)) l)) e ∙ sym (count-brought keys′ classes′ os′),
+-- on two maps with the same view the numbers of openings and of records are the same
+pub openings-numbers : {m top : ℕ} {keys keys′ : List ℕ} → Spaced m 0 keys → Spaced m 0 keys′ → {W : Window} → Inside m W → top ≤ m → {classes classes′ : List ℕ}
+    → SameView m keys classes keys′ classes′ W
+    → (length (openings m top keys W) ≡ length (openings m top keys′ W)) × (handedCount (openings m top keys W) ≡ handedCount (openings m top keys′ W))
+openings-numbers {m} {top} {keys} {keys′} F F′ {W} I small {classes} {classes′} same = (
+  sym (length-map (openings m top keys W) (brought keys classes)) ∙ ap length e ∙ length-map (openings m top keys′ W) (brought keys′ classes′),
+  count-brought keys classes (openings m top keys W)
+      ∙ ap (λ (l : List (ℕ × List (ℕ × ℕ))). sum (map (λ x. length (x .1)) l)) e
+      ∙ sym (count-brought keys′ classes′ (openings m top keys′ W)),
 )
+  where
+    e : map (brought keys classes) (openings m top keys W) ≡ map (brought keys′ classes′) (openings m top keys′ W)
+    e = openings-tell F F′ I small classes classes′ .1 same

@@ -11,6 +11,6 @@ pub use Rattle.border.proofs.Fewest.{openings-enough, bringing-enough, 
 pub use Rattle.border.proofs.Whole.{covered-whole, stays-whole, hands-some, hands-whole, all-bring, fewest-whole}
 pub use Rattle.border.proofs.Reasons.{handed-number, handed-out, opened-or-skipped, handed-one, first-at, opened-first, skipped-first, opened-one, skipped-one, not-both}
 pub use Rattle.border.proofs.View.{keep-view, any-view, view-has, views-one, touched, pixel-view}
-pub use Rattle.border.proofs.Blind.{openings-view, openings-tell, brought-at, brought-numbers}
+pub use Rattle.border.proofs.Blind.{openings-view, openings-tell, openings-numbers, brought-length, brought-at}
 pub use Rattle.border.proofs.Stepping.{filled-spent}
 pub use Rattle.border.proofs.Finding.{Finding, fresh-same, fresh-usable, fresh-spent, finding-first, finding-usable, finding-spent, finding-last, Opens, finds-opens}

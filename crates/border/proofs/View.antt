@@ -1,5 +1,5 @@
--- The view of a window: which records it has, that it is one as a list and as a set, and what of it is all that can be found out: the record of each pixel of the window, and what passes
--- a test that no record outside passes.
+-- The view of a window: which records it has, and that it is one as a list and as a set. It suffices for the record of each pixel of the window, and for what passes a test that no
+-- record outside passes.
 -- Assumes nothing.
 use mathlib.Core.Path.{_≡_, refl, sym, ap, _∙_}
 use mathlib.Core.Logic.{_↔_}
@@ -85,7 +85,7 @@ module _ {m : ℕ} {keys : List ℕ} (F : Spaced m 0 keys) (W : Window) (classes
     unfolding view
     any-view = any-keep t (overlapping m W) (recordsOf keys classes) wider
 
--- a record that overlaps a maximal block is such a one
+-- the window touches a record that overlaps one of its maximal blocks
 pub touched : {m top : ℕ} {keys : List ℕ} → Spaced m 0 keys → {W : Window} → Inside m W → top ≤ m → {b : Px} → Corner W top b
     → {n j t : ℕ} → Record m keys n j t → Overlap (place (b .0) (b .1)) (4 ^ exponent W top b) t (4 ^ j) → Touches m keys W n
 touched {m} {keys = keys} F I small C {n} R o =
@@ -99,30 +99,40 @@ module _ {m : ℕ} {keys keys′ classes classes′ : List ℕ} {W : Window} whe
   -- the same as a list exactly when it is the same as a set
   pub views-one : Spaced m 0 keys → Spaced m 0 keys′ → SameView m keys classes keys′ classes′ W ↔ ((r : ℕ × ℕ) → InView m keys classes W r ↔ InView m keys′ classes′ W r)
   views-one F F′ = (
-    λ same r. (
-      λ v. view-has F′ W classes′ r .0 (rw (same .one) at (view-has F W classes r .1 v)),
-      λ v. view-has F W classes r .0 (rw (← same .one) at (view-has F′ W classes′ r .1 v)),
-    ),
-    λ same. record {
-      one = same-ordered (λ x y a b. omega arith) (view-ordered F W classes) (view-ordered F′ W classes′) (
-          λ r. (
-            λ l. view-has F′ W classes′ r .1 (same r .0 (view-has F W classes r .0 l)),
-            λ l. view-has F W classes r .1 (same r .1 (view-has F′ W classes′ r .0 l)),
-          )
-          );
-    },
+    λ same r. (λ v. has′ r .0 (rw (same .one) at (has r .1 v)), λ v. has r .0 (rw (← same .one) at (has′ r .1 v))),
+    λ same. record { one = same-ordered (λ x y a b. omega arith) (view-ordered F W classes) (view-ordered F′ W classes′) (elements same) },
   )
+    where
+      has : (r : ℕ × ℕ) → List·Memᴰ r (view m keys classes W) ↔ InView m keys classes W r
+      has = view-has F W classes
+
+      has′ : (r : ℕ × ℕ) → List·Memᴰ r (view m keys′ classes′ W) ↔ InView m keys′ classes′ W r
+      has′ = view-has F′ W classes′
+
+      elements : ((r : ℕ × ℕ) → InView m keys classes W r ↔ InView m keys′ classes′ W r) → (r : ℕ × ℕ)
+          → List·Memᴰ r (view m keys classes W) ↔ List·Memᴰ r (view m keys′ classes′ W)
+      elements same r = (λ l. has′ r .1 (same r .0 (has r .0 l)), λ l. has r .1 (same r .1 (has′ r .0 l)))
 
   -- then each pixel of the window has the same record in both
   pub pixel-view : Follow m 0 keys → Spaced m 0 keys′ → Inside m W → SameView m keys classes keys′ classes′ W → {p : Px} → In W p
       → recordAt keys classes (pixelRecord m keys (p .0) (p .1)) ≡ recordAt keys′ classes′ (pixelRecord m keys′ (p .0) (p .1))
-  pixel-view F F′ I same {p} v =
-      let H = pixel-holder F (pixel-in I v) in
-      let e = record-of (spaced F) H in
-      let own : InView m keys classes W (recordAt keys classes (pixelRecord m keys (p .0) (p .1))) =
-      record { index = pixelRecord m keys (p .0) (p .1); overlaps = (record { at = p; inside = v; is = refl }, omega (arith, e, H .is .within)); is = refl } in
-      let x = views-one (spaced F) F′ .0 same _ .0 own in
-      let key : getD keys′ (x .index) 0 ≡ getD keys (H .index) 0 = ap (λ (r : ℕ × ℕ). r .0) (x .is) ∙ ap (λ (n : ℕ). getD keys n 0) e in
-      let H′ : Holder m keys′ (place (p .0) (p .1)) =
-      record { index = x .index; exponent = H .exponent; start = H .start; is = record { within = x .overlaps .1; names = rw key (H .is .names) }; has = H .has } in
-      sym (x .is) ∙ ap (recordAt keys′ classes′) (sym (record-of F′ H′))
+  pixel-view F F′ I same {p} v = sym (x .is) ∙ ap (recordAt keys′ classes′) (sym (record-of F′ held))
+    where
+      n : ℕ
+      n = pixelRecord m keys (p .0) (p .1)
+
+      H : Holder m keys (place (p .0) (p .1))
+      H = pixel-holder F (pixel-in I v)
+
+      own : InView m keys classes W (recordAt keys classes n)
+      own = record { index = n; overlaps = (record { at = p; inside = v; is = refl }, omega (arith, record-of (spaced F) H, H .is .within)); is = refl }
+
+      x : InView m keys′ classes′ W (recordAt keys classes n)
+      x = views-one (spaced F) F′ .0 same (recordAt keys classes n) .0 own
+
+      key : getD keys′ (x .index) 0 ≡ getD keys (H .index) 0
+      key = ap (λ (r : ℕ × ℕ). r .0) (x .is) ∙ ap (λ (i : ℕ). getD keys i 0) (record-of (spaced F) H)
+
+      -- the record of the same key has the same places
+      held : Holder m keys′ (place (p .0) (p .1))
+      held = record { index = x .index; exponent = H .exponent; start = H .start; is = record { within = x .overlaps .1; names = rw key (H .is .names) }; has = H .has }

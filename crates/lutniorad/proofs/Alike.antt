@@ -16,7 +16,7 @@ use Rattle.map.specs.Sound.{SoundMap}
 use Rattle.map.proofs.Laws.{spaced}
 use Rattle.border.specs.Openings.{Opening, openings, handedCount, cellsOf}
 use Rattle.border.specs.ViewPromises.{SameView}
-use Rattle.border.proofs.Laws.{cells-length, openings-tell, brought-numbers}
+use Rattle.border.proofs.Laws.{cells-length, openings-numbers}
 use Rattle.used.specs.Used.{useRefusals}
 use Rattle.used.proofs.Laws.{use-answerable, use-sound}
 use Rattle.exist.proofs.Laws.{presence-view}
@@ -85,7 +85,7 @@ module _ {m : ℕ} {keys classes keys′ classes′ : List ℕ} {W : Window} (S 
 
       numbers : top ≤ m → Inside m W → (length (cellsOf os) ≡ length (cellsOf os′)) × (values (length os) (handedCount os) ≡ values (length os′) (handedCount os′))
       numbers cap I =
-          let n = brought-numbers keys classes keys′ classes′ os os′ (openings-tell (spaced (S .records)) (spaced (S′ .records)) I cap classes classes′ .1 same) in
+          let n = openings-numbers (spaced (S .records)) (spaced (S′ .records)) I cap same in
           (cells-length os ∙ ap (λ (x : ℕ). 3 * x) (n .0) ∙ sym (cells-length os′), ap₂ values (n .0) (n .1))
 
   pub exist-alike : (class : ℕ) (border other : List ℕ) {r r′ : Answer} {border′ other′ : List ℕ} → length border ≡ length other

@@ -3,19 +3,18 @@
 use mathlib.Core.Path.{_≡_, sym, ap, ap₂, _∙_}
 use mathlib.Core.Logic.{_↔_}
 use mathlib.Core.List.{List, [], map}
-use Prim.Native.Nat.{ℕ, _+_, _*_, _<_}
+use Prim.Native.Nat.{ℕ, _+_, _*_, _≤_, _<_}
 use native.Mathlib.Omega.{arith}
-use lib.ListN.{length, getD, take, drop, length-map}
-use Rattle.lists.specs.Lists.{upFrom}
-use Rattle.lists.proofs.Laws.{up-length}
+use lib.ListN.{length, getD, take, drop}
 use Rattle.answers.specs.Cells.{overwrite}
 use Rattle.answers.proofs.Laws.{overwrite-at}
 use Rattle.window.specs.declared.Window.{Window}
 use Rattle.map.proofs.Laws.{spaced}
 use Rattle.border.specs.Openings.{Opening, openings, handedCount, cellsOf}
 use Rattle.border.specs.Promises.{openingsIn}
-use Rattle.border.specs.ViewPromises.{recordAt, SameView, openingIn, brought}
-use Rattle.border.proofs.Laws.{cells-length, openings-tell, brought-at, brought-numbers}
+use Rattle.border.specs.ViewPromises.{SameView, openingIn, brought}
+use Rattle.border.proofs.Laws.{cells-length, openings-tell, openings-numbers, brought-length, brought-at}
+use Rattle.used.specs.Promises.{Answerable}
 use Rattle.many.specs.Many.{windowAt, lineCells}
 use Rattle.many.proofs.Laws.{line-view}
 use Rattle.exist.proofs.Laws.{presence-view}
@@ -62,11 +61,17 @@ module _ (m top : ℕ) (keys classes keys′ classes′ : List ℕ) (W : Window)
   abbrev os′ : List Opening
   os′ = openings m top keys′ W
 
+  cap : top ≤ m
+  cap = open-answered m top keys classes W border out call .0 z .0
+
+  A : Answerable m keys (length classes) W (length border)
+  A = open-answered m top keys classes W border out call .0 z .1 .0
+
+  A′ : Answerable m keys′ (length classes′) W (length other)
+  A′ = open-answered m top keys′ classes′ W other older call′ .0 z′ .1 .0
+
   tell : (map (brought keys classes) os ≡ map (brought keys′ classes′) os′) ↔ SameView m keys classes keys′ classes′ W
-  tell =
-      let A = open-answered m top keys classes W border out call .0 z in
-      let A′ = open-answered m top keys′ classes′ W other older call′ .0 z′ in
-      openings-tell (spaced (A .1 .0 .sound .records)) (spaced (A′ .1 .0 .sound .records)) (A .1 .0 .inside) (A .0) classes classes′
+  tell = openings-tell (spaced (A .sound .records)) (spaced (A′ .sound .records)) (A .inside) cap classes classes′
 
   -- with the records themselves in place of the first indices, the openings tell the view, and nothing else
   pub open-tells : (map (brought keys classes) (openingsIn (take (3 * r .first) out′)) ≡ map (brought keys′ classes′) (openingsIn (take (3 * r′ .first) older′)))
@@ -77,7 +82,8 @@ module _ (m top : ℕ) (keys classes keys′ classes′ : List ℕ) (W : Window)
   open-view same = record {
     numbers = says ∙ ap₂ values (n .0) (n .1) ∙ sym (open-leaves m top keys′ classes′ W other older call′ z′ .0);
     opened = λ j l. ap (λ (x : ℕ × List (ℕ × ℕ)). x .0) (one j l);
-    counts = λ j l. sym (long keys classes _ _) ∙ ap (λ (x : ℕ × List (ℕ × ℕ)). length (x .1)) (one j l) ∙ long keys′ classes′ _ _;
+    counts = λ j l.
+        sym (brought-length keys classes (openingIn out′ j)) ∙ ap (λ (x : ℕ × List (ℕ × ℕ)). length (x .1)) (one j l) ∙ brought-length keys′ classes′ (openingIn older′ j);
     records = λ j l. ap (λ (x : ℕ × List (ℕ × ℕ)). x .1) (one j l);
   }
     where
@@ -85,7 +91,7 @@ module _ (m top : ℕ) (keys classes keys′ classes′ : List ℕ) (W : Window)
       says = open-leaves m top keys classes W border out call z .0
 
       n : (length os ≡ length os′) × (handedCount os ≡ handedCount os′)
-      n = brought-numbers keys classes keys′ classes′ os os′ (tell .1 same)
+      n = openings-numbers (spaced (A .sound .records)) (spaced (A′ .sound .records)) (A .inside) cap same
 
       one : (j : ℕ) → j < r .first → brought keys classes (openingIn out′ j) ≡ brought keys′ classes′ (openingIn older′ j)
       one j l =
@@ -93,9 +99,6 @@ module _ (m top : ℕ) (keys classes keys′ classes′ : List ℕ) (W : Window)
           left-at m top keys classes W border out call z j h
           ∙ ap (λ (x : List (ℕ × List (ℕ × ℕ))). getD x j (0, [])) (tell .1 same)
           ∙ sym (left-at m top keys′ classes′ W other older call′ z′ j (omega (arith, h, n .0)))
-
-      long : (ks cs : List ℕ) (a c : ℕ) → length (map (recordAt ks cs) (upFrom a c)) ≡ c
-      long ks cs a c = length-map (upFrom a c) (recordAt ks cs) ∙ up-length a c
 
 -- ---- the others
 

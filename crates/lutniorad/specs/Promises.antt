@@ -1,5 +1,5 @@
--- What is promised of each call that was answered, in the words of the scope: by the numbers that it returned and the cells that it left. Many windows, reasons, months and windows
--- that share pixels have files of their own.
+-- What is promised of each call that was answered, in the words of the scope: by the numbers that it returned and the cells that it left. Many windows, reasons, months, windows that
+-- share pixels and views have files of their own.
 -- Assumes nothing.
 use mathlib.Core.Path.{_≡_}
 use mathlib.Core.Logic.{_↔_, _≢_}

@@ -15,7 +15,7 @@ use Rattle.window.proofs.Laws.{inside, window-refused, window-passed}
 use Rattle.map.specs.Sound.{Spaced}
 use Rattle.border.specs.Openings.{openings, handedCount}
 use Rattle.border.specs.ViewPromises.{SameView}
-use Rattle.border.proofs.Laws.{openings-tell, brought-numbers}
+use Rattle.border.proofs.Laws.{openings-numbers}
 use Rattle.many.specs.Many.{windowAt, windowsIn, line, lineOf, lineCells, linesOf}
 use Rattle.many.proofs.Windows.{windowsFrom, windows-count, windows-split}
 
@@ -76,11 +76,10 @@ module _ (m : ℕ) (keys : List ℕ) where
 -- on two maps with the same view through the window the line is the same
 pub line-view : {m : ℕ} {keys keys′ : List ℕ} → Spaced m 0 keys → Spaced m 0 keys′ → {W : Window} {classes classes′ : List ℕ} → SameView m keys classes keys′ classes′ W
     → lineOf m keys W ≡ lineOf m keys′ W
-line-view {m} {keys} {keys′} F F′ {W} {classes} {classes′} same = go (outside m W) refl
+line-view {m} {keys} {keys′} F F′ {W} same = go (outside m W) refl
   where
     go : (b : Bool) → outside m W ≡ b → lineOf m keys W ≡ lineOf m keys′ W
     go true e = line-outside m keys W e ∙ sym (line-outside m keys′ W e)
     go false e =
-        let all = openings-tell {top = m} F F′ (inside m W e) (omega arith) classes classes′ .1 same in
-        let n = brought-numbers keys classes keys′ classes′ (openings m m keys W) (openings m m keys′ W) all in
+        let n = openings-numbers {top = m} F F′ (inside m W e) (omega arith) same in
         line-inside m keys W e ∙ rw (n .0, n .1) (sym (line-inside m keys′ W e))
