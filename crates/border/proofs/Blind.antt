@@ -134,14 +134,15 @@ module _ {m top : ℕ} {keys : List ℕ} (F : Spaced m 0 keys) {W : Window} (I :
 pub openings-tell : {m top : ℕ} {keys keys′ : List ℕ} → Spaced m 0 keys → Spaced m 0 keys′ → {W : Window} → Inside m W → top ≤ m → (classes classes′ : List ℕ)
     → (map (brought keys classes) (openings m top keys W) ≡ map (brought keys′ classes′) (openings m top keys′ W)) ↔ SameView m keys classes keys′ classes′ W
 openings-tell {m} {top} {keys} {keys′} F F′ {W} I small classes classes′ = (
-  λ e. views-one F F′ .1 (
-      λ r. (
-        λ v. in-brought F′ I small classes′ r .1 (rw e at (in-brought F I small classes r .0 v)),
-        λ v. in-brought F I small classes r .1 (rw (← e) at (in-brought F′ I small classes′ r .0 v)),
-      )
-      ),
+  λ e. views-one F F′ .1 (λ r. (λ v. has′ r .1 (rw e at (has r .0 v)), λ v. has r .1 (rw (← e) at (has′ r .0 v)))),
   λ same. openings-view F I small classes ∙ ap (broughtBy m top W) (same .one) ∙ sym (openings-view F′ I small classes′),
 )
+  where
+    has : (r : ℕ × ℕ) → InView m keys classes W r ↔ Brings r (map (brought keys classes) (openings m top keys W))
+    has = in-brought F I small classes
+
+    has′ : (r : ℕ × ℕ) → InView m keys′ classes′ W r ↔ Brings r (map (brought keys′ classes′) (openings m top keys′ W))
+    has′ = in-brought F′ I small classes′
 
 -- ---- in the cells
 
@@ -150,6 +151,7 @@ module _ (keys classes : List ℕ) where
   pub brought-length : (o : Opening) → length (map (recordAt keys classes) (hands o)) ≡ o .count
   brought-length o = length-map (hands o) (recordAt keys classes) ∙ up-length (o .first) (o .count)
 
+  -- and openings together as many as they count together
   count-brought : (os : List Opening) → handedCount os ≡ sum (map (λ x. length (x .1)) (map (brought keys classes) os))
   unfolding handedCount
   count-brought [] = sym sum-none
