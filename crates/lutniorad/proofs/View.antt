@@ -84,7 +84,7 @@ module _ (m top : ℕ) (keys classes keys′ classes′ : List ℕ) (W : Window)
     opened = λ j l. ap (λ (x : ℕ × List (ℕ × ℕ)). x .0) (one j l);
     counts = λ j l.
         sym (brought-length keys classes (openingIn out′ j)) ∙ ap (λ (x : ℕ × List (ℕ × ℕ)). length (x .1)) (one j l) ∙ brought-length keys′ classes′ (openingIn older′ j);
-    records = λ j l. ap (λ (x : ℕ × List (ℕ × ℕ)). x .1) (one j l);
+    brings = one;
   }
     where
       says : r ≡ values (length os) (handedCount os)
