@@ -1,4 +1,4 @@
--- The classes of a map: of a record, and of a pixel.
+-- The classes of a map: of a record, of a place, and of a pixel.
 -- Assumes nothing.
 use mathlib.Core.Bool.{Bool}
 use mathlib.Core.List.{List}
@@ -6,11 +6,19 @@ use Prim.Native.Nat.{ℕ}
 use lib.Dec.{eqb}
 use lib.ListN.{getD}
 use Rattle.key.specs.Picture.{Px}
-use Rattle.map.specs.Records.{pixelRecord}
+use Rattle.map.specs.Records.{recordOf, pixelRecord}
 
 -- record n has the class
 abbrev pub classed : List ℕ → ℕ → ℕ → Bool
 classed classes class n = eqb (getD classes n 0) class
+
+-- a place has the class of its record, or that of the background where it is in none: `recordOf` is then the number of records, and there are no more classes
+abbrev pub classOver : ℕ → ℕ → List ℕ → List ℕ → ℕ → ℕ
+classOver background m keys classes q = getD classes (recordOf m keys q) background
+
+-- in a whole map no place has that of the background
+abbrev pub classIn : ℕ → List ℕ → List ℕ → ℕ → ℕ
+classIn = classOver 0
 
 -- a pixel has the class of its record
 abbrev pub hasClass : ℕ → List ℕ → List ℕ → ℕ → Px → Bool
