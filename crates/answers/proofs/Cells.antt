@@ -2,7 +2,7 @@
 -- Assumes nothing.
 use mathlib.Core.Path.{_≡_, refl, sym, ap, subst, _∙_}
 use mathlib.Core.Logic.{_↔_}
-use mathlib.Core.Bool.{Bool, true, false, not, _||_}
+use mathlib.Core.Bool.{Bool, true, false, not, _&&_, _||_}
 use mathlib.Core.List.{List, [], _∷_, _++_, append-assoc, append-nil}
 use Prim.Native.Nat.{ℕ, _+_, _-_, _≤_, _<_}
 use native.Mathlib.Nat.{zero-add}
@@ -12,10 +12,10 @@ use lib.Dec.{eqb, ltb}
 use lib.ListN.{length, take, drop, getD, set, length-append, length-drop}
 use lib.Seq.{getD-take, getD-drop, take-at, drop-at, set-at, drop-drop, drop-cons, drop-length, sets, sets-eq}
 use borrow.Author.Tests.{ltb-false, eqb-false, eqb-true, lt-ltb, le-ltb, eq-eqb, ne-eqb, not-false}
-use Rattle.lists.proofs.Laws.{neither}
+use Rattle.lists.proofs.Laws.{never, neither}
 use Rattle.answers.specs.declared.Verdict.the-variants.{Passed, Refused}
 use Rattle.answers.specs.Refusals.{refusal, verdict}
-use Rattle.answers.specs.Sizes.{pictureRefusals, countRefusals, wrongCount, sizeRefusals, Sized}
+use Rattle.answers.specs.Sizes.{pictureRefusals, countRefusals, wrongCount, sizeRefusalsIn, SizedIn}
 use Rattle.answers.specs.Cells.{overwrite}
 use Rattle.answers.proofs.Tables.{answer-none, refusal-held, refusal-clear, append-refused, passed-one, passed-next}
 
@@ -30,40 +30,51 @@ module _ (m : ℕ) where
   unfolding pictureRefusals
   picture-refused l = refusal-held Refused 1 0 [] Passed (lt-ltb 12 m l)
 
-module _ {m keys classes : ℕ} where
-  pub sized : (verdict (sizeRefusals m keys classes) ≡ Passed) ↔ Sized m keys classes
-  unfolding sizeRefusals pictureRefusals countRefusals wrongCount
+module _ {whole : Bool} {m keys classes : ℕ} where
+  pub sized : (verdict (sizeRefusalsIn whole m keys classes) ≡ Passed) ↔ SizedIn whole m keys classes
+  unfolding sizeRefusalsIn pictureRefusals countRefusals wrongCount
   sized = (to, from)
     where
-      to : verdict (refusal (ltb 12 m) 1 0 ∷ refusal (wrongCount keys classes) 2 0 ∷ []) ≡ Passed → Sized m keys classes
+      some : (b : Bool) → (b && eqb keys 0) ≡ false → b ≡ true → 1 ≤ keys
+      some true e d = let n = eqb-false keys 0 e in omega (arith, n)
+      some false e d = never (sym d)
+
+      none : (b : Bool) → (b ≡ true → 1 ≤ keys) → (b && eqb keys 0) ≡ false
+      none true s = ne-eqb keys 0 (λ e. omega (arith, s refl))
+      none false s = refl
+
+      to : verdict (refusal (ltb 12 m) 1 0 ∷ refusal (wrongCount whole keys classes) 2 0 ∷ []) ≡ Passed → SizedIn whole m keys classes
       to e =
           let one = passed-next (ltb 12 m) 1 0 _ .0 e in
-          let two = passed-next (wrongCount keys classes) 2 0 [] .0 (one .1) in
-          let most = neither (not (eqb keys classes) || eqb keys 0) (ltb 65536 keys) (two .0) in
-          let some = neither (not (eqb keys classes)) (eqb keys 0) (most .0) in
-          let many = eqb-false keys 0 (some .1) in
+          let two = passed-next (wrongCount whole keys classes) 2 0 [] .0 (one .1) in
+          let most = neither (not (eqb keys classes) || (whole && eqb keys 0)) (ltb 65536 keys) (two .0) in
+          let same = neither (not (eqb keys classes)) (whole && eqb keys 0) (most .0) in
           record {
             small = ltb-false 12 m (one .0);
-            same = eqb-true keys classes (not-false _ (some .0));
-            some = omega (arith, many);
+            same = eqb-true keys classes (not-false _ (same .0));
+            some = some whole (same .1);
             most = ltb-false 65536 keys (most .1);
           }
 
-      from : Sized m keys classes → verdict (refusal (ltb 12 m) 1 0 ∷ refusal (wrongCount keys classes) 2 0 ∷ []) ≡ Passed
+      from : SizedIn whole m keys classes → verdict (refusal (ltb 12 m) 1 0 ∷ refusal (wrongCount whole keys classes) 2 0 ∷ []) ≡ Passed
       from s =
-          let right : wrongCount keys classes ≡ false = rw (eq-eqb keys classes (s .same), ne-eqb keys 0 (λ e. omega (arith, s .some)), le-ltb 65536 keys (s .most)) in
-          passed-next (ltb 12 m) 1 0 _ .1 (le-ltb 12 m (s .small), passed-next (wrongCount keys classes) 2 0 [] .1 (right, answer-none Refused Passed))
+          let right : wrongCount whole keys classes ≡ false = rw (eq-eqb keys classes (s .same), none whole (s .some), le-ltb 65536 keys (s .most)) in
+          passed-next (ltb 12 m) 1 0 _ .1 (le-ltb 12 m (s .small), passed-next (wrongCount whole keys classes) 2 0 [] .1 (right, answer-none Refused Passed))
 
-module _ (m keys classes : ℕ) where
-  pub over-12 : 12 < m → verdict (sizeRefusals m keys classes) ≡ Refused 1 0
-  unfolding sizeRefusals
+-- what is asked of a whole map is more
+pub sized-sparse : {whole : Bool} {m keys classes : ℕ} → SizedIn whole m keys classes → SizedIn false m keys classes
+sized-sparse s = record { small = s .small; same = s .same; some = λ e. never (sym e); most = s .most }
+
+module _ (whole : Bool) (m keys classes : ℕ) where
+  pub over-12 : 12 < m → verdict (sizeRefusalsIn whole m keys classes) ≡ Refused 1 0
+  unfolding sizeRefusalsIn
   over-12 l = append-refused Refused (pictureRefusals m) _ _ (picture-refused m l)
 
-  pub not-sized : m ≤ 12 → (Sized m keys classes → ⊥) → verdict (sizeRefusals m keys classes) ≡ Refused 2 0
-  unfolding sizeRefusals pictureRefusals countRefusals
-  not-sized l wrong = go (wrongCount keys classes) refl
+  pub not-sized : m ≤ 12 → (SizedIn whole m keys classes → ⊥) → verdict (sizeRefusalsIn whole m keys classes) ≡ Refused 2 0
+  unfolding sizeRefusalsIn pictureRefusals countRefusals
+  not-sized l wrong = go (wrongCount whole keys classes) refl
     where
-      go : (t : Bool) → wrongCount keys classes ≡ t → verdict (refusal (ltb 12 m) 1 0 ∷ refusal (wrongCount keys classes) 2 0 ∷ []) ≡ Refused 2 0
+      go : (t : Bool) → wrongCount whole keys classes ≡ t → verdict (refusal (ltb 12 m) 1 0 ∷ refusal (wrongCount whole keys classes) 2 0 ∷ []) ≡ Refused 2 0
       go true e = refusal-clear Refused 1 0 _ _ (le-ltb 12 m l) ∙ refusal-held Refused 2 0 [] _ e
       go false e = absurd (wrong (sized .0 (refusal-clear Refused 1 0 _ _ (le-ltb 12 m l) ∙ refusal-clear Refused 2 0 [] _ e ∙ answer-none Refused Passed)))
 

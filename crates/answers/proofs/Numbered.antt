@@ -10,7 +10,7 @@ use Rattle.lists.proofs.Laws.{never}
 use Rattle.answers.specs.declared.Verdict.{Verdict}
 use Rattle.answers.specs.declared.Verdict.the-variants.{Passed, Refused}
 use Rattle.answers.specs.Refusals.{Refusal, refusal, answer, verdict}
-use Rattle.answers.specs.Sizes.{pictureRefusals, countRefusals, sizeRefusals}
+use Rattle.answers.specs.Sizes.{pictureRefusals, countRefusals, sizeRefusalsIn}
 use Rattle.answers.specs.After.{roomRefusals}
 use Rattle.answers.proofs.Tables.{answer-none, refusal-held, refusal-clear, append-passed, append-refused, refused-not-passed}
 
@@ -31,9 +31,9 @@ module _ {most : ℕ} where
   unfolding pictureRefusals
   numbered-picture m h = numbered-next 1 (omega arith) h none
 
-  pub numbered-sizes : (m keys classes : ℕ) → 2 ≤ most → Numbered most (sizeRefusals m keys classes)
-  unfolding sizeRefusals countRefusals
-  numbered-sizes m keys classes h = numbered-append (numbered-picture m (omega arith)) (numbered-next 2 (omega arith) h none)
+  pub numbered-sizes : (whole : Bool) (m keys classes : ℕ) → 2 ≤ most → Numbered most (sizeRefusalsIn whole m keys classes)
+  unfolding sizeRefusalsIn countRefusals
+  numbered-sizes whole m keys classes h = numbered-append (numbered-picture m (omega arith)) (numbered-next 2 (omega arith) h none)
 
   pub numbered-room : (room needed : ℕ) → 8 ≤ most → Numbered most (roomRefusals room needed)
   unfolding roomRefusals

@@ -2,7 +2,7 @@
 // Stands below keys, maps and files, which share the refusals 1, 2 and 17.
 ghost use mathlib.Core.Path.{_≡_};
 ghost use Rattle.answers.specs.Refusals.{verdict};
-ghost use Rattle.answers.specs.Sizes.{sizeRefusals, tileRefusals};
+ghost use Rattle.answers.specs.Sizes.{sizeRefusalsIn, tileRefusals};
 ghost use Rattle.answers.specs.Cells.{put};
 
 // What a table of refusals says: none of them holds, or the first that does, by its number and its place.
@@ -11,9 +11,9 @@ pub enum Verdict {
     Refused { number: u32, place: u32 },
 }
 
-// Refusals 1 and 2 of a picture of 2^m by 2^m pixels whose map has so many keys and classes.
-pub fn sizes(m: u32, keys: usize, classes: usize) -> Verdict
-    ensures { λ r. ⌜ r ≡ verdict (sizeRefusals m keys classes) ⌝ }
+// Refusals 1 and 2 of a picture of 2^m by 2^m pixels whose map has so many keys and classes. Only a map that is to be whole must have a record.
+pub fn sizes(m: u32, keys: usize, classes: usize, whole: bool) -> Verdict
+    ensures { λ r. ⌜ r ≡ verdict (sizeRefusalsIn whole m keys classes) ⌝ }
 {
     if m > 12 {
         return Verdict::Refused {
@@ -27,17 +27,20 @@ pub fn sizes(m: u32, keys: usize, classes: usize) -> Verdict
             place: 0,
         };
     }
-    if keys == 0 {
-        return Verdict::Refused {
-            number: 2,
-            place: 0,
-        };
-    }
     if keys > 65536 {
         return Verdict::Refused {
             number: 2,
             place: 0,
         };
+    }
+    if whole {
+        if keys == 0 {
+            return Verdict::Refused {
+                number: 2,
+                place: 0,
+            };
+        }
+        return Verdict::Passed;
     }
     Verdict::Passed
 }

@@ -5,13 +5,13 @@ use mathlib.Core.List.{List, [], _∷_}
 use Prim.Native.Nat.{ℕ}
 use lib.ListN.{take}
 use Rattle.answers.specs.Refusals.{answer}
-use Rattle.answers.specs.Sizes.{wrongCount, sizeRefusals, pictureRefusals, countRefusals}
+use Rattle.answers.specs.Sizes.{wrongCount, sizeRefusalsIn, pictureRefusals, countRefusals}
 use Rattle.answers.proofs.P1.{keys, classes}
 use Rattle.key.specs.Form.{from, formOf}
 use Rattle.map.specs.Spans as spans
-use Rattle.map.specs.Check.{late, refusalsFrom, mapRefusals}
+use Rattle.map.specs.Check.{late, refusalsFrom, mapRefusalsIn}
 use Rattle.numbers.specs.Numbers.{bytes, number, bytesOf, numbers}
-use Rattle.house.specs.File.{header, fileOf, layoutRefusals, fileM, fileQ, readRefusals, fileKeys, fileClasses}
+use Rattle.house.specs.File.{header, fileOf, layoutRefusals, fileM, fileQ, readRefusalsIn, fileKeys, fileClasses}
 use Rattle.text.specs.Text.{digits, digitsOf, spaced, lineOf}
 use Rattle.input.specs.Input.{announcedOf, wholeOf}
 use Rattle.beginning.specs.Beginning.{mapText, startRefusals, startText, fileIn}
@@ -36,8 +36,8 @@ pub record Examples : Type 0 where
   pub in-length : fileIn file 3 ≡ []
 
 pub examples : Examples
-unfolding pictureRefusals countRefusals answer wrongCount sizeRefusals from formOf spans.malformed spans.formExponent spans.start spans.end late refusalsFrom mapRefusals digits digitsOf spaced lineOf
-    bytes number bytesOf numbers header fileOf layoutRefusals fileM fileQ readRefusals fileKeys fileClasses mapText startRefusals startText announcedOf wholeOf
+unfolding pictureRefusals countRefusals answer wrongCount sizeRefusalsIn from formOf spans.malformed spans.formExponent spans.start spans.end late refusalsFrom mapRefusalsIn digits digitsOf spaced lineOf
+    bytes number bytesOf numbers header fileOf layoutRefusals fileM fileQ readRefusalsIn fileKeys fileClasses mapText startRefusals startText announcedOf wholeOf
 examples = record {
   p1-start = refl;
   p9-start = refl;

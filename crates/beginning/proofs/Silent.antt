@@ -2,6 +2,7 @@
 -- Assumes nothing.
 use mathlib.Core.Path.{_≡_}
 use mathlib.Core.Logic.{_↔_}
+use mathlib.Core.Bool.{true}
 use mathlib.Core.List.{List, []}
 use Prim.Native.Nat.{ℕ}
 use lib.ListN.{length}
@@ -23,6 +24,6 @@ pub start-silent : (file : List ℕ) → (startText file ≡ []) ↔ (Readable f
 unfolding startText startRefusals
 start-silent file =
     let both = passed-append (readRefusals file 1000 1000) (mapRefusals (fileM file) (fileKeys file) (length (fileClasses file))) in
-    let read = read-passed file 1000 1000 in
+    let read = read-passed true file 1000 1000 in
     let map = sound-map (fileM file) (fileKeys file) (length (fileClasses file)) in
     (λ e. let p = both .0 (silent _ .0 e) in (read .0 (p .0), map .0 (p .1)), λ p. silent _ .1 (both .1 (read .1 (p .0), map .1 (p .1))))

@@ -1,6 +1,7 @@
 -- What is printed for a map and for a file, as the calls answer; and that where nothing is, the map is sound.
 -- Assumes nothing.
 use mathlib.Core.Path.{_≡_, refl, sym, ap, _∙_}
+use mathlib.Core.Bool.{true}
 use mathlib.Core.List.{List, [], _∷_}
 use Prim.Native.Nat.{ℕ, _≤_}
 use native.Mathlib.Omega.{arith}
@@ -48,7 +49,7 @@ start-by : (file ks cs : List ℕ) → length ks ≡ 1000 → length cs ≡ 1000
 unfolding startText startRefusals mapText by
 start-by file ks cs k c =
     let read = readRefusals file 1000 1000 in
-    rw (read-by-lengths file ks cs, k, c)
+    rw (read-by-lengths true file ks cs, k, c)
     (answer-part (by (mapped file)) reading.Refused read (reading.Read (fileM file) (fileQ file)) ∙ sym (answer-append refusalLine read _ []))
 
 -- a file was read into cells for 1,000 records: the answer, and the cells then
@@ -62,10 +63,10 @@ module _ {file ks cs : List ℕ} {r : Reading} {ks′ cs′ : List ℕ} (g : Got
   told d = sym (g .is) ∙ ap (λ (x : Reading). after x (ks′, cs′)) d
 
   pub start-room : {m q : ℕ} → r ≡ reading.Read m q → q ≤ 1000
-  start-room d = omega (arith, read-room file ks cs (told d), g .keys)
+  start-room d = omega (arith, read-room true file ks cs (told d), g .keys)
 
   pub start-holds : {m q : ℕ} → r ≡ reading.Read m q → FileMap file m (take q ks′) (take q cs′)
-  start-holds d = read-holds file ks cs (told d)
+  start-holds d = read-holds true file ks cs (told d)
 
   by-answer : {a : Reading} → r ≡ a → by (mapped file) a ≡ startText file
   by-answer d = rw (← ap (λ (x : After Reading (List ℕ × List ℕ)). x .answer) (told d)) (start-by file ks cs (g .keys) (g .classes))

@@ -19,7 +19,7 @@ pub struct Begun {
 fn put_map(m: u32, keys: &[u32], classes: &[u8], out: &mut [u8]) -> usize
     ensures { λ r. ⌜ after r (now (out .exit)) ≡ putOf (mapText m (now (keys .entry)) (now (classes .entry))) (now (out .entry)) ⌝ }
 {
-    let sound = checks::sound(m, keys, classes);
+    let sound = checks::sound(m, keys, classes, true);
     let Verdict::Refused { number, place } = sound else {
         return 0;
     };
@@ -31,7 +31,7 @@ fn put_start(file: &[u8], keys: &mut [u32], classes: &mut [u8], out: &mut [u8]) 
     requires { ⌜ (length (now keys) ≡ 1000) × (length (now classes) ≡ 1000) ⌝ }
     ensures { λ r. ⌜ Started (now (file .entry)) r (now (keys .exit)) (now (classes .exit)) (now (out .entry)) (now (out .exit)) ⌝ }
 {
-    let reading = house_read::read(file, keys, classes);
+    let reading = house_read::read(file, keys, classes, true);
     match reading {
         Reading::Refused { number, place } => Begun {
             m: 0,

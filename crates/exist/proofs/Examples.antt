@@ -5,7 +5,7 @@ use mathlib.Core.List.{List, [], _∷_}
 use Prim.Native.Nat.{ℕ}
 use Rattle.lists.specs.Lists.{upFrom, any, before, howMany}
 use Rattle.answers.specs.Refusals.{answer}
-use Rattle.answers.specs.Sizes.{wrongCount, sizeRefusals, pictureRefusals, countRefusals}
+use Rattle.answers.specs.Sizes.{wrongCount, sizeRefusalsIn, pictureRefusals, countRefusals}
 use Rattle.answers.specs.Cells.{overwrite}
 use Rattle.answers.specs.After.{after}
 use Rattle.answers.proofs.P1.{keys, classes, glare, old}
@@ -14,13 +14,14 @@ use Rattle.key.specs.Picture.{place}
 use Rattle.key.specs.Form.{from, formOf}
 use Rattle.window.specs.Window.{window, beyond, outside, windowRefusals}
 use Rattle.window.specs.Blocks.{across, rows}
+use Rattle.window.specs.Rules.{existsBy}
 use Rattle.window.proofs.P1.{W}
 use Rattle.map.specs.Spans as spans
-use Rattle.map.specs.Check.{late, refusalsFrom, mapRefusals}
+use Rattle.map.specs.Check.{late, refusalsFrom, mapRefusalsIn}
 use Rattle.map.specs.Records.{recordOf}
-use Rattle.used.specs.Used.{useRefusals, spent, borderRefusals}
+use Rattle.used.specs.Used.{useRefusalsIn, spent, borderRefusals}
 use Rattle.exist.specs.declared.Existence.the-variants as existence
-use Rattle.exist.specs.Exist.{exists, presence, existing, existOf}
+use Rattle.exist.specs.Exist.{presenceBy, existingBy, existOf, existIn}
 
 -- the four pixels of a picture
 abbrev pixels : List ℕ
@@ -42,9 +43,9 @@ pub record Examples : Type 0 where
   pub glare-elsewhere : existOf 1 pixels (255 ∷ 0 ∷ 0 ∷ 0 ∷ []) (window 1 0 1 2) 7 (old 2) ≡ after existence.No (2 ∷ 2 ∷ [])
 
 pub examples : Examples
-unfolding pictureRefusals countRefusals borderRefusals answer wrongCount sizeRefusals overwrite upFrom spreadTo spread place from formOf beyond
-    outside windowRefusals across rows spans.malformed spans.formExponent spans.start spans.end spans.holds late refusalsFrom mapRefusals before
-    howMany recordOf any useRefusals spent exists presence existing existOf
+unfolding pictureRefusals countRefusals borderRefusals answer wrongCount sizeRefusalsIn overwrite upFrom spreadTo spread place from formOf beyond
+    outside windowRefusals across rows spans.malformed spans.formExponent spans.start spans.end spans.holds late refusalsFrom mapRefusalsIn before
+    howMany recordOf any useRefusalsIn spent existsBy presenceBy existingBy existIn
 examples = record {
   yes = refl;
   no = refl;

@@ -12,11 +12,10 @@ use Rattle.lists.proofs.Laws.{agree, any-none, any-has, has-any, any-append}
 use Rattle.key.specs.Picture.{Px}
 use Rattle.window.specs.declared.Window.{Window}
 use Rattle.window.specs.Window.{In, Inside}
-use Rattle.window.specs.Blocks.{pixels}
-use Rattle.window.proofs.Laws.{in-pixels}
+use Rattle.window.proofs.Laws.{exists-by-means}
 use Rattle.map.specs.Sound.{Follow}
 use Rattle.map.specs.Records.{pixelRecord}
-use Rattle.map.specs.Classes.{classed, hasClass}
+use Rattle.map.specs.Classes.{classed, classIn}
 use Rattle.border.specs.Openings.{Opening, openings, hands, allHands}
 use Rattle.border.proofs.Laws.{hands-none, hands-one, hands-append, in-hands, hands-whole}
 use Rattle.exist.specs.Exist.{exists}
@@ -24,15 +23,8 @@ use Rattle.exist.specs.Exist.{exists}
 -- ---- what it means
 
 module _ (m : ℕ) (keys classes : List ℕ) (class : ℕ) where
-  pub class-is : (p : Px) → (hasClass m keys classes class p ≡ true) ↔ (getD classes (pixelRecord m keys (p .0) (p .1)) 0 ≡ class)
-  class-is p = (λ e. eqb-true _ _ e, λ e. eq-eqb _ _ e)
-
   pub exists-means : (W : Window) → (exists m keys classes W class ≡ true) ↔ ((p : Px) × In W p × (getD classes (pixelRecord m keys (p .0) (p .1)) 0 ≡ class))
-  unfolding exists
-  exists-means W = (
-    λ e. let t = any-has (hasClass m keys classes class) (pixels W) e in (t .0, in-pixels W .0 (t .1), class-is (t .0) .0 (t .2)),
-    λ t. has-any (hasClass m keys classes class) (in-pixels W .1 (t .1)) (class-is (t .0) .1 (t .2)),
-  )
+  exists-means W = exists-by-means (classIn m keys classes) W class
 
 -- ---- by what the openings hand out
 

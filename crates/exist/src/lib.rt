@@ -102,7 +102,7 @@ pub fn exist(
 ) -> Existence
     ensures { λ r. ⌜ after r (now (border .exit)) ≡ existOf m (now (keys .entry)) (now (classes .entry)) window class (now (border .entry)) ⌝ }
 {
-    let verdict = used::usable(m, keys, classes, window, border.len());
+    let verdict = used::usable(m, keys, classes, window, border.len(), true);
     if let Verdict::Refused { number, place } = verdict {
         return Existence::Refused { number, place };
     }

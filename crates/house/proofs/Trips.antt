@@ -1,12 +1,13 @@
 -- The two round trips: what is written is read back, and what is read is written again.
 -- Assumes nothing.
 use mathlib.Core.Path.{_≡_, refl, sym, _∙_}
+use mathlib.Core.Bool.{Bool}
 use mathlib.Core.List.{List, [], _∷_, _++_, append-assoc}
 use Prim.Native.Nat.{ℕ, zero, suc, _+_, _*_, _^_, _≤_, _<_}
 use native.Mathlib.Omega.{arith}
 use lib.ListN.{length, take, drop, getD, length-append, length-take, length-drop}
 use lib.Seq.{take-add, take-all, drop-at, drop-drop}
-use Rattle.answers.specs.Sizes.{Sized}
+use Rattle.answers.specs.Sizes.{SizedIn}
 use Rattle.answers.specs.Cells.{overwrite}
 use Rattle.answers.specs.After.{after}
 use Rattle.answers.proofs.Laws.{sized, take-overwrite}
@@ -15,7 +16,7 @@ use Rattle.numbers.specs.Numbers.{bytesOf, numbers}
 use Rattle.numbers.proofs.Laws.{numbers-bytesOf, bytesOf-numbers, below-drop, length-bytesOf, length-numbers}
 use Rattle.house.specs.declared.Reading.the-variants as reading
 use Rattle.house.specs.declared.Writing.the-variants as writing
-use Rattle.house.specs.File.{header, fileOf, fileM, fileQ, fileKeys, fileClasses, FileMap, readOf, writeOf}
+use Rattle.house.specs.File.{header, fileOf, fileM, fileQ, fileKeys, fileClasses, FileMap, readIn, writeIn}
 use Rattle.house.specs.Promises.{Laid}
 use Rattle.house.proofs.Tables.{laid, read-done, write-done}
 use Rattle.house.proofs.Accepted.{read-accepted, write-accepted}
@@ -52,7 +53,7 @@ module _ (m : ℕ) (keys classes : List ℕ) where
 
 -- ---- what was written is read
 
-module _ (m : ℕ) (keys classes : List ℕ) (size : Sized m (length keys) (length classes)) (small : Below (2 ^ 32) keys) where
+module _ {whole : Bool} (m : ℕ) (keys classes : List ℕ) (size : SizedIn whole m (length keys) (length classes)) (small : Below (2 ^ 32) keys) where
   header-read : header m (length keys) ≡ numbers 5 (fileOf m keys classes)
   unfolding header
   header-read = rw (file-is m keys classes) (sym (numbers-bytesOf (header m (length keys)) (bytesOf keys ++ classes) below))
@@ -63,7 +64,7 @@ module _ (m : ℕ) (keys classes : List ℕ) (size : Sized m (length keys) (leng
           (below-more (omega (arith, size .small))
           (below-more (omega (arith, size .most)) (below-more (omega arith) (below-more (omega (arith, size .most)) (below-none (omega arith))))))
 
-  header-laid : Laid (length (fileOf m keys classes)) (header m (length keys))
+  header-laid : Laid whole (length (fileOf m keys classes)) (header m (length keys))
   unfolding header
   header-laid = record {
     total = sym (length-file m keys classes (sym (size .same)));
@@ -74,10 +75,10 @@ module _ (m : ℕ) (keys classes : List ℕ) (size : Sized m (length keys) (leng
   }
 
   pub written-read : (ks cs : List ℕ) → length keys ≤ length ks → length keys ≤ length cs
-      → readOf (fileOf m keys classes) ks cs ≡ after (reading.Read m (length keys)) (overwrite keys ks, overwrite classes cs)
+      → readIn whole (fileOf m keys classes) ks cs ≡ after (reading.Read m (length keys)) (overwrite keys ks, overwrite classes cs)
   unfolding header
   written-read ks cs k l =
-      sym (read-done (fileOf m keys classes) ks cs header-read (omega (arith, length-file m keys classes (sym (size .same)))) (laid _ _ .1 header-laid) k l refl refl)
+      sym (read-done whole (fileOf m keys classes) ks cs header-read (omega (arith, length-file m keys classes (sym (size .same)))) (laid whole _ _ .1 header-laid) k l refl refl)
       ∙ rw (
         header-drop m keys classes,
         keys-drop m keys classes,
@@ -86,11 +87,11 @@ module _ (m : ℕ) (keys classes : List ℕ) (size : Sized m (length keys) (leng
       )
 
 -- the same through a lent slice: the bytes that a call of `write` answered for
-pub written-read-lent : (m : ℕ) (keys classes out : List ℕ) {n : ℕ} {out′ : List ℕ} → Below (2 ^ 32) keys → writeOf m keys classes out ≡ after (writing.Written n) out′
+pub written-read-lent : (whole : Bool) (m : ℕ) (keys classes out : List ℕ) {n : ℕ} {out′ : List ℕ} → Below (2 ^ 32) keys → writeIn whole m keys classes out ≡ after (writing.Written n) out′
     → (ks cs : List ℕ) → length keys ≤ length ks → length keys ≤ length cs
-    → readOf (take n out′) ks cs ≡ after (reading.Read m (length keys)) (overwrite keys ks, overwrite classes cs)
-written-read-lent m keys classes out {n} {out′} small e ks cs k l =
-    let g = write-accepted m keys classes out e in
+    → readIn whole (take n out′) ks cs ≡ after (reading.Read m (length keys)) (overwrite keys ks, overwrite classes cs)
+written-read-lent whole m keys classes out {n} {out′} small e ks cs k l =
+    let g = write-accepted whole m keys classes out e in
     let len : n ≡ length (fileOf m keys classes) = sym (g .n-is) ∙ sym (length-file m keys classes (sym (g .size .same))) in
     let back : take n out′ ≡ fileOf m keys classes = rw (len, ← g .out-is) (take-overwrite (fileOf m keys classes) out) in
     rw back (written-read m keys classes (g .size) small ks cs k l)
@@ -106,7 +107,7 @@ five (a ∷ b ∷ c ∷ d ∷ []) e = absurd (omega arith)
 five (a ∷ b ∷ c ∷ d ∷ f ∷ []) e = refl
 five (a ∷ b ∷ c ∷ d ∷ f ∷ g ∷ xs) e = absurd (omega arith)
 
-module _ (file : List ℕ) (right : Laid (length file) (numbers 5 file)) where
+module _ {whole : Bool} (file : List ℕ) (right : Laid whole (length file) (numbers 5 file)) where
   header-again : header (fileM file) (fileQ file) ≡ numbers 5 file
   unfolding header fileM fileQ
   header-again = sym (five (numbers 5 file) (length-numbers 5 file) ∙ cc)
@@ -123,7 +124,7 @@ module _ (file : List ℕ) (right : Laid (length file) (numbers 5 file)) where
   unfolding fileClasses
   length-classes = simp (length-take, length-drop) (omega (arith, length-again))
 
-  sized-again : Sized (fileM file) (length (fileKeys file)) (length (fileClasses file))
+  sized-again : SizedIn whole (fileM file) (length (fileKeys file)) (length (fileClasses file))
   unfolding fileM fileQ
   sized-again = record {
     small = right .size .small;
@@ -143,28 +144,28 @@ module _ (file : List ℕ) (right : Laid (length file) (numbers 5 file)) where
       (take-all (20 + 4 * q + q) file (omega (arith, length-again)))
 
   write-again : Below 256 file → (out : List ℕ) → length file ≤ length out
-      → writeOf (fileM file) (fileKeys file) (fileClasses file) out ≡ after (writing.Written (length file)) (overwrite file out)
+      → writeIn whole (fileM file) (fileKeys file) (fileClasses file) out ≡ after (writing.Written (length file)) (overwrite file out)
   write-again low out l =
       let n : 20 + 5 * length (fileKeys file) ≡ length file = omega (arith, length-again, length-keys) in
-      write-done (fileM file) (fileKeys file) (fileClasses file) out (sized .1 sized-again) (omega arith) ∙ rw (n, file-again low)
+      write-done whole (fileM file) (fileKeys file) (fileClasses file) out (sized .1 sized-again) (omega arith) ∙ rw (n, file-again low)
 
 -- what was read is the map that the file holds
-pub read-holds : (file ks cs : List ℕ) {m q : ℕ} {ks′ cs′ : List ℕ} → readOf file ks cs ≡ after (reading.Read m q) (ks′, cs′) → FileMap file m (take q ks′) (take q cs′)
-read-holds file ks cs e =
-    let t = read-accepted file ks cs e in
+pub read-holds : (whole : Bool) (file ks cs : List ℕ) {m q : ℕ} {ks′ cs′ : List ℕ} → readIn whole file ks cs ≡ after (reading.Read m q) (ks′, cs′) → FileMap file m (take q ks′) (take q cs′)
+read-holds whole file ks cs e =
+    let t = read-accepted whole file ks cs e in
     record {
       m-is = sym (t .m-is);
       keys-are = rw (← t .q-is, ← t .keys-are, ← length-keys file (t .readable .laid-out)) (take-overwrite (fileKeys file) ks);
       classes-are = rw (← t .q-is, ← t .classes-are, ← length-classes file (t .readable .laid-out)) (take-overwrite (fileClasses file) cs);
     }
 
-pub read-written : (file ks cs : List ℕ) {m q : ℕ} {ks′ cs′ : List ℕ} → Below 256 file → readOf file ks cs ≡ after (reading.Read m q) (ks′, cs′)
-    → (out : List ℕ) → length file ≤ length out → writeOf m (take q ks′) (take q cs′) out ≡ after (writing.Written (length file)) (overwrite file out)
-read-written file ks cs low e out l =
-    let h = read-holds file ks cs e in
-    rw (h .keys-are, h .classes-are, h .m-is) (write-again file (read-accepted file ks cs e .readable .laid-out) low out l)
+pub read-written : (whole : Bool) (file ks cs : List ℕ) {m q : ℕ} {ks′ cs′ : List ℕ} → Below 256 file → readIn whole file ks cs ≡ after (reading.Read m q) (ks′, cs′)
+    → (out : List ℕ) → length file ≤ length out → writeIn whole m (take q ks′) (take q cs′) out ≡ after (writing.Written (length file)) (overwrite file out)
+read-written whole file ks cs low e out l =
+    let h = read-holds whole file ks cs e in
+    rw (h .keys-are, h .classes-are, h .m-is) (write-again file (read-accepted whole file ks cs e .readable .laid-out) low out l)
 
 -- ---- what was read has room
 
-pub read-room : (file ks cs : List ℕ) {m q : ℕ} {ks′ cs′ : List ℕ} → readOf file ks cs ≡ after (reading.Read m q) (ks′, cs′) → (q ≤ length ks) × (q ≤ length cs)
-read-room file ks cs e = let t = read-accepted file ks cs e in (omega (arith, t .q-is, t .readable .keys-room), omega (arith, t .q-is, t .readable .classes-room))
+pub read-room : (whole : Bool) (file ks cs : List ℕ) {m q : ℕ} {ks′ cs′ : List ℕ} → readIn whole file ks cs ≡ after (reading.Read m q) (ks′, cs′) → (q ≤ length ks) × (q ≤ length cs)
+read-room whole file ks cs e = let t = read-accepted whole file ks cs e in (omega (arith, t .q-is, t .readable .keys-room), omega (arith, t .q-is, t .readable .classes-room))

@@ -8,11 +8,11 @@ ghost use Rattle.answers.specs.Refusals.{verdict};
 ghost use Rattle.answers.specs.Cells.{overwrite};
 ghost use Rattle.answers.specs.After.{after};
 ghost use Rattle.numbers.specs.Numbers.{numbers};
-ghost use Rattle.house.specs.File.{layoutRefusals, readOf};
+ghost use Rattle.house.specs.File.{layoutRefusals, readIn};
 
-// What is wrong with the five fields of a header, in a file of so many bytes.
-fn layout(size: usize, fields: [u32; 5]) -> Verdict
-    ensures { λ r. ⌜ r ≡ verdict (layoutRefusals size fields) ⌝ }
+// What is wrong with the five fields of a header, in a file of so many bytes. Only a map that is to be whole must have a record.
+fn layout(size: usize, fields: [u32; 5], whole: bool) -> Verdict
+    ensures { λ r. ⌜ r ≡ verdict (layoutRefusals whole size fields) ⌝ }
 {
     if fields[0] as usize != size {
         return Verdict::Refused {
@@ -21,7 +21,7 @@ fn layout(size: usize, fields: [u32; 5]) -> Verdict
         };
     }
     let q = fields[2] as usize;
-    let sizes = answers::sizes(fields[1], q, q);
+    let sizes = answers::sizes(fields[1], q, q, whole);
     if let Verdict::Refused { number, place } = sizes {
         return Verdict::Refused { number, place };
     }
@@ -58,8 +58,8 @@ fn get_parts(file: &[u8], q: usize, keys: &mut [u32], classes: &mut [u8])
 }
 
 // Reads the layout only: a map is checked by the call that uses it.
-pub fn read(file: &[u8], keys: &mut [u32], classes: &mut [u8]) -> Reading
-    ensures { λ r. ⌜ after r (now (keys .exit), now (classes .exit)) ≡ readOf (now (file .entry)) (now (keys .entry)) (now (classes .entry)) ⌝ }
+pub fn read(file: &[u8], keys: &mut [u32], classes: &mut [u8], whole: bool) -> Reading
+    ensures { λ r. ⌜ after r (now (keys .exit), now (classes .exit)) ≡ readIn whole (now (file .entry)) (now (keys .entry)) (now (classes .entry)) ⌝ }
 {
     if file.len() < 20 {
         return Reading::Refused {
@@ -69,7 +69,7 @@ pub fn read(file: &[u8], keys: &mut [u32], classes: &mut [u8]) -> Reading
     }
     let mut fields = [0u32; 5];
     numbers::get_all(file, &mut fields);
-    let verdict = layout(file.len(), fields);
+    let verdict = layout(file.len(), fields, whole);
     if let Verdict::Refused { number, place } = verdict {
         return Reading::Refused { number, place };
     }

@@ -2,6 +2,7 @@
 -- numbers, an answer or a refusal with its place.
 -- Assumes nothing.
 use mathlib.Core.Path.{_≡_, sym, ap, ap₂, _∙_}
+use mathlib.Core.Bool.{true}
 use mathlib.Core.List.{List, _++_}
 use Prim.Native.Nat.{ℕ, _*_, _≤_}
 use lib.ListN.{length}
@@ -13,6 +14,7 @@ use Rattle.answers.proofs.Laws.{answer-append, answer-same, tile-passed}
 use Rattle.window.specs.declared.Window.{Window}
 use Rattle.window.specs.Window.{Inside}
 use Rattle.map.specs.Sound.{SoundMap}
+use Rattle.map.specs.Classes.{classIn}
 use Rattle.map.proofs.Laws.{spaced}
 use Rattle.border.specs.Openings.{Opening, openings, handedCount, cellsOf}
 use Rattle.border.specs.ViewPromises.{SameView}
@@ -37,7 +39,7 @@ module _ {m : ℕ} {keys keys′ : List ℕ} {n n′ : ℕ} (S : SoundMap m keys
       → answer refused (useRefusals m keys n W cells) a ≡ answer refused (useRefusals m keys′ n′ W cells′) a′
   used {cells′ = cells′} e a a′ h =
       rw e (use-sound S S′ W cells′ refused a) ∙ answer-same refused (useRefusals m keys′ n′ W cells′) a a′
-      (λ passed. h (use-answerable m keys′ n′ W cells′ .0 passed .inside))
+      (λ passed. h (use-answerable true m keys′ n′ W cells′ .0 passed .inside))
 
   -- and behind 17, before 8
   tiled : (top : ℕ) {cells cells′ room room′ : ℕ} → cells ≡ cells′ → room ≡ room′ → {needed needed′ : ℕ} (a a′ : Answer)
@@ -63,11 +65,11 @@ pub report-alike : (m : ℕ) (keys classes keys′ classes′ : List ℕ) (W : W
     → length border ≡ length other → length out ≡ length older → SoundMap m keys (length classes) → SoundMap m keys′ (length classes′)
     → Report m keys classes W border out r border′ out′ → Report m keys′ classes′ W other older r′ other′ older′ → r ≡ r′
 report-alike m keys classes keys′ classes′ W border out other older e d S S′ call call′ =
-    report-says m keys classes W border out call
+    report-says true (classIn m keys classes) m keys classes W border out call
     ∙ answer-append refused (useRefusals m keys (length classes) W (length border)) _ _
     ∙ used S S′ W e _ _ (λ I. rw (d, totals-length m keys classes W, totals-length m keys′ classes′ W))
     ∙ sym (answer-append refused (useRefusals m keys′ (length classes′) W (length other)) _ _)
-    ∙ sym (report-says m keys′ classes′ W other older call′)
+    ∙ sym (report-says true (classIn m keys′ classes′) m keys′ classes′ W other older call′)
 
 module _ {m : ℕ} {keys classes keys′ classes′ : List ℕ} {W : Window} (S : SoundMap m keys (length classes)) (S′ : SoundMap m keys′ (length classes′))
     (same : SameView m keys classes keys′ classes′ W) where
@@ -75,7 +77,7 @@ module _ {m : ℕ} {keys classes keys′ classes′ : List ℕ} {W : Window} (S 
       → length border ≡ length other → length out ≡ length older
       → OpenTiled m top keys classes W border out r border′ out′ → OpenTiled m top keys′ classes′ W other older r′ other′ older′ → r ≡ r′
   open-alike top border out other older e d call call′ =
-      open-says m top keys classes W border out call ∙ tiled S S′ W top e d _ _ numbers ∙ sym (open-says m top keys′ classes′ W other older call′)
+      open-says true m top keys classes W border out call ∙ tiled S S′ W top e d _ _ numbers ∙ sym (open-says true m top keys′ classes′ W other older call′)
     where
       os : List Opening
       os = openings m top keys W
@@ -91,15 +93,15 @@ module _ {m : ℕ} {keys classes keys′ classes′ : List ℕ} {W : Window} (S 
   pub exist-alike : (class : ℕ) (border other : List ℕ) {r r′ : Answer} {border′ other′ : List ℕ} → length border ≡ length other
       → Exist m keys classes W class border r border′ → Exist m keys′ classes′ W class other r′ other′ → r ≡ r′
   exist-alike class border other e call call′ =
-      exist-says m keys classes W class border call
+      exist-says true (classIn m keys classes) m keys classes W class border call
       ∙ used S S′ W e _ _ (λ I. ap ofExistence (presence-view (S .records) (S′ .records) I same class))
-      ∙ sym (exist-says m keys′ classes′ W class other call′)
+      ∙ sym (exist-says true (classIn m keys′ classes′) m keys′ classes′ W class other call′)
 
   pub select-alike : (top class : ℕ) (border out other older : List ℕ) {r r′ : Answer} {border′ out′ other′ older′ : List ℕ}
       → length border ≡ length other → length out ≡ length older
       → SelectTiled m top keys classes W class border out r border′ out′ → SelectTiled m top keys′ classes′ W class other older r′ other′ older′ → r ≡ r′
   select-alike top class border out other older e d call call′ =
-      select-says m top keys classes W class border out call ∙ tiled S S′ W top e d _ _ numbers ∙ sym (select-says m top keys′ classes′ W class other older call′)
+      select-says true (selection m top keys classes W class) m top keys classes W border out call ∙ tiled S S′ W top e d _ _ numbers ∙ sym (select-says true (selection m top keys′ classes′ W class) m top keys′ classes′ W other older call′)
     where
       ks : List ℕ
       ks = selection m top keys classes W class

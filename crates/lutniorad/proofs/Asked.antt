@@ -15,21 +15,21 @@ use Rattle.answers.specs.Refusals.{answer, verdict}
 use Rattle.answers.specs.After.{after, roomRefusals}
 use Rattle.answers.proofs.Laws.{on-passed, take-overwrite, drop-overwrite}
 use Rattle.window.specs.declared.Window.{Window}
+use Rattle.window.specs.Rules.{existsBy, totalsBy}
+use Rattle.window.proofs.Laws.{exists-by-means, totals-by-length, totals-by-at, totals-by-sum}
 use Rattle.map.specs.Classes.{notSeen}
-use Rattle.used.specs.Used.{useRefusals, usedFor}
-use Rattle.used.specs.Promises.{Answerable}
+use Rattle.used.specs.Used.{useRefusalsIn, usedIn}
+use Rattle.used.specs.Promises.{AnswerableIn}
 use Rattle.used.proofs.Laws.{use-answerable}
-use Rattle.exist.specs.Exist.{exists, presence}
+use Rattle.exist.specs.Exist.{presenceBy}
 use Rattle.exist.specs.declared.Existence.the-variants as existence
-use Rattle.exist.proofs.Laws.{exists-means, presence-is, exist-leaves}
-use Rattle.totals.specs.Totals.{totals}
-use Rattle.totals.proofs.Laws.{totals-length, totals-at, totals-sum}
+use Rattle.exist.proofs.Laws.{presence-is, exist-leaves}
 use Rattle.report.specs.declared.Reported.the-variants as reported-as
 use Rattle.report.proofs.Laws.{report-is}
 use Rattle.lutniorad.specs.declared.Answer.{Answer}
 use Rattle.lutniorad.specs.Numbers.{values, refused, ofExistence, ofReported}
-use Rattle.lutniorad.specs.Calls.{Exist, Report}
-use Rattle.lutniorad.specs.Promises.{RefusalLeaves, ExistPromise, ReportPromise}
+use Rattle.lutniorad.specs.Calls.{ExistIn, ReportIn}
+use Rattle.lutniorad.specs.Promises.{RefusalLeaves, ExistPromiseBy, ReportPromiseBy}
 use Rattle.lutniorad.proofs.Answered.{exist-says, exist-answered}
 use Rattle.lutniorad.proofs.Using.{used-crossed, used-says, used-numbered, used-answered, used-leaves, used-kept}
 
@@ -64,62 +64,65 @@ three {A} {B} false false is-a is-b e =
     let seen : ¬ B = λ s. never (sym (is-b .1 s)) in
     (other e 1 (λ d. omega (arith, d)) none, other e 2 (λ d. omega (arith, d)) (λ s. seen (s .1)), this e (none, seen), one-number e (omega arith))
 
-module _ (m : ℕ) (keys classes : List ℕ) (W : Window) (class : ℕ) (border : List ℕ) {border′ : List ℕ} {r : Answer}
-    (call : Exist m keys classes W class border r border′) (z : r .refusal ≡ 0) where
-  passed : verdict (useRefusals m keys (length classes) W (length border)) ≡ Passed
-  passed = use-answerable m keys (length classes) W (length border) .1 (exist-answered m keys classes W class border call .0 z)
+module _ (whole : Bool) (rule : ℕ → ℕ) (m : ℕ) (keys classes : List ℕ) (W : Window) (class : ℕ) (border : List ℕ) {border′ : List ℕ} {r : Answer}
+    (call : ExistIn whole rule m keys classes W class border r border′) (z : r .refusal ≡ 0) where
+  passed : verdict (useRefusalsIn whole m keys (length classes) W (length border)) ≡ Passed
+  passed = use-answerable whole m keys (length classes) W (length border) .1 (exist-answered whole rule m keys classes W class border call .0 z)
 
   -- an answered call says one of the three
-  pub exist-three : r ≡ ofExistence (presence m keys classes W class)
-  exist-three = exist-says m keys classes W class border call ∙ on-passed refused _ _ passed
+  pub exist-three : r ≡ ofExistence (presenceBy rule W class)
+  exist-three = exist-says whole rule m keys classes W class border call ∙ on-passed refused _ _ passed
 
-  pub exist-promise : ExistPromise m keys classes W class border r border′
+  pub exist-promise : ExistPromiseBy rule W class border r border′
   exist-promise =
-      let said = exist-three ∙ ap ofExistence (presence-is m keys classes W class) in
-      let means = exists-means m keys classes in
-      let t = three (exists m keys classes W class) (exists m keys classes W notSeen) (means class W) (means notSeen W) said in
+      let said = exist-three ∙ ap ofExistence (presence-is rule W class) in
+      let means = exists-by-means rule W in
+      let t = three (existsBy rule W class) (existsBy rule W notSeen) (means class) (means notSeen) said in
       record {
         yes = t .0;
         cannot-tell = t .1;
         no = t .2;
         one-of = t .3;
         certain = λ e d. let s = t .1 .0 d in s .0 (rw e (s .1));
-        border-after = call .cells ∙ exist-leaves m keys classes W class border passed;
+        border-after = call .cells ∙ exist-leaves whole rule m keys (length classes) W class border passed;
       }
 
 -- ---- report
 
-module _ (m : ℕ) (keys classes : List ℕ) (W : Window) (border out : List ℕ) {r : Answer} {border′ out′ : List ℕ} (call : Report m keys classes W border out r border′ out′) where
+module _ (whole : Bool) (rule : ℕ → ℕ) (m : ℕ) (keys classes : List ℕ) (W : Window) (border out : List ℕ) {r : Answer} {border′ out′ : List ℕ}
+    (call : ReportIn whole rule m keys classes W border out r border′ out′) where
   abbrev counts : List ℕ
-  counts = totals m keys classes W
+  counts = totalsBy rule W
 
   -- the call in numbers
-  reported : after r (border′, out′) ≡ usedFor refused (values (W .h * W .w) 0) counts m keys (length classes) W border out
-  reported = used-crossed ofReported reported-as.Refused (reported-as.Done (W .h * W .w)) counts m keys (length classes) W border out (report-is m keys classes W border out) call
+  reported : after r (border′, out′) ≡ usedIn whole refused (values (W .h * W .w) 0) counts m keys (length classes) W border out
+  reported =
+      let done = reported-as.Done (W .h * W .w) in
+      used-crossed whole ofReported reported-as.Refused done counts m keys (length classes) W border out (report-is whole rule m keys (length classes) W border out) call
 
   pub report-says : r
-      ≡ answer refused (useRefusals m keys (length classes) W (length border) ++ roomRefusals (length out) (length counts)) (values (W .h * W .w) 0)
-  report-says = used-says (W .h * W .w) 0 counts m keys (length classes) W border out reported
+      ≡ answer refused (useRefusalsIn whole m keys (length classes) W (length border) ++ roomRefusals (length out) (length counts)) (values (W .h * W .w) 0)
+  report-says = used-says whole (W .h * W .w) 0 counts m keys (length classes) W border out reported
 
   -- answered exactly when the map is sound, the window inside, the border has w cells and the slice 256
-  pub report-answered : (r .refusal ≡ 0) ↔ (Answerable m keys (length classes) W (length border) × (256 ≤ length out))
-  report-answered = rw (totals-length m keys classes W) at (used-answered (W .h * W .w) 0 counts m keys (length classes) W border out reported)
+  pub report-answered : (r .refusal ≡ 0) ↔ (AnswerableIn whole m keys (length classes) W (length border) × (256 ≤ length out))
+  report-answered = rw (totals-by-length rule W) at (used-answered whole (W .h * W .w) 0 counts m keys (length classes) W border out reported)
 
   pub report-numbered : r .refusal ≤ 8
-  report-numbered = used-numbered (W .h * W .w) 0 counts m keys (length classes) W border out reported
+  report-numbered = used-numbered whole (W .h * W .w) 0 counts m keys (length classes) W border out reported
 
   pub report-kept : (r .refusal ≡ 0 → ⊥) → RefusalLeaves W border out r border′ out′
-  report-kept = used-kept (W .h * W .w) 0 counts m keys (length classes) W border out reported
+  report-kept = used-kept whole (W .h * W .w) 0 counts m keys (length classes) W border out reported
 
-  pub report-promise : r .refusal ≡ 0 → ReportPromise m keys classes W border out r border′ out′
+  pub report-promise : r .refusal ≡ 0 → ReportPromiseBy rule W border out r border′ out′
   report-promise z =
-      let left = used-leaves (W .h * W .w) 0 counts m keys (length classes) W border out reported z in
-      let n = totals-length m keys classes W in
+      let left = used-leaves whole (W .h * W .w) 0 counts m keys (length classes) W border out reported z in
+      let n = totals-by-length rule W in
       let stand : take 256 out′ ≡ counts = rw (left .2, ← n) (take-overwrite counts out) in
       record {
         number = left .0;
-        cells = λ k l. sym (getD-take 256 out′ k 0 l) ∙ ap (λ (xs : List ℕ). getD xs k 0) stand ∙ totals-at m keys classes W k l;
-        together = λ small. ap sum stand ∙ totals-sum m keys classes W small;
+        cells = λ k l. sym (getD-take 256 out′ k 0 l) ∙ ap (λ (xs : List ℕ). getD xs k 0) stand ∙ totals-by-at rule W k l;
+        together = λ small. ap sum stand ∙ totals-by-sum rule W small;
         beyond = rw (left .2, ← n) (drop-overwrite counts out);
         border-after = left .1;
       }

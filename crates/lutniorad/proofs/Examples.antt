@@ -2,13 +2,14 @@
 -- the list or are not. P1's window among others. Exist where it cannot tell. And a row of calls of a month.
 -- Assumes nothing.
 use mathlib.Core.Path.{_≡_, refl, sym}
+use mathlib.Core.Bool.{true}
 use mathlib.Core.List.{List, [], _∷_, _++_}
 use Prim.Native.Nat.{ℕ, _≤_}
 use native.Mathlib.Omega.{arith}
 use lib.ListN.{length}
 use Rattle.lists.specs.Lists.{upFrom, any, keep, before, howMany, greatest}
 use Rattle.answers.specs.Refusals.{answer}
-use Rattle.answers.specs.Sizes.{wrongCount, sizeRefusals, pictureRefusals, countRefusals, tileRefusals}
+use Rattle.answers.specs.Sizes.{wrongCount, sizeRefusalsIn, pictureRefusals, countRefusals, tileRefusals}
 use Rattle.answers.specs.Cells.{overwrite}
 use Rattle.answers.specs.After.{roomRefusals, roomFor}
 use Rattle.answers.proofs.P1.{keys, classes, glare, old}
@@ -24,14 +25,14 @@ use Rattle.window.proofs.P1.{W}
 use Rattle.decompose.specs.Decompose.{decomposeTiled}
 use Rattle.map.specs.Spans as spans
 use Rattle.map.specs.Spans.{within}
-use Rattle.map.specs.Check.{late, refusalsFrom, mapRefusals}
+use Rattle.map.specs.Check.{late, refusalsFrom, mapRefusalsIn}
 use Rattle.map.specs.Records.{recordOf, exponentOf}
-use Rattle.map.specs.Classes.{notSeen}
+use Rattle.map.specs.Classes.{notSeen, classIn}
 use Rattle.map.specs.Runs.{runOf}
 use Rattle.border.specs.Openings.{isHanded, Opening, made, opening, openFrom, openings, handedCount, cellsOf}
 use Rattle.border.specs.Promises.{openingsIn, HandedBy, SkippedFor, Enough}
-use Rattle.used.specs.Used.{useRefusals, spent, usedFor, borderRefusals}
-use Rattle.open.specs.Open.{openTiled}
+use Rattle.used.specs.Used.{useRefusalsIn, spent, usedIn, borderRefusals}
+use Rattle.open.specs.Open.{openIn}
 use Rattle.many.proofs.Examples.{drawn, below, pixel, lines}
 use Rattle.many.proofs.Examples as lists
 use Rattle.why.proofs.Examples as reasons
@@ -70,11 +71,11 @@ record Called : Type 0 where
   p2-pixels : DecomposeTiled 2 0 W (old 9) (values 9 0) (7 ∷ 11 ∷ 12 ∷ 9 ∷ 13 ∷ 14 ∷ 17 ∷ 21 ∷ 22 ∷ [])
 
 called : Called
-unfolding pictureRefusals countRefusals roomRefusals borderRefusals roomFor answer wrongCount sizeRefusals overwrite upFrom spreadTo spread place
+unfolding pictureRefusals countRefusals roomRefusals borderRefusals roomFor answer wrongCount sizeRefusalsIn overwrite upFrom spreadTo spread place
     pixelKey blockKey from formOf beyond outside windowRefusals keep floor lies fits greatest exponent corner across rows isCorner maximal keyOf
     keysOf drawnRefusals drawnFor tileRefusals decomposeTiled spans.malformed spans.formExponent spans.start spans.end spans.holds spans.overlap late refusalsFrom
-    mapRefusals before howMany recordOf exponentOf runOf any within isHanded opening openFrom openings handedCount cellsOf useRefusals spent usedFor
-    openTiled
+    mapRefusalsIn before howMany recordOf exponentOf runOf any within isHanded opening openFrom openings handedCount cellsOf useRefusalsIn spent usedIn
+    openIn
 called = record {
   p1 = record { answer = refl; cells = refl };
   p2 = record { answer = refl; cells = refl };
@@ -128,7 +129,7 @@ exist-call : Exist 2 keys glare W 4 (old 4) (values 2 0) (3 ∷ 3 ∷ 3 ∷ 99 �
 exist-call = crossing refl refl (sym (queries.examples .cannot-tell))
 
 none-seen : (¬ SomePixel 2 keys glare W 4) × SomePixel 2 keys glare W notSeen
-none-seen = exist-promise 2 keys glare W 4 (old 4) exist-call refl .cannot-tell .0 refl
+none-seen = exist-promise true (classIn 2 keys glare) 2 keys glare W 4 (old 4) exist-call refl .cannot-tell .0 refl
 
 -- a month is cleared, P1's map is taken, and a record that is malformed is refused: from the examples of the operations
 month-row : MonthRow 2 W (old 1031) ((keys, classes) ∷ []) (first-day ++ 99 ∷ [])

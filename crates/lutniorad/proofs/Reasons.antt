@@ -3,6 +3,7 @@
 -- Assumes nothing.
 use mathlib.Core.Path.{_≡_, refl, sym, ap, _∙_}
 use mathlib.Core.Logic.{_↔_, inl, inr, ⊎-elim}
+use mathlib.Core.Bool.{true}
 use mathlib.Core.List.{List, _++_, List·Memᴰ}
 use Prim.Native.Nat.{ℕ, _*_, _≤_, _<_}
 use native.Mathlib.Omega.{arith}
@@ -54,7 +55,7 @@ module _ {more : List Refusal} {said : Why} {k : ℕ} {Asked Otherwise : Type 0}
   Usual = Answerable m keys (length classes) W (length border)
 
   usual : (verdict uses ≡ Passed) ↔ Usual
-  usual = use-answerable m keys (length classes) W (length border)
+  usual = use-answerable true m keys (length classes) W (length border)
 
   -- the call in numbers
   explained : after r border′ ≡ unless noReason (uses ++ more) border (after (ofWhy said) (spent W border))
@@ -64,7 +65,7 @@ module _ {more : List Refusal} {said : Why} {k : ℕ} {Asked Otherwise : Type 0}
   says = guarded-says five (uses ++ more) border _ explained
 
   all : Numbered k (uses ++ more)
-  all = numbered-append (numbered-use m keys (length classes) W (length border) (B .large)) (B .numbered)
+  all = numbered-append (numbered-use true m keys (length classes) W (length border) (B .large)) (B .numbered)
 
   most : r .refusal ≤ k
   most = told-most five (ofWhy said) (B .clear) all says
@@ -80,7 +81,7 @@ module _ {more : List Refusal} {said : Why} {k : ℕ} {Asked Otherwise : Type 0}
 
   last : (r .refusal ≡ k) ↔ (Usual × Otherwise)
   last =
-      let t = B .given (ofWhy said) (numbered-use m keys (length classes) W (length border) {most = 7} (omega arith)) (B .clear) in
+      let t = B .given (ofWhy said) (numbered-use true m keys (length classes) W (length border) {most = 7} (omega arith)) (B .clear) in
       rw says (λ z. let x = t .0 z in (usual .0 (x .0), x .1), λ x. t .1 (usual .1 (x .0), x .1))
 
   leaves : r .refusal ≡ 0 → (r ≡ ofWhy said) × (border′ ≡ spent W border)
@@ -184,7 +185,7 @@ module _ (m : ℕ) (keys classes : List ℕ) (W : Window) (key : ℕ) (border : 
 
 module _ (m : ℕ) (keys classes : List ℕ) (W : Window) (b out : List ℕ) {b′ out′ : List ℕ} {a : Answer} (opens : Open m keys classes W b out a b′ out′) (done : a .refusal ≡ 0) where
   list : openingsIn (take (3 * a .first) out′) ≡ openings m m keys W
-  list = open-promise m m keys classes W b out opens done .in-order
+  list = open-promise m m keys classes W b out opens done .states .in-order
 
   pub why-record-list : (n : ℕ) (border : List ℕ) {r : Reason} {border′ : List ℕ} → WhyRecord m keys classes W n border r border′ → r .refusal ≡ 0
       → WhyRecordPromise m keys W n (openingsIn (take (3 * a .first) out′)) border r border′

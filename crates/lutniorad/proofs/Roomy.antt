@@ -1,6 +1,7 @@
 -- Opening and report as calls with room enough, on a sound map: only 6 can refuse them. So what they say is what is said of one of many windows.
 -- Assumes nothing.
 use mathlib.Core.Path.{_≡_, refl, sym, ap, _∙_}
+use mathlib.Core.Bool.{true}
 use mathlib.Core.List.{List, [], _∷_, _++_}
 use Prim.Native.Nat.{ℕ, _*_, _≤_}
 use native.Mathlib.Decide.{decLe}
@@ -16,6 +17,7 @@ use Rattle.window.specs.declared.Window.{Window}
 use Rattle.window.specs.Window.{windowRefusals}
 use Rattle.map.specs.Check.{mapRefusals}
 use Rattle.map.specs.Sound.{SoundMap}
+use Rattle.map.specs.Classes.{classIn}
 use Rattle.map.proofs.Laws.{sound-map}
 use Rattle.border.specs.Openings.{Opening, openings, handedCount}
 use Rattle.used.specs.Used.{borderRefusals, useRefusals}
@@ -39,7 +41,7 @@ roomy-says m keys classes W sound border room needed {r} v says R = go (verdict 
     behind =
         says
         ∙ answer-append refused (useRefusals m keys classes W border) (roomRefusals room needed) v
-        ∙ use-parts m keys classes W border refused _
+        ∙ use-parts true m keys classes W border refused _
         ∙ on-passed refused (mapRefusals m keys classes) _ (sound-map m keys classes .1 sound)
 
     number : {n p : ℕ} → r ≡ refused n p → r .refusal ≡ n
@@ -69,7 +71,7 @@ module _ (m : ℕ) (keys classes : List ℕ) (W : Window) (sound : SoundMap m ke
       → take 4 (lineCells (lineOf m keys W)) ≡ r .refusal ∷ r .place ∷ r .first ∷ r .second ∷ []
   open-line call R =
       let capped = tile-passed m m .1 (sound .sizes .small, omega arith) in
-      let says = open-says m m keys classes W border out call ∙ append-passed refused (tileRefusals m m) _ _ capped in
+      let says = open-says true m m keys classes W border out call ∙ append-passed refused (tileRefusals m m) _ _ capped in
       let only = roomy-says m keys (length classes) W sound (length border) (length out) _ (values (length os) (handedCount os)) says R in
       ap (λ (x : Line). take 4 (lineCells x)) (line-is m keys W)
       ∙ answer-part (λ (x : Line). take 4 (lineCells x)) (λ number place. line number place 0 0 0) (windowRefusals m W) _
@@ -77,7 +79,7 @@ module _ (m : ℕ) (keys classes : List ℕ) (W : Window) (sound : SoundMap m ke
 
   pub report-line : {r : Answer} {border′ out′ : List ℕ} → Report m keys classes W border out r border′ out′ → Roomy r → lineOf m keys W .pixels ≡ r .first
   report-line call R =
-      let only = roomy-says m keys (length classes) W sound (length border) (length out) _ (values (W .h * W .w) 0) (report-says m keys classes W border out call) R in
+      let only = roomy-says m keys (length classes) W sound (length border) (length out) _ (values (W .h * W .w) 0) (report-says true (classIn m keys classes) m keys classes W border out call) R in
       ap (λ (x : Line). x .pixels) (line-is m keys W)
       ∙ answer-part (λ (x : Line). x .pixels) (λ number place. line number place 0 0 0) (windowRefusals m W) _
       ∙ sym (ap (λ (x : Answer). x .first) only ∙ answer-part (λ (x : Answer). x .first) refused (windowRefusals m W) (values (W .h * W .w) 0))

@@ -2,6 +2,7 @@
 -- Assumes nothing.
 use mathlib.Core.Path.{_≡_, refl, sym, ap, ap₂, _∙_}
 use mathlib.Core.Logic.{_↔_}
+use mathlib.Core.Bool.{true}
 use mathlib.Core.List.{List, [], _∷_, map}
 use Prim.Native.Nat.{ℕ, _+_, _*_, _≤_, _<_}
 use native.Mathlib.Omega.{arith}
@@ -14,6 +15,8 @@ use Rattle.window.specs.SharingPromises.{Union, Intersection, Overlapping, Part
 use Rattle.window.proofs.Laws.{meet-is, meet-inside, intersection-is, hull-inside, union-is, touching-is, parted-two}
 use Rattle.totals.specs.Totals.{total}
 use Rattle.totals.proofs.Laws.{total-shared, total-parted}
+use Rattle.map.specs.Records.{recordOf}
+use Rattle.map.specs.Classes.{classIn}
 use Rattle.used.specs.Promises.{Answerable}
 use Rattle.lutniorad.specs.declared.Answer.{Answer}
 use Rattle.lutniorad.specs.Calls.{Report}
@@ -26,16 +29,16 @@ module _ {m : ℕ} {keys classes : List ℕ} where
 
   module _ {W : Window} {cells : List ℕ} (R : ReportLeaves m keys classes W cells) where
     promised : ReportPromise m keys classes W (R .border) (R .old) (R .r) (R .border′) cells
-    promised = report-promise m keys classes W (R .border) (R .old) (R .call) (R .answered)
+    promised = report-promise true (classIn m keys classes) m keys classes W (R .border) (R .old) (R .call) (R .answered)
 
     asked : Answerable m keys (length classes) W (length (R .border))
-    asked = report-answered m keys classes W (R .border) (R .old) (R .call) .0 (R .answered) .0
+    asked = report-answered true (classIn m keys classes) m keys classes W (R .border) (R .old) (R .call) .0 (R .answered) .0
 
     -- on the same map a window inside is answered exactly when there is room
     pub reports-answered : {X : Window} → Inside m X → (border old : List ℕ) {r : Answer} {border′ cells′ : List ℕ} → Report m keys classes X border old r border′ cells′
         → (r .refusal ≡ 0) ↔ ((X .w ≤ length border) × (256 ≤ length old))
     reports-answered {X} inside border old call =
-        let t = report-answered m keys classes X border old call in
+        let t = report-answered true (classIn m keys classes) m keys classes X border old call in
         (λ z. (t .0 z .0 .wide, t .0 z .1), λ room. t .1 (record { sound = asked .sound; inside = inside; wide = room .0 }, room .1))
 
   -- ---- windows that part another
@@ -73,7 +76,7 @@ module _ {m : ℕ} {keys classes : List ℕ} where
     )
       where
         all : {W : Window} {cells : List ℕ} → ReportLeaves m keys classes W cells → sum (take 256 cells) ≡ W .h * W .w
-        all R = promised R .together bytes
+        all R = promised R .together (λ q. bytes (recordOf m keys q))
 
     -- ---- calls on the union and on the intersection are answered where there is room
 

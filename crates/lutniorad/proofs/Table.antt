@@ -6,7 +6,7 @@ use lib.ListN.{length, take, drop, replicate}
 use Rattle.lists.specs.Lists.{upFrom, any, keep, before, howMany, greatest}
 use Rattle.answers.specs.declared.Verdict.the-variants as verdict-of
 use Rattle.answers.specs.Refusals.{answer, verdict}
-use Rattle.answers.specs.Sizes.{wrongCount, sizeRefusals, pictureRefusals, countRefusals, tileRefusals}
+use Rattle.answers.specs.Sizes.{wrongCount, sizeRefusalsIn, pictureRefusals, countRefusals, tileRefusals}
 use Rattle.answers.specs.Cells.{overwrite}
 use Rattle.answers.specs.After.{after, roomRefusals, roomFor}
 use Rattle.answers.proofs.P1.{keys, classes, old}
@@ -17,22 +17,22 @@ use Rattle.key.specs.Form.{from, formOf}
 use Rattle.window.specs.Window.{window, beyond, outside, windowRefusals}
 use Rattle.window.specs.Blocks.{floor, lies, fits, exponent, corner, across, rows, isCorner, maximal}
 use Rattle.window.specs.Keys.{keyOf, keysOf}
+use Rattle.window.specs.Rules.{totalBy, totalsBy}
 use Rattle.window.proofs.P1.{W}
 use Rattle.map.specs.declared.Checked.the-variants as checked
 use Rattle.map.specs.Spans as spans
 use Rattle.map.specs.Spans.{within}
-use Rattle.map.specs.Check.{late, refusalsFrom, mapRefusals, checkOf}
+use Rattle.map.specs.Check.{late, refusalsFrom, mapRefusalsIn, checkIn, checkOf}
 use Rattle.map.specs.Records.{recordOf, exponentOf}
 use Rattle.map.specs.Runs.{runOf}
 use Rattle.border.specs.Openings.{isHanded, made, opening, openFrom, openings, handedCount}
-use Rattle.used.specs.Used.{useRefusals, spent, usedFor, borderRefusals}
+use Rattle.used.specs.Used.{useRefusals, useRefusalsIn, spent, usedIn, borderRefusals}
 use Rattle.numbers.specs.Numbers.{bytes, bytesOf}
 use Rattle.house.specs.File.{header, fileOf}
-use Rattle.totals.specs.Totals.{total, totals}
 use Rattle.report.specs.declared.Reported.the-variants as reported
-use Rattle.report.specs.Report.{reportOf}
+use Rattle.report.specs.Report.{reportOf, reportIn}
 use Rattle.select.specs.declared.Selected.the-variants as selected
-use Rattle.select.specs.Select.{around, inside, selected, allSelected, selection, selectOf, selectTiled}
+use Rattle.select.specs.Select.{around, inside, selected, allSelected, selection, selectOf, selectKeys}
 
 pub record Table : Type 0 where
   pub p1-length : length (fileOf 2 keys classes) ≡ 55
@@ -55,11 +55,11 @@ pub record Table : Type 0 where
   pub p12-accepted : verdict (useRefusals 2 keys 7 (window 2 0 2 1) 1) ≡ verdict-of.Passed
 
 pub table : Table
-unfolding pictureRefusals countRefusals borderRefusals roomRefusals roomFor answer wrongCount sizeRefusals overwrite upFrom spreadTo spread place
+unfolding pictureRefusals countRefusals borderRefusals roomRefusals roomFor answer wrongCount sizeRefusalsIn overwrite upFrom spreadTo spread place
     pixelKey blockKey from formOf beyond outside windowRefusals keep floor lies fits greatest exponent corner across rows isCorner maximal keyOf
-    keysOf spans.malformed spans.formExponent spans.start spans.end spans.holds spans.overlap late refusalsFrom mapRefusals checkOf before howMany
-    recordOf exponentOf runOf any within isHanded opening openFrom openings handedCount useRefusals spent total totals around inside selected
-    allSelected selection usedFor reportOf tileRefusals selectTiled bytes bytesOf header fileOf
+    keysOf spans.malformed spans.formExponent spans.start spans.end spans.holds spans.overlap late refusalsFrom mapRefusalsIn checkIn before howMany
+    recordOf exponentOf runOf any within isHanded opening openFrom openings handedCount useRefusalsIn spent totalBy totalsBy around inside selected
+    allSelected selection usedIn reportIn tileRefusals selectKeys bytes bytesOf header fileOf
 table = record {
   p1-length = refl;
   p1-header = refl;

@@ -2,6 +2,7 @@
 -- Assumes nothing.
 use mathlib.Core.Path.{_≡_, sym, ap, ap₂, _∙_}
 use mathlib.Core.Logic.{_↔_}
+use mathlib.Core.Bool.{true}
 use mathlib.Core.List.{List, [], map}
 use Prim.Native.Nat.{ℕ, _+_, _*_, _≤_, _<_}
 use native.Mathlib.Omega.{arith}
@@ -9,6 +10,7 @@ use lib.ListN.{length, getD, take, drop}
 use Rattle.answers.specs.Cells.{overwrite}
 use Rattle.answers.proofs.Laws.{overwrite-at}
 use Rattle.window.specs.declared.Window.{Window}
+use Rattle.map.specs.Classes.{classIn}
 use Rattle.map.proofs.Laws.{spaced}
 use Rattle.border.specs.Openings.{Opening, openings, handedCount, cellsOf}
 use Rattle.border.specs.Promises.{openingsIn}
@@ -19,6 +21,7 @@ use Rattle.many.specs.Many.{windowAt, lineCells}
 use Rattle.many.proofs.Laws.{line-view}
 use Rattle.exist.proofs.Laws.{presence-view}
 use Rattle.totals.proofs.Laws.{total-view}
+use Rattle.select.specs.Select.{selection}
 use Rattle.select.proofs.Laws.{selection-view}
 use Rattle.month.specs.Month.{windowIn}
 use Rattle.month.proofs.Laws.{map-totals}
@@ -46,7 +49,7 @@ left-at m top keys classes W border out {out′ = out′} call z j l = ap (broug
 
     cell : (i : ℕ) → i < 3 * length os → getD out′ i 0 ≡ getD (cellsOf os) i 0
     cell i h =
-        ap (λ (x : List ℕ). getD x i 0) (open-leaves m top keys classes W border out call z .2)
+        ap (λ (x : List ℕ). getD x i 0) (open-leaves true m top keys classes W border out call z .2)
         ∙ overwrite-at (cellsOf os) out i (omega (arith, h, cells-length os))
 
     same : openingIn out′ j ≡ openingIn (cellsOf os) j
@@ -62,13 +65,13 @@ module _ (m top : ℕ) (keys classes keys′ classes′ : List ℕ) (W : Window)
   os′ = openings m top keys′ W
 
   cap : top ≤ m
-  cap = open-answered m top keys classes W border out call .0 z .0
+  cap = open-answered true m top keys classes W border out call .0 z .0
 
   A : Answerable m keys (length classes) W (length border)
-  A = open-answered m top keys classes W border out call .0 z .1 .0
+  A = open-answered true m top keys classes W border out call .0 z .1 .0
 
   A′ : Answerable m keys′ (length classes′) W (length other)
-  A′ = open-answered m top keys′ classes′ W other older call′ .0 z′ .1 .0
+  A′ = open-answered true m top keys′ classes′ W other older call′ .0 z′ .1 .0
 
   tell : (map (brought keys classes) os ≡ map (brought keys′ classes′) os′) ↔ SameView m keys classes keys′ classes′ W
   tell = openings-tell (spaced (A .sound .records)) (spaced (A′ .sound .records)) (A .inside) cap classes classes′
@@ -76,11 +79,11 @@ module _ (m top : ℕ) (keys classes keys′ classes′ : List ℕ) (W : Window)
   -- with the records themselves in place of the first indices, the openings tell the view, and nothing else
   pub open-tells : (map (brought keys classes) (openingsIn (take (3 * r .first) out′)) ≡ map (brought keys′ classes′) (openingsIn (take (3 * r′ .first) older′)))
       ↔ SameView m keys classes keys′ classes′ W
-  open-tells = rw (open-stand m top keys classes W border out call z, open-stand m top keys′ classes′ W other older call′ z′) tell
+  open-tells = rw (open-stand true m top keys classes W border out call z, open-stand true m top keys′ classes′ W other older call′ z′) tell
 
   pub open-view : SameView m keys classes keys′ classes′ W → SameOpened keys classes keys′ classes′ r r′ out′ older′
   open-view same = record {
-    numbers = says ∙ ap₂ values (n .0) (n .1) ∙ sym (open-leaves m top keys′ classes′ W other older call′ z′ .0);
+    numbers = says ∙ ap₂ values (n .0) (n .1) ∙ sym (open-leaves true m top keys′ classes′ W other older call′ z′ .0);
     opened = λ j l. ap (λ (x : ℕ × List (ℕ × ℕ)). x .0) (one j l);
     counts = λ j l.
         sym (brought-length keys classes (openingIn out′ j)) ∙ ap (λ (x : ℕ × List (ℕ × ℕ)). length (x .1)) (one j l) ∙ brought-length keys′ classes′ (openingIn older′ j);
@@ -88,7 +91,7 @@ module _ (m top : ℕ) (keys classes keys′ classes′ : List ℕ) (W : Window)
   }
     where
       says : r ≡ values (length os) (handedCount os)
-      says = open-leaves m top keys classes W border out call z .0
+      says = open-leaves true m top keys classes W border out call z .0
 
       n : (length os ≡ length os′) × (handedCount os ≡ handedCount os′)
       n = openings-numbers (spaced (A .sound .records)) (spaced (A′ .sound .records)) (A .inside) cap same
@@ -107,21 +110,21 @@ module _ {m : ℕ} {keys classes keys′ classes′ : List ℕ} {W : Window} (sa
   pub exist-view : (class : ℕ) (border other : List ℕ) {r r′ : Answer} {border′ other′ : List ℕ}
       → Exist m keys classes W class border r border′ → r .refusal ≡ 0 → Exist m keys′ classes′ W class other r′ other′ → r′ .refusal ≡ 0 → r ≡ r′
   exist-view class border other call z call′ z′ =
-      let A = exist-answered m keys classes W class border call .0 z in
-      let A′ = exist-answered m keys′ classes′ W class other call′ .0 z′ in
-      exist-three m keys classes W class border call z
+      let A = exist-answered true (classIn m keys classes) m keys classes W class border call .0 z in
+      let A′ = exist-answered true (classIn m keys′ classes′) m keys′ classes′ W class other call′ .0 z′ in
+      exist-three true (classIn m keys classes) m keys classes W class border call z
       ∙ ap ofExistence (presence-view (A .sound .records) (A′ .sound .records) (A .inside) same class)
-      ∙ sym (exist-three m keys′ classes′ W class other call′ z′)
+      ∙ sym (exist-three true (classIn m keys′ classes′) m keys′ classes′ W class other call′ z′)
 
   -- the same 256 cells of report
   pub report-view : (border out other older : List ℕ) {r r′ : Answer} {border′ out′ other′ older′ : List ℕ}
       → Report m keys classes W border out r border′ out′ → r .refusal ≡ 0 → Report m keys′ classes′ W other older r′ other′ older′ → r′ .refusal ≡ 0
       → (r ≡ r′) × ((k : ℕ) → k < 256 → getD out′ k 0 ≡ getD older′ k 0)
   report-view border out other older call z call′ z′ =
-      let A = report-answered m keys classes W border out call .0 z .0 in
-      let A′ = report-answered m keys′ classes′ W other older call′ .0 z′ .0 in
-      let P = report-promise m keys classes W border out call z in
-      let P′ = report-promise m keys′ classes′ W other older call′ z′ in
+      let A = report-answered true (classIn m keys classes) m keys classes W border out call .0 z .0 in
+      let A′ = report-answered true (classIn m keys′ classes′) m keys′ classes′ W other older call′ .0 z′ .0 in
+      let P = report-promise true (classIn m keys classes) m keys classes W border out call z in
+      let P′ = report-promise true (classIn m keys′ classes′) m keys′ classes′ W other older call′ z′ in
       (P .number ∙ sym (P′ .number), λ k l. P .cells k l ∙ total-view (A .sound .records) (A′ .sound .records) (A .inside) same k ∙ sym (P′ .cells k l))
 
   -- the same keys selected, in the same order
@@ -129,13 +132,13 @@ module _ {m : ℕ} {keys classes keys′ classes′ : List ℕ} {W : Window} (sa
       → SelectTiled m top keys classes W class border out r border′ out′ → r .refusal ≡ 0
       → SelectTiled m top keys′ classes′ W class other older r′ other′ older′ → r′ .refusal ≡ 0 → (r ≡ r′) × (take (r .first) out′ ≡ take (r′ .first) older′)
   select-view top class border out other older call z call′ z′ =
-      let A = select-answered m top keys classes W class border out call .0 z in
-      let A′ = select-answered m top keys′ classes′ W class other older call′ .0 z′ in
+      let A = select-answered true (selection m top keys classes W class) m top keys classes W border out call .0 z in
+      let A′ = select-answered true (selection m top keys′ classes′ W class) m top keys′ classes′ W other older call′ .0 z′ in
       let P = select-promise m top keys classes W class border out call z in
       let P′ = select-promise m top keys′ classes′ W class other older call′ z′ in
       let ks = selection-view (spaced (A .1 .0 .sound .records)) (spaced (A′ .1 .0 .sound .records)) (A .1 .0 .inside) (A .0) same class in
       let all = P .in-order ∙ ks ∙ sym (P′ .in-order) in
-      (P .number ∙ ap (λ (xs : List ℕ). values (length xs) 0) all ∙ sym (P′ .number), all)
+      (P .states .number ∙ ap (λ (xs : List ℕ). values (length xs) 0) all ∙ sym (P′ .states .number), all)
 
 -- of many windows, the same line for each through which the view is the same
 pub windows-view : (m : ℕ) (keys classes keys′ classes′ windows border out other older : List ℕ) {r r′ : Answer} {border′ out′ other′ older′ : List ℕ}

@@ -16,14 +16,13 @@ use Rattle.key.specs.Form.{formOf}
 use Rattle.window.specs.declared.Window.{Window}
 use Rattle.window.specs.Window.{In}
 use Rattle.window.specs.Promises.{Maximal, Before}
+use Rattle.window.specs.Rules.{totalBy}
 use Rattle.map.specs.Spans.{holds}
-use Rattle.map.specs.Records.{pixelRecord}
-use Rattle.map.specs.Classes.{notSeen}
+use Rattle.map.specs.Classes.{classIn, notSeen}
 use Rattle.border.specs.Openings.{Opening, openings, cellsOf, allHands}
 use Rattle.border.specs.Promises.{Overlaps, HandedOut, Apart, Enough}
 use Rattle.used.specs.Used.{spent}
 use Rattle.house.specs.File.{fileOf, fileM, fileQ, fileKeys, fileClasses}
-use Rattle.totals.specs.Totals.{total}
 use Rattle.select.specs.Select.{selection}
 use Rattle.lutniorad.specs.declared.Answer.{Answer}
 use Rattle.lutniorad.specs.Numbers.{values}
@@ -49,8 +48,8 @@ pub record DecomposePromise (m top : ℕ) (W : Window) (out : List ℕ) (r : Ans
   pub number : r ≡ values (length blocks) 0
   pub cells : out′ ≡ overwrite (map (λ b. blockKey m (b .0) (b .1 .0) (b .1 .1)) blocks) out
 
--- opening, with blocks of exponent up to `top`, of the openings that stand in the first cells
-pub record OpenPromise (m top : ℕ) (keys : List ℕ) (W : Window) (border out : List ℕ) (os : List Opening) (r : Answer) (border′ out′ : List ℕ) : Type 0 where
+-- opening, with blocks of exponent up to `top`, of the openings that stand in the first cells: what is promised whether the map is whole or has gaps
+pub record OpenStates (m top : ℕ) (keys : List ℕ) (W : Window) (border out : List ℕ) (os : List Opening) (r : Answer) (border′ out′ : List ℕ) : Type 0 where
   -- demand 2: every record that overlaps the window stands in an opening, and no other record does
   pub all : (n : ℕ) → Overlaps m keys W n ↔ HandedOut os n
   -- none stands in two of them
@@ -60,64 +59,80 @@ pub record OpenPromise (m top : ℕ) (keys : List ℕ) (W : Window) (border out 
   -- demand 3: there are fewer than 4 (w + h) and as many as there is room for tiles; without a tile, fewer than 4 (w + h)
   pub few : length os < 4 * (W .w + W .h) + W .w * W .h / 4 ^ top
   pub few-whole : top ≡ m → length os < 4 * (W .w + W .h)
-  -- each has at least one record
-  pub some : (o : Opening) → List·Memᴰ o os → 1 ≤ o .count
-  -- no list of fewer maximal blocks brings all the records
-  pub fewest : (blocks : List ℕ) → Enough m top keys W blocks → length os ≤ length blocks
   -- `first` is the length of the list, and `second` the number of its records
   pub numbers : r ≡ values (length os) (length (allHands os))
   -- cells beyond keep their content, and the first w border cells hold r0 + h
   pub cells : out′ ≡ overwrite (cellsOf os) out
   pub border-after : border′ ≡ spent W border
 
--- the class of a pixel is that of its record
-abbrev pub classAt : ℕ → List ℕ → List ℕ → Px → ℕ
-classAt m keys classes p = getD classes (pixelRecord m keys (p .0) (p .1)) 0
+-- and on a whole map
+pub record OpenPromise (m top : ℕ) (keys : List ℕ) (W : Window) (border out : List ℕ) (os : List Opening) (r : Answer) (border′ out′ : List ℕ) : Type 0 where
+  pub states : OpenStates m top keys W border out os r border′ out′
+  -- each has at least one record
+  pub some : (o : Opening) → List·Memᴰ o os → 1 ≤ o .count
+  -- no list of fewer maximal blocks brings all the records
+  pub fewest : (blocks : List ℕ) → Enough m top keys W blocks → length os ≤ length blocks
 
--- some pixel of the window has the class
+-- some pixel of the window has the class, by a rule that gives places classes
+abbrev pub SomePixelBy : (ℕ → ℕ) → Window → ℕ → Type 0
+SomePixelBy rule W class = (p : Px) × In W p × (rule (place (p .0) (p .1)) ≡ class)
+
+-- in a whole map the class of a pixel is that of its record
 abbrev pub SomePixel : ℕ → List ℕ → List ℕ → Window → ℕ → Type 0
-SomePixel m keys classes W class = (p : Px) × In W p × (classAt m keys classes p ≡ class)
+SomePixel m keys classes = SomePixelBy (classIn m keys classes)
 
 -- exist
-pub record ExistPromise (m : ℕ) (keys classes : List ℕ) (W : Window) (class : ℕ) (border : List ℕ) (r : Answer) (border′ : List ℕ) : Type 0 where
+pub record ExistPromiseBy (rule : ℕ → ℕ) (W : Window) (class : ℕ) (border : List ℕ) (r : Answer) (border′ : List ℕ) : Type 0 where
   -- `first` is 1 exactly when some pixel of the window has the class
-  pub yes : (r ≡ values 1 0) ↔ SomePixel m keys classes W class
+  pub yes : (r ≡ values 1 0) ↔ SomePixelBy rule W class
   -- 2 exactly when none has it and some were not seen
-  pub cannot-tell : (r ≡ values 2 0) ↔ ((¬ SomePixel m keys classes W class) × SomePixel m keys classes W notSeen)
+  pub cannot-tell : (r ≡ values 2 0) ↔ ((¬ SomePixelBy rule W class) × SomePixelBy rule W notSeen)
   -- and 0 exactly when none has it and all were seen
-  pub no : (r ≡ values 0 0) ↔ ((¬ SomePixel m keys classes W class) × (¬ SomePixel m keys classes W notSeen))
+  pub no : (r ≡ values 0 0) ↔ ((¬ SomePixelBy rule W class) × (¬ SomePixelBy rule W notSeen))
   -- it is one of these numbers, so one of the three holds, and no two of them do
   pub one-of : (r .first ≤ 2) × (r ≡ values (r .first) 0)
   -- asked for what was not seen itself, it is never 2
   pub certain : class ≡ notSeen → r ≡ values 2 0 → ⊥
   pub border-after : border′ ≡ spent W border
 
+-- on a whole map
+abbrev pub ExistPromise : ℕ → List ℕ → List ℕ → Window → ℕ → List ℕ → Answer → List ℕ → Type 0
+ExistPromise m keys classes = ExistPromiseBy (classIn m keys classes)
+
 -- report
-pub record ReportPromise (m : ℕ) (keys classes : List ℕ) (W : Window) (border out : List ℕ) (r : Answer) (border′ out′ : List ℕ) : Type 0 where
+pub record ReportPromiseBy (rule : ℕ → ℕ) (W : Window) (border out : List ℕ) (r : Answer) (border′ out′ : List ℕ) : Type 0 where
   pub number : r ≡ values (W .h * W .w) 0
   -- cell k is the number of the window's pixels of class k, for all 256 of them
-  pub cells : (k : ℕ) → k < 256 → getD out′ k 0 ≡ total m keys classes W k
+  pub cells : (k : ℕ) → k < 256 → getD out′ k 0 ≡ totalBy rule W k
   -- classes are bytes, so together these are the window's pixels
-  pub together : ((n : ℕ) → getD classes n 0 < 256) → sum (take 256 out′) ≡ W .h * W .w
+  pub together : ((q : ℕ) → rule q < 256) → sum (take 256 out′) ≡ W .h * W .w
   -- cells beyond keep their content
   pub beyond : drop 256 out′ ≡ drop 256 out
   pub border-after : border′ ≡ spent W border
 
--- select, with blocks of exponent up to `top`, of the keys that stand in the first cells
-pub record SelectPromise (m top : ℕ) (keys classes : List ℕ) (W : Window) (class : ℕ) (border out ks : List ℕ) (r : Answer) (border′ out′ : List ℕ) : Type 0 where
+-- on a whole map
+abbrev pub ReportPromise : ℕ → List ℕ → List ℕ → Window → List ℕ → List ℕ → Answer → List ℕ → List ℕ → Type 0
+ReportPromise m keys classes = ReportPromiseBy (classIn m keys classes)
+
+-- select, of the keys that stand in the first cells: what is promised whether the map is whole or has gaps
+pub record SelectStates (rule : ℕ → ℕ) (m : ℕ) (W : Window) (class : ℕ) (border out ks : List ℕ) (r : Answer) (border′ out′ : List ℕ) : Type 0 where
   -- a pixel of the window has the class exactly when it lies in the block of one of the keys
-  pub pixels : (p : Px) → In W p → (classAt m keys classes p ≡ class) ↔ ((x : ℕ) × List·Memᴰ x ks × (holds (place (p .0) (p .1)) (formOf m x) ≡ true))
+  pub pixels : (p : Px) → In W p → (rule (place (p .0) (p .1)) ≡ class) ↔ ((x : ℕ) × List·Memᴰ x ks × (holds (place (p .0) (p .1)) (formOf m x) ≡ true))
   -- and then of one only
   pub apart : (q x y : ℕ) → List·Memᴰ x ks → List·Memᴰ y ks → holds q (formOf m x) ≡ true → holds q (formOf m y) ≡ true → x ≡ y
   -- no key stands twice
   pub once : Ordered _≢_ ks
+  pub number : r ≡ values (length ks) 0
+  pub cells : out′ ≡ overwrite ks out
+  pub border-after : border′ ≡ spent W border
+
+-- and on a whole map, with blocks of exponent up to `top`
+pub record SelectPromise (m top : ℕ) (keys classes : List ℕ) (W : Window) (class : ℕ) (border out ks : List ℕ) (r : Answer) (border′ out′ : List ℕ) : Type 0 where
+  pub states : SelectStates (classIn m keys classes) m W class border out ks r border′ out′
   -- they come block by block: its own key, or those of the records inside it
   pub in-order : ks ≡ selection m top keys classes W class
   pub few : length ks < 4 * (W .w + W .h) + W .w * W .h / 4 ^ top + length keys
   pub few-whole : top ≡ m → length ks < 4 * (W .w + W .h) + length keys
-  pub number : r ≡ values (length ks) 0
-  pub cells : out′ ≡ overwrite ks out
-  pub border-after : border′ ≡ spent W border
 
 -- reading: m and Q are those of the header, and the first Q cells of both slices are the file's
 pub record ReadPromise (file keys classes : List ℕ) (r : Answer) (keys′ classes′ : List ℕ) : Type 0 where

@@ -7,7 +7,7 @@ use native.Mathlib.Omega.{arith}
 use lib.ListN.{take, replicate}
 use Rattle.lists.specs.Lists.{upFrom, greatestOf, any, keep, before, howMany, greatest}
 use Rattle.answers.specs.Refusals.{answer}
-use Rattle.answers.specs.Sizes.{wrongCount, sizeRefusals, pictureRefusals, countRefusals}
+use Rattle.answers.specs.Sizes.{wrongCount, sizeRefusalsIn, pictureRefusals, countRefusals}
 use Rattle.answers.specs.Cells.{overwrite}
 use Rattle.answers.specs.After.{after, roomRefusals}
 use Rattle.answers.proofs.Laws.{refused-not-passed}
@@ -21,7 +21,7 @@ use Rattle.window.specs.Blocks.{floor, lies, fits, exponent, corner, across, ro
 use Rattle.window.specs.Keys.{keyOf, keysOf}
 use Rattle.map.specs.Spans as spans
 use Rattle.map.specs.Spans.{within}
-use Rattle.map.specs.Check.{late, refusalsFrom, mapRefusals}
+use Rattle.map.specs.Check.{late, refusalsFrom, mapRefusalsIn}
 use Rattle.map.specs.Records.{recordOf, exponentOf}
 use Rattle.map.specs.Runs.{runOf}
 use Rattle.border.specs.Openings.{isHanded, opening, openFrom, openings, handedCount}
@@ -69,9 +69,9 @@ pub record Examples : Type 0 where
   pub not-the-first : LeftIn 2 (windowsIn (drawn ++ below ++ pixel)) (old 4) 0 3 → ⊥
 
 pub examples : Examples
-unfolding pictureRefusals countRefusals borderRefusals roomRefusals answer wrongCount sizeRefusals overwrite upFrom greatestOf spreadTo spread place
+unfolding pictureRefusals countRefusals borderRefusals roomRefusals answer wrongCount sizeRefusalsIn overwrite upFrom greatestOf spreadTo spread place
     pixelKey blockKey from formOf beyond outside windowRefusals keep floor lies fits greatest exponent corner across rows isCorner maximal keyOf
-    keysOf spans.malformed spans.formExponent spans.start spans.end spans.holds spans.overlap late refusalsFrom mapRefusals before howMany recordOf
+    keysOf spans.malformed spans.formExponent spans.start spans.end spans.holds spans.overlap late refusalsFrom mapRefusalsIn before howMany recordOf
     exponentOf runOf any within isHanded opening openFrom openings handedCount spent
     windowsIn wrongList listRefusals columns lineOf linesOf leftBy widest manyRefusals manyOf
 examples = record {

@@ -146,7 +146,7 @@ module _ (m : ℕ) (keys : List ℕ) (classes : ℕ) (windows : List ℕ) (borde
       to z (Refused n′ p′) e =
           let same : Refused n′ p′ ≡ Refused n p = sym (many-unsound e) ∙ q in
           let number : n′ ≡ n = cc in
-          absurd (omega (arith, z, number, refused-most (numbered-map {most = 5} (omega arith) m keys classes) e))
+          absurd (omega (arith, z, number, refused-most (numbered-map {most = 5} (omega arith) true m keys classes) e))
 
       from : SoundMap m keys classes × (¬ InFours windows) → n ≡ 25
       from t =
@@ -156,7 +156,7 @@ module _ (m : ℕ) (keys : List ℕ) (classes : ℕ) (windows : List ℕ) (borde
   pub numbered-many : Numbered 25 (manyRefusals m keys classes windows border out)
   unfolding manyRefusals listRefusals
   numbered-many =
-      numbered-append (numbered-map (omega arith) m keys classes)
+      numbered-append (numbered-map (omega arith) true m keys classes)
       (numbered-append (numbered-next 25 (omega arith) (omega arith) none)
       (numbered-append (numbered-border (widest m Ws) border (omega arith)) (numbered-room out (5 * length Ws) (omega arith))))
 

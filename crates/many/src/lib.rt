@@ -93,7 +93,7 @@ fn askable(
 ) -> Verdict
     ensures { λ r. ⌜ r ≡ verdict (manyRefusals m (now (keys .entry)) (length (now (classes .entry))) (now (windows .entry)) cells room) ⌝ }
 {
-    let sound = checks::sound(m, keys, classes);
+    let sound = checks::sound(m, keys, classes, true);
     if let Verdict::Refused { number, place } = sound {
         return Verdict::Refused { number, place };
     }

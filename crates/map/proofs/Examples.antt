@@ -8,14 +8,14 @@ use Rattle.lists.specs.Lists.{before, howMany}
 use Rattle.answers.specs.declared.Verdict.the-variants.{Passed}
 use Rattle.answers.specs.declared.Verdict.the-variants as refusal
 use Rattle.answers.specs.Refusals.{answer, verdict}
-use Rattle.answers.specs.Sizes.{wrongCount, sizeRefusals, pictureRefusals, countRefusals}
+use Rattle.answers.specs.Sizes.{wrongCount, sizeRefusalsIn, pictureRefusals, countRefusals}
 use Rattle.answers.proofs.P1.{keys}
 use Rattle.key.specs.Spread.{spreadTo, spread}
 use Rattle.key.specs.Picture.{place}
 use Rattle.key.specs.Form.{from, formOf}
 use Rattle.map.specs.declared.Checked.the-variants.{Sound, Refused}
 use Rattle.map.specs.Spans.{malformed, formExponent, start, end, holds, overlap}
-use Rattle.map.specs.Check.{late, refusalsFrom, mapRefusals, checkOf}
+use Rattle.map.specs.Check.{late, refusalsFrom, mapRefusalsIn, checkIn, checkOf}
 use Rattle.map.specs.Records.{recordOf, exponentOf}
 use Rattle.map.specs.Runs.{run, runOf}
 use Rattle.map.proofs.Tiles.{tileOf}
@@ -53,8 +53,8 @@ pub record Examples : Type 0 where
   pub tile : tileOf 2 gapped 1 ≡ 3
 
 pub examples : Examples
-unfolding pictureRefusals countRefusals answer wrongCount sizeRefusals spreadTo spread place from formOf malformed formExponent start end holds
-    overlap late refusalsFrom mapRefusals checkOf before howMany recordOf exponentOf tileOf runOf
+unfolding pictureRefusals countRefusals answer wrongCount sizeRefusalsIn spreadTo spread place from formOf malformed formExponent start end holds
+    overlap late refusalsFrom mapRefusalsIn checkIn before howMany recordOf exponentOf tileOf runOf
 examples = record {
   sound = refl;
   pixel = refl;

@@ -2,14 +2,16 @@
 -- Assumes nothing.
 use mathlib.Core.Path.{_≡_}
 use mathlib.Core.Logic.{_⊎_, inl, inr}
+use mathlib.Core.Bool.{Bool, true, false}
 use mathlib.Core.List.{List, _∷_}
 use Prim.Native.Nat.{ℕ, zero, suc, _+_, _^_, _≤_, _<_}
 use native.Mathlib.Decide.{decLe, decLt}
 use native.Mathlib.Omega.{arith}
 use lib.ListN.{length, getD}
+use Rattle.answers.proofs.Laws.{sized-sparse}
 use Rattle.key.specs.Blocks.{Among}
 use Rattle.key.proofs.Laws.{one-block, ordered, pow-least}
-use Rattle.map.specs.Sound.{Follow, full, next, Spaced, ended, later}
+use Rattle.map.specs.Sound.{Follow, full, next, Spaced, ended, later, Recorded, SoundMap, SparseMap}
 use Rattle.map.specs.Runs.{Rising}
 use Rattle.map.proofs.Tiles.{Record, SomeRecord, Holder, Free}
 
@@ -18,6 +20,14 @@ module _ {m : ℕ} where
   pub spaced : {at : ℕ} {keys : List ℕ} → Follow m at keys → Spaced m at keys
   spaced (full e) = ended
   spaced {at} (next b q F) = later {at = at} {s = at} (omega arith) b q (spaced F)
+
+  pub recorded-spaced : (whole : Bool) {keys : List ℕ} → Recorded whole m keys → Spaced m 0 keys
+  recorded-spaced true F = spaced F
+  recorded-spaced false F = F
+
+  -- so a whole map is one that may have gaps
+  pub whole-sparse : {keys : List ℕ} {classes : ℕ} → SoundMap m keys classes → SparseMap m keys classes
+  whole-sparse S = record { sizes = sized-sparse (S .sizes); records = spaced (S .records) }
 
   pub record-at : {at : ℕ} {keys : List ℕ} → Spaced m at keys → (n : ℕ) → n < length keys → SomeRecord m keys n
   record-at ended n l = absurd (omega arith)

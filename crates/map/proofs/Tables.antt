@@ -1,4 +1,4 @@
--- The tables of a map, part after part; and a map that passes them is sound as `SoundMap` says, and no other.
+-- The tables of a map, part after part; and a map that passes them is sound as `SoundIn` says, and no other.
 -- Assumes nothing.
 use mathlib.Core.Path.{_≡_, refl, sym, ap, _∙_}
 use mathlib.Core.Logic.{_↔_}
@@ -11,7 +11,7 @@ use lib.ListN.{length}
 use Rattle.answers.specs.declared.Verdict.the-variants.{Passed}
 use Rattle.answers.specs.declared.Verdict.the-variants as refusal
 use Rattle.answers.specs.Refusals.{answer, verdict}
-use Rattle.answers.specs.Sizes.{sizeRefusals}
+use Rattle.answers.specs.Sizes.{sizeRefusalsIn}
 use Rattle.answers.proofs.Laws.{on-passed, on-refused, append-refused, append-passed, refused-not-passed, passed-append, sized, over-12}
 use Rattle.answers.proofs.Laws.{Numbered, none, numbered-next, numbered-append, numbered-sizes}
 use Rattle.key.specs.declared.Form.{Form}
@@ -21,32 +21,32 @@ use Rattle.key.specs.Blocks.{Names}
 use Rattle.key.proofs.Laws.{one-block, block-lies}
 use Rattle.map.specs.declared.Checked.the-variants.{Sound, Refused}
 use Rattle.map.specs.Spans.{end}
-use Rattle.map.specs.Check.{late, refusalsFrom, recordRefusals, mapRefusals, checkOf}
-use Rattle.map.specs.Sound.{Follow, full, next, Spaced, ended, later, SoundMap}
+use Rattle.map.specs.Check.{late, refusalsFrom, mapRefusalsIn, checkIn}
+use Rattle.map.specs.Sound.{Follow, full, next, Spaced, ended, later, Recorded, SoundIn}
 use Rattle.map.proofs.Steps.{late-not, late-never, not-late, step-malformed, step-early, step-late, step-next, step-short, step-full}
 
-module _ (m : ℕ) (keys : List ℕ) (classes : ℕ) where
-  pub sizes-refused : {n p : ℕ} → verdict (sizeRefusals m (length keys) classes) ≡ refusal.Refused n p → verdict (mapRefusals m keys classes) ≡ refusal.Refused n p
-  unfolding mapRefusals
+module _ (whole : Bool) (m : ℕ) (keys : List ℕ) (classes : ℕ) where
+  pub sizes-refused : {n p : ℕ} → verdict (sizeRefusalsIn whole m (length keys) classes) ≡ refusal.Refused n p → verdict (mapRefusalsIn whole m keys classes) ≡ refusal.Refused n p
+  unfolding mapRefusalsIn
   sizes-refused e = append-refused refusal.Refused _ _ _ e
 
-  pub map-over : 12 < m → verdict (mapRefusals m keys classes) ≡ refusal.Refused 1 0
-  map-over l = sizes-refused (over-12 m (length keys) classes l)
+  pub map-over : 12 < m → verdict (mapRefusalsIn whole m keys classes) ≡ refusal.Refused 1 0
+  map-over l = sizes-refused (over-12 whole m (length keys) classes l)
 
-  pub sizes-passed : verdict (sizeRefusals m (length keys) classes) ≡ Passed → verdict (mapRefusals m keys classes) ≡ verdict (recordRefusals m 0 0 keys)
-  unfolding mapRefusals
+  pub sizes-passed : verdict (sizeRefusalsIn whole m (length keys) classes) ≡ Passed → verdict (mapRefusalsIn whole m keys classes) ≡ verdict (refusalsFrom whole m 0 0 keys)
+  unfolding mapRefusalsIn
   sizes-passed e = append-passed refusal.Refused _ _ _ e
 
-  pub check-refused : {n p : ℕ} → verdict (mapRefusals m keys classes) ≡ refusal.Refused n p → checkOf m keys classes ≡ Refused n p
-  unfolding checkOf
+  pub check-refused : {n p : ℕ} → verdict (mapRefusalsIn whole m keys classes) ≡ refusal.Refused n p → checkIn whole m keys classes ≡ Refused n p
+  unfolding checkIn
   check-refused e = on-refused Refused _ _ e
 
-  pub check-passed : verdict (mapRefusals m keys classes) ≡ Passed → checkOf m keys classes ≡ Sound (length keys)
-  unfolding checkOf
+  pub check-passed : verdict (mapRefusalsIn whole m keys classes) ≡ Passed → checkIn whole m keys classes ≡ Sound (length keys)
+  unfolding checkIn
   check-passed e = on-passed Refused _ _ e
 
-  pub check-is : checkOf m keys classes ≡ answer Refused (mapRefusals m keys classes) (Sound (length keys))
-  unfolding checkOf
+  pub check-is : checkIn whole m keys classes ≡ answer Refused (mapRefusalsIn whole m keys classes) (Sound (length keys))
+  unfolding checkIn
   check-is = refl
 
 -- ---- the records
@@ -59,9 +59,9 @@ module _ {most : ℕ} (h : 5 ≤ most) where
       let rest = numbered-records whole m (suc n) (end (formOf m k)) ks in
       numbered-next 3 (omega arith) (omega arith) (numbered-next 4 (omega arith) (omega arith) (numbered-next 5 (omega arith) h rest))
 
-  pub numbered-map : (m : ℕ) (keys : List ℕ) (classes : ℕ) → Numbered most (mapRefusals m keys classes)
-  unfolding mapRefusals
-  numbered-map m keys classes = numbered-append (numbered-sizes m (length keys) classes (omega arith)) (numbered-records true m 0 0 keys)
+  pub numbered-map : (whole : Bool) (m : ℕ) (keys : List ℕ) (classes : ℕ) → Numbered most (mapRefusalsIn whole m keys classes)
+  unfolding mapRefusalsIn
+  numbered-map whole m keys classes = numbered-append (numbered-sizes whole m (length keys) classes (omega arith)) (numbered-records whole m 0 0 keys)
 
 -- what the table asks of the records behind `at`: that they follow one another, or that they are spaced
 module _ (whole : Bool) (m : ℕ) (Good : ℕ → List ℕ → Type 0)
@@ -103,7 +103,7 @@ module _ (whole : Bool) (m : ℕ) (Good : ℕ → List ℕ → Type 0)
   passes n at (k ∷ ks) l = passes-on n at k ks (formOf m k) refl (λ e h. passes (suc n) e ks h)
 
 -- a whole map
-follow : (m n at : ℕ) (keys : List ℕ) → at ≤ 4 ^ m → (verdict (recordRefusals m n at keys) ≡ Passed) ↔ Follow m at keys
+follow : (m n at : ℕ) (keys : List ℕ) → at ≤ 4 ^ m → (verdict (refusalsFrom true m n at keys) ≡ Passed) ↔ Follow m at keys
 follow m = passes true m (Follow m) none some more
   where
     none : (at : ℕ) → at ≤ 4 ^ m → (late true at (4 ^ m) ≡ false) ↔ Follow m at []
@@ -125,10 +125,14 @@ spaced-records m = passes false m (Spaced m) (λ at l. (λ e. ended, λ g. late-
     some : (at k : ℕ) (ks : List ℕ) → Spaced m at (k ∷ ks) → (i : ℕ) × (s : ℕ) × Names m k i s × (at ≤ s) × (late false at s ≡ false) × Spaced m (s + 4 ^ i) ks
     some at k ks (later {i = i} {s = s} l b q F) = (i, s, b, l, late-never at s, rw q at F)
 
+recorded : (whole : Bool) (m : ℕ) (keys : List ℕ) → (verdict (refusalsFrom whole m 0 0 keys) ≡ Passed) ↔ Recorded whole m keys
+recorded true m keys = follow m 0 0 keys (omega arith)
+recorded false m keys = spaced-records m 0 0 keys (omega arith)
+
 -- a map passes exactly when it is sound
-pub sound-map : (m : ℕ) (keys : List ℕ) (classes : ℕ) → (verdict (mapRefusals m keys classes) ≡ Passed) ↔ SoundMap m keys classes
-unfolding mapRefusals
-sound-map m keys classes = (
-  λ e. let p = passed-append _ _ .0 e in record { sizes = sized .0 (p .0); records = follow m 0 0 keys (omega arith) .0 (p .1) },
-  λ s. passed-append _ _ .1 (sized .1 (s .sizes), follow m 0 0 keys (omega arith) .1 (s .records)),
+pub sound-map : {whole : Bool} (m : ℕ) (keys : List ℕ) (classes : ℕ) → (verdict (mapRefusalsIn whole m keys classes) ≡ Passed) ↔ SoundIn whole m keys classes
+unfolding mapRefusalsIn
+sound-map {whole} m keys classes = (
+  λ e. let p = passed-append _ _ .0 e in record { sizes = sized .0 (p .0); records = recorded whole m keys .0 (p .1) },
+  λ s. passed-append _ _ .1 (sized .1 (s .sizes), recorded whole m keys .1 (s .records)),
 )

@@ -10,7 +10,7 @@ use Rattle.lists.specs.Promises.{leastOf}
 use Rattle.lists.specs.Lists.{upFrom, greatestOf, any, before, howMany}
 use Rattle.answers.specs.declared.Verdict.the-variants as verdict-of
 use Rattle.answers.specs.Refusals.{answer, verdict}
-use Rattle.answers.specs.Sizes.{wrongCount, sizeRefusals, pictureRefusals, countRefusals}
+use Rattle.answers.specs.Sizes.{wrongCount, sizeRefusalsIn, pictureRefusals, countRefusals}
 use Rattle.answers.specs.Cells.{overwrite}
 use Rattle.answers.specs.After.{after, roomRefusals}
 use Rattle.answers.proofs.P1.{keys, classes, old}
@@ -20,12 +20,12 @@ use Rattle.key.specs.Form.{from, formOf}
 use Rattle.window.specs.Window.{window, beyond, outside, windowRefusals}
 use Rattle.window.specs.Drawn.{drawnRefusals, drawnFor}
 use Rattle.window.specs.Blocks.{across, rows}
+use Rattle.window.specs.Rules.{totalBy}
 use Rattle.window.proofs.P1.{W}
 use Rattle.map.specs.Spans as spans
-use Rattle.map.specs.Check.{late, refusalsFrom, mapRefusals}
+use Rattle.map.specs.Check.{late, refusalsFrom, mapRefusalsIn}
 use Rattle.map.specs.Records.{recordOf}
 use Rattle.used.specs.Used.{spent, borderRefusals}
-use Rattle.totals.specs.Totals.{total}
 use Rattle.rows.specs.Promises.{rowOf}
 use Rattle.month.specs.declared.Cleared.the-variants as cleared
 use Rattle.month.specs.declared.Added.the-variants as added
@@ -68,9 +68,9 @@ pub record Examples : Type 0 where
   pub narrow-last : verdict (addRefusals 2 keys 7 2 (other 999 0 0)) ≡ verdict-of.Refused 7 3
 
 pub examples : Examples
-unfolding pictureRefusals countRefusals borderRefusals roomRefusals answer wrongCount sizeRefusals overwrite upFrom spreadTo spread place from formOf beyond outside
-    windowRefusals drawnRefusals drawnFor across rows spans.malformed spans.formExponent spans.start spans.end spans.holds late refusalsFrom mapRefusals before howMany
-    any recordOf spent total numbers.sum leastOf greatestOf rowCells tableOf clearOf withMap addMap over anyOver spoiled tableRefusals addRefusals addOf countsOf rowOf monthOf
+unfolding pictureRefusals countRefusals borderRefusals roomRefusals answer wrongCount sizeRefusalsIn overwrite upFrom spreadTo spread place from formOf beyond outside
+    windowRefusals drawnRefusals drawnFor across rows spans.malformed spans.formExponent spans.start spans.end spans.holds late refusalsFrom mapRefusalsIn before howMany
+    any recordOf spent totalBy numbers.sum leastOf greatestOf rowCells tableOf clearOf withMap addMap over anyOver spoiled tableRefusals addRefusals addOf countsOf rowOf monthOf
 examples = record {
   clears = refl;
   clear-outside = refl;

@@ -67,5 +67,5 @@ module _ (m : ℕ) (keys : List ℕ) (classes border : ℕ) (table : List ℕ) (
       go : (v : Verdict) → verdict (mapRefusals m keys classes) ≡ v → Outcome m keys classes border table (verdict vs)
       go Passed e = by-size e (eqb (mIn table) m) refl
       go (Refused n p) e =
-          let small = refused-most (numbered-map {most = 5} (omega arith) m keys classes) e in
+          let small = refused-most (numbered-map {most = 5} (omega arith) true m keys classes) e in
           rw (add-unsound m keys classes border table e) (unsound small (λ S. refused-not-passed (sym e ∙ sound-map m keys classes .1 S)))

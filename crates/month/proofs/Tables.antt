@@ -101,7 +101,7 @@ module _ (m : ℕ) (keys : List ℕ) (classes border : ℕ) (table : List ℕ) w
 
   pub numbered-add : Numbered 26 (addRefusals m keys classes border table)
   unfolding addRefusals
-  numbered-add = numbered-append (numbered-map (omega arith) m keys classes) (numbered-append (numbered-table m table) (numbered-border (windowIn table .w) border (omega arith)))
+  numbered-add = numbered-append (numbered-map (omega arith) true m keys classes) (numbered-append (numbered-table m table) (numbered-border (windowIn table .w) border (omega arith)))
 
   -- they pass exactly what can be added
   pub add-addable : (verdict (addRefusals m keys classes border table) ≡ Passed) ↔ Addable m keys classes border table

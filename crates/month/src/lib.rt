@@ -139,7 +139,7 @@ fn ongoing(m: u32, table: &[u64]) -> Verdict
 fn addable(m: u32, keys: &[u32], classes: &[u8], cells: usize, table: &[u64]) -> Verdict
     ensures { λ r. ⌜ r ≡ verdict (addRefusals m (now (keys .entry)) (length (now (classes .entry))) cells (now (table .entry))) ⌝ }
 {
-    let sound = checks::sound(m, keys, classes);
+    let sound = checks::sound(m, keys, classes, true);
     if let Verdict::Refused { number, place } = sound {
         return Verdict::Refused { number, place };
     }

@@ -1,6 +1,7 @@
 -- What an answer of opening tells: the count is the length of the list that was written, and the laws of openings hold of that list.
 -- Assumes nothing.
 use mathlib.Core.Path.{_≡_, sym, ap, _∙_}
+use mathlib.Core.Bool.{true}
 use mathlib.Core.List.{List}
 use Prim.Native.Nat.{ℕ, _*_, _≤_}
 use native.Mathlib.Omega.{arith}
@@ -25,9 +26,9 @@ pub answered : (m top : ℕ) (keys : List ℕ) (classes : ℕ) (W : Window) (bor
     → openTiled m top keys classes W border out ≡ after (Done count records) (border′, out′) → Answered m top keys W count records out′
 answered m top keys classes W border out cap {count} {records} {border′} {out′} e =
     let os = openings m top keys W in
-    let o = sym (open-within m top keys classes W border out cap) ∙ e in
-    let t = used-told Refused (Done (length os) (handedCount os)) (cellsOf os) m keys classes W border out (λ n p. opened-apart n p) o in
-    let U = use-known m keys classes W (length border) (t .passed) in
+    let o = sym (open-within true m top keys classes W border out cap) ∙ e in
+    let t = used-told true Refused (Done (length os) (handedCount os)) (cellsOf os) m keys classes W border out (λ n p. opened-apart n p) o in
+    let U = use-known true m keys classes W (length border) (t .passed) in
     let d = t .says in
     let n : length os ≡ count = cc in
     let k : handedCount os ≡ records = cc in

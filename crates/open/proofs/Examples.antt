@@ -1,13 +1,14 @@
 -- Opening, in examples: on the map and the window of P1.
 -- Assumes nothing.
 use mathlib.Core.Path.{_≡_, refl}
+use mathlib.Core.Bool.{true}
 use mathlib.Core.List.{List, [], _∷_}
 use Prim.Native.Nat.{ℕ}
 use native.Mathlib.Omega.{arith}
 use lib.ListN.{take}
 use Rattle.lists.specs.Lists.{upFrom, any, keep, before, howMany, greatest}
 use Rattle.answers.specs.Refusals.{answer}
-use Rattle.answers.specs.Sizes.{wrongCount, sizeRefusals, pictureRefusals, countRefusals, tileRefusals}
+use Rattle.answers.specs.Sizes.{wrongCount, sizeRefusalsIn, pictureRefusals, countRefusals, tileRefusals}
 use Rattle.answers.specs.Cells.{overwrite}
 use Rattle.answers.specs.After.{after, roomRefusals, roomFor}
 use Rattle.answers.proofs.P1.{keys, keys-cut, keys-west}
@@ -21,15 +22,15 @@ use Rattle.window.specs.Keys.{keyOf, keysOf}
 use Rattle.window.proofs.P1.{W, columns}
 use Rattle.map.specs.Spans as spans
 use Rattle.map.specs.Spans.{within}
-use Rattle.map.specs.Check.{late, refusalsFrom, mapRefusals}
+use Rattle.map.specs.Check.{late, refusalsFrom, mapRefusalsIn}
 use Rattle.map.specs.Records.{recordOf, exponentOf}
 use Rattle.map.specs.Runs.{runOf}
 use Rattle.border.specs.Openings.{isHanded, opening, openFrom, openings, handedCount, cellsOf}
-use Rattle.used.specs.Used.{useRefusals, spent, usedFor, borderRefusals}
+use Rattle.used.specs.Used.{useRefusalsIn, spent, usedIn, borderRefusals}
 use Rattle.used.specs.Promises.{Answerable}
 use Rattle.used.proofs.Laws.{use-answerable}
 use Rattle.open.specs.declared.Opened.the-variants.{Done, Refused}
-use Rattle.open.specs.Open.{openOf, openTiled}
+use Rattle.open.specs.Open.{openOf, openTiled, openIn}
 
 -- old contents of a border and of an answer slice
 abbrev pub old : List ℕ
@@ -56,15 +57,15 @@ pub record Examples : Type 0 where
   pub east-of-cut : openOf 2 keys-cut 10 columns (take 2 old) (take 9 old) ≡ after (Done 3 6) (3 ∷ 3 ∷ [], 10 ∷ 1 ∷ 4 ∷ 21 ∷ 6 ∷ 1 ∷ 22 ∷ 7 ∷ 1 ∷ [])
 
 pub examples : Examples
-unfolding pictureRefusals countRefusals borderRefusals roomRefusals roomFor answer wrongCount sizeRefusals overwrite upFrom spreadTo spread place
+unfolding pictureRefusals countRefusals borderRefusals roomRefusals roomFor answer wrongCount sizeRefusalsIn overwrite upFrom spreadTo spread place
     pixelKey blockKey from formOf beyond outside windowRefusals keep floor lies fits greatest exponent corner across rows isCorner maximal keyOf
-    keysOf spans.malformed spans.formExponent spans.start spans.end spans.holds spans.overlap late refusalsFrom mapRefusals before howMany recordOf
-    exponentOf runOf any within isHanded opening openFrom openings handedCount cellsOf useRefusals spent usedFor tileRefusals openTiled
+    keysOf spans.malformed spans.formExponent spans.start spans.end spans.holds spans.overlap late refusalsFrom mapRefusalsIn before howMany recordOf
+    exponentOf runOf any within isHanded opening openFrom openings handedCount cellsOf useRefusalsIn spent usedIn tileRefusals openIn
 examples = record {
   narrow = refl;
   short = refl;
   done = refl;
-  answerable = use-answerable 2 keys 7 W 3 .0 refl;
+  answerable = use-answerable true 2 keys 7 W 3 .0 refl;
   not-answerable = λ A. omega (arith, A .wide);
   map-first = refl;
   window-next = refl;

@@ -1,6 +1,7 @@
 -- Opening as a use of a map and a window, and passes over the maximal blocks with and without room.
 -- Assumes nothing.
 use mathlib.Core.Path.{_≡_, refl, sym, ap, _∙_}
+use mathlib.Core.Bool.{Bool}
 use mathlib.Core.List.{List, [], _++_}
 use Prim.Native.Nat.{ℕ, _+_, _*_, _≤_, _<_}
 use native.Mathlib.Omega.{arith}
@@ -14,14 +15,14 @@ use Rattle.border.specs.Openings.{Opening, openings, handedCount, cellsOf}
 use Rattle.border.specs.Found.{Passed}
 use Rattle.border.proofs.Loops.{passed-nothing, passed-same, passed-written}
 use Rattle.border.proofs.Laws.{cells-length}
-use Rattle.used.specs.Used.{useRefusals, tiledRefusals, spent, usedFor}
+use Rattle.used.specs.Used.{useRefusalsIn, tiledRefusals, spent, usedIn}
 use Rattle.used.proofs.Laws.{used-short, used-done, spent-again, tiled-cap, tiled-usable, used-tiled, used-within}
 use Rattle.open.specs.declared.Opened.{Opened}
 use Rattle.open.specs.declared.Opened.the-variants.{Done, Refused}
-use Rattle.open.specs.Open.{openTiled}
+use Rattle.open.specs.Open.{openIn}
 use Rattle.open.proofs.Accepted.{accepted}
 
-module _ (m top : ℕ) (keys : List ℕ) (classes : ℕ) (W : Window) (border out : List ℕ) where
+module _ (whole : Bool) (m top : ℕ) (keys : List ℕ) (classes : ℕ) (W : Window) (border out : List ℕ) where
   abbrev os : List Opening
   os = openings m top keys W
 
@@ -29,37 +30,37 @@ module _ (m top : ℕ) (keys : List ℕ) (classes : ℕ) (W : Window) (border ou
   done = Done (length os) (handedCount os)
 
   -- opening is such a use
-  pub open-is : openTiled m top keys classes W border out
+  pub open-is : openIn whole m top keys classes W border out
       ≡ (let os = openings m top keys W in
-      tiledFor Refused m top (border, out) (usedFor Refused (Done (length os) (handedCount os)) (cellsOf os) m keys classes W border out))
-  unfolding openTiled
+      tiledFor Refused m top (border, out) (usedIn whole Refused (Done (length os) (handedCount os)) (cellsOf os) m keys classes W border out))
+  unfolding openIn
   open-is = refl
 
-  pub open-refused : {n p : ℕ} → verdict (tiledRefusals m top keys classes W (length border)) ≡ verdict-of.Refused n p
-      → openTiled m top keys classes W border out ≡ after (Refused n p) (border, out)
-  open-refused e = open-is ∙ used-tiled Refused done (cellsOf os) m top keys classes W border out e
+  pub open-refused : {n p : ℕ} → verdict (tiledRefusals whole m top keys classes W (length border)) ≡ verdict-of.Refused n p
+      → openIn whole m top keys classes W border out ≡ after (Refused n p) (border, out)
+  open-refused e = open-is ∙ used-tiled whole Refused done (cellsOf os) m top keys classes W border out e
 
   -- with blocks no larger than the picture it is as without refusal 17
-  pub open-within : top ≤ m → openTiled m top keys classes W border out
-      ≡ (let os = openings m top keys W in usedFor Refused (Done (length os) (handedCount os)) (cellsOf os) m keys classes W border out)
-  open-within cap = open-is ∙ used-within Refused done (cellsOf os) m top keys classes W border out cap
+  pub open-within : top ≤ m → openIn whole m top keys classes W border out
+      ≡ (let os = openings m top keys W in usedIn whole Refused (Done (length os) (handedCount os)) (cellsOf os) m keys classes W border out)
+  open-within cap = open-is ∙ used-within whole Refused done (cellsOf os) m top keys classes W border out cap
 
-  module _ (e : verdict (tiledRefusals m top keys classes W (length border)) ≡ verdict-of.Passed) where
-    behind : openTiled m top keys classes W border out ≡ usedFor Refused done (cellsOf os) m keys classes W border out
-    behind = open-within (tiled-cap m top keys classes W (length border) e)
+  module _ (e : verdict (tiledRefusals whole m top keys classes W (length border)) ≡ verdict-of.Passed) where
+    behind : openIn whole m top keys classes W border out ≡ usedIn whole Refused done (cellsOf os) m keys classes W border out
+    behind = open-within (tiled-cap whole m top keys classes W (length border) e)
 
-    usable : verdict (useRefusals m keys classes W (length border)) ≡ verdict-of.Passed
-    usable = tiled-usable m top keys classes W (length border) e
+    usable : verdict (useRefusalsIn whole m keys classes W (length border)) ≡ verdict-of.Passed
+    usable = tiled-usable whole m top keys classes W (length border) e
 
     pub open-short : {needed : ℕ} {left out′ : List ℕ} → needed ≡ 3 * length (openings m top keys W) → length out < needed → left ≡ spent W border → out′ ≡ out
-        → after (Refused 8 needed) (left, out′) ≡ openTiled m top keys classes W border out
+        → after (Refused 8 needed) (left, out′) ≡ openIn whole m top keys classes W border out
     open-short d l spends same =
         let n = d ∙ sym (cells-length os) in
-        rw (n, spends, same) (sym (behind ∙ used-short Refused done (cellsOf os) m keys classes W border out usable (omega (arith, n))))
+        rw (n, spends, same) (sym (behind ∙ used-short whole Refused done (cellsOf os) m keys classes W border out usable (omega (arith, n))))
 
-    pub open-done : 3 * length (openings m top keys W) ≤ length out → openTiled m top keys classes W border out ≡ accepted m top keys W border out
+    pub open-done : 3 * length (openings m top keys W) ≤ length out → openIn whole m top keys classes W border out ≡ accepted m top keys W border out
     unfolding accepted
-    open-done l = behind ∙ used-done Refused done (cellsOf os) m keys classes W border out usable (omega (arith, cells-length os))
+    open-done l = behind ∙ used-done whole Refused done (cellsOf os) m keys classes W border out usable (omega (arith, cells-length os))
 
 -- a border that is spent already is spent no further
 pub accepted-again : (m top : ℕ) (keys : List ℕ) (W : Window) (border out : List ℕ) → accepted m top keys W (spent W border) out ≡ accepted m top keys W border out
@@ -101,10 +102,10 @@ module _ {m top : ℕ} {keys : List ℕ} {W : Window} {border₀ out₀ border o
     pub written-same : W .w ≤ length border₀ → (length border′ ≡ length border₀) × (length out′ ≡ length out₀)
     written-same wide = let s = passed-same p (rw (R .long) wide) in (s .0 ∙ R .long, s .1 ∙ ap length (R .same))
 
-    pub written-all : (classes : ℕ) → verdict (tiledRefusals m top keys classes W (length border₀)) ≡ verdict-of.Passed
-        → after (Done (totals .openings) (totals .records)) (border′, out′) ≡ openTiled m top keys classes W border₀ out₀
-    written-all classes e =
+    pub written-all : (whole : Bool) (classes : ℕ) → verdict (tiledRefusals whole m top keys classes W (length border₀)) ≡ verdict-of.Passed
+        → after (Done (totals .openings) (totals .records)) (border′, out′) ≡ openIn whole m top keys classes W border₀ out₀
+    written-all whole classes e =
         passed-all p (omega (arith, R .room, ap length (R .same)))
         ∙ ap (accepted m top keys W border) (R .same)
         ∙ R .either
-        ∙ sym (open-done m top keys classes W border₀ out₀ e (R .room))
+        ∙ sym (open-done whole m top keys classes W border₀ out₀ e (R .room))

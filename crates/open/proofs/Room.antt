@@ -1,6 +1,7 @@
 -- Three cells for each record of the map are room for every answer.
 -- Assumes nothing.
 use mathlib.Core.Path.{_≡_}
+use mathlib.Core.Bool.{true}
 use mathlib.Core.List.{List}
 use Prim.Native.Nat.{ℕ, _*_, _≤_}
 use native.Mathlib.Omega.{arith}
@@ -24,7 +25,7 @@ openings-records F I small = rw (← all-bring F I small) (bringing-records (spa
 pub capped-fit : (m top : ℕ) (keys : List ℕ) (classes : ℕ) (W : Window) (border : ℕ) → top ≤ m → verdict (useRefusals m keys classes W border) ≡ verdict-of.Passed
     → (length (openings m top keys W) ≤ length keys) × (length (cellsOf (openings m top keys W)) ≡ 3 * length (openings m top keys W))
 capped-fit m top keys classes W border small e =
-    (openings-records (use-whole m keys classes W border e) (use-known m keys classes W border e .inside) small, cells-length (openings m top keys W))
+    (openings-records (use-whole m keys classes W border e) (use-known true m keys classes W border e .inside) small, cells-length (openings m top keys W))
 
 -- and without one
 pub openings-fit : (m : ℕ) (keys : List ℕ) (classes : ℕ) (W : Window) (border : ℕ) → verdict (useRefusals m keys classes W border) ≡ verdict-of.Passed

@@ -5,7 +5,7 @@ ghost use mathlib.Core.Path.{_≡_};
 ghost use lib.ListN.{length};
 ghost use Rattle.answers.specs.Refusals.{verdict};
 ghost use Rattle.answers.specs.After.{after};
-ghost use Rattle.open.specs.Open.{openTiled};
+ghost use Rattle.open.specs.Open.{openIn};
 
 // What opening answers: how many openings there are and how many records they hand out, or a refusal.
 pub enum Opened {
@@ -13,7 +13,7 @@ pub enum Opened {
     Refused { number: u32, place: u32 },
 }
 
-// Opens the window on the map, with blocks of exponent up to `top`. A slice with room for as many openings as a window can have takes one pass; otherwise a first pass counts them and
+// Opens the window on the map, which is to be whole or may have gaps, with blocks of exponent up to `top`. A slice with room for as many openings as a window can have takes one pass; otherwise a first pass counts them and
 // writes none, since 8 writes nothing into the slice.
 pub fn open(
     m: u32,
@@ -23,10 +23,11 @@ pub fn open(
     window: Window,
     border: &mut [u16],
     out: &mut [u32],
+    whole: bool,
 ) -> Opened
-    ensures { λ r. ⌜ after r (now (border .exit), now (out .exit)) ≡ openTiled m top (now (keys .entry)) (length (now (classes .entry))) window (now (border .entry)) (now (out .entry)) ⌝ }
+    ensures { λ r. ⌜ after r (now (border .exit), now (out .exit)) ≡ openIn whole m top (now (keys .entry)) (length (now (classes .entry))) window (now (border .entry)) (now (out .entry)) ⌝ }
 {
-    let verdict = used::usable_tiled(m, top, keys, classes, window, border.len());
+    let verdict = used::usable_tiled(m, top, keys, classes, window, border.len(), whole);
     if let Verdict::Refused { number, place } = verdict {
         return Opened::Refused { number, place };
     }

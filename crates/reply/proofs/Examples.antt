@@ -5,7 +5,7 @@ use mathlib.Core.List.{List, [], _∷_, _++_}
 use Prim.Native.Nat.{ℕ}
 use Rattle.lists.specs.Lists.{upFrom, any, keep, before, howMany, greatest}
 use Rattle.answers.specs.Refusals.{answer}
-use Rattle.answers.specs.Sizes.{wrongCount, sizeRefusals, pictureRefusals, countRefusals}
+use Rattle.answers.specs.Sizes.{wrongCount, sizeRefusalsIn, pictureRefusals, countRefusals}
 use Rattle.answers.proofs.P1.{keys, classes}
 use Rattle.key.specs.Spread.{spreadTo, spread}
 use Rattle.key.specs.Picture.{place}
@@ -14,14 +14,14 @@ use Rattle.key.specs.Form.{from, formOf}
 use Rattle.window.specs.Window.{window, beyond, outside, windowRefusals}
 use Rattle.window.specs.Blocks.{floor, lies, fits, exponent, corner, across, rows, isCorner, maximal}
 use Rattle.window.specs.Keys.{keyOf, keysOf}
+use Rattle.window.specs.Rules.{totalBy, totalsBy}
 use Rattle.map.specs.Spans as spans
 use Rattle.map.specs.Spans.{within}
-use Rattle.map.specs.Check.{late, refusalsFrom, mapRefusals}
+use Rattle.map.specs.Check.{late, refusalsFrom, mapRefusalsIn}
 use Rattle.map.specs.Records.{recordOf, exponentOf}
 use Rattle.map.specs.Runs.{runOf}
 use Rattle.border.specs.Openings.{isHanded, opening, openFrom, openings, handedCount, cellsOf}
-use Rattle.used.specs.Used.{useRefusals, borderRefusals}
-use Rattle.totals.specs.Totals.{total, totals}
+use Rattle.used.specs.Used.{useRefusalsIn, borderRefusals}
 use Rattle.text.specs.Text.{digits, digitsOf, spaced, lineOf}
 use Rattle.lines.specs.Lines.{openingLines, classLine, classLines, foundLines}
 use Rattle.input.specs.Input.{windowOf, leftText}
@@ -48,10 +48,10 @@ pub record Examples : Type 0 where
   pub three-left : leftText 3 ≡ lineOf 82 (10 ∷ 3 ∷ [])
 
 pub examples : Examples
-unfolding pictureRefusals countRefusals borderRefusals answer wrongCount sizeRefusals upFrom spreadTo spread place pixelKey blockKey from formOf beyond outside windowRefusals keep floor lies fits
+unfolding pictureRefusals countRefusals borderRefusals answer wrongCount sizeRefusalsIn upFrom spreadTo spread place pixelKey blockKey from formOf beyond outside windowRefusals keep floor lies fits
     greatest exponent corner across rows isCorner maximal keyOf keysOf spans.malformed spans.formExponent spans.start spans.end spans.holds spans.overlap late
-    refusalsFrom mapRefusals before howMany recordOf exponentOf runOf any within isHanded opening openFrom openings handedCount cellsOf useRefusals
-    total totals digits digitsOf spaced lineOf openingLines classLine classLines foundLines foundBy resultOf answerOf leftText
+    refusalsFrom mapRefusalsIn before howMany recordOf exponentOf runOf any within isHanded opening openFrom openings handedCount cellsOf useRefusalsIn
+    totalBy totalsBy digits digitsOf spaced lineOf openingLines classLine classLines foundLines foundBy resultOf answerOf leftText
 examples = record {
   p1-window = refl;
   p1 = refl;

@@ -1,6 +1,7 @@
 -- What is said of a window: how long it can be, and that it is what the calls answer.
 -- Assumes nothing.
 use mathlib.Core.Path.{_≡_, refl, sym, ap, _∙_}
+use mathlib.Core.Bool.{true}
 use mathlib.Core.List.{List}
 use Prim.Native.Nat.{ℕ, _*_, _≤_}
 use native.Mathlib.Omega.{arith}
@@ -108,8 +109,8 @@ module _ {m : ℕ} {keys classes : List ℕ} {W : Window} {border : List ℕ} {r
   -- it does not refuse
   pub open-never : {A : Type 0} {n p : ℕ} → r ≡ opened.Refused n p → A
   open-never {n = n} {p = p} d =
-      let is = sym (open-within m m keys (length classes) W border (replicate 3000 0) (omega arith)) ∙ told-opened d in
-      absurd (go (used-roomy opened.Refused _ _ m keys (length classes) W border (replicate 3000 0) (λ n p. opened-apart n p) room is))
+      let is = sym (open-within true m m keys (length classes) W border (replicate 3000 0) (omega arith)) ∙ told-opened d in
+      absurd (go (used-roomy true opened.Refused _ _ m keys (length classes) W border (replicate 3000 0) (λ n p. opened-apart n p) room is))
     where
       room : length (cellsOf (openings m m keys W)) ≤ length (replicate {A = ℕ} 3000 0)
       room = omega (arith, fit, length-replicate {A = ℕ} 3000 0)

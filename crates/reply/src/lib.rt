@@ -24,7 +24,7 @@ fn put_opened(
     ensures { λ r. ⌜ after r (now (out .exit)) ≡ putOf (foundBy m (now (keys .entry)) window (now (totals .entry)) pixels) (now (out .entry)) ⌝ }
 {
     let mut cells = [0u32; 3000];
-    let opened = open::open(m, m, keys, classes, window, border, &mut cells);
+    let opened = open::open(m, m, keys, classes, window, border, &mut cells, true);
     match opened {
         Opened::Refused { number, place } => lines::put_refusal(number, place, out),
         Opened::Done { openings, records } => {

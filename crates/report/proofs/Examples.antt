@@ -6,7 +6,7 @@ use Prim.Native.Nat.{ℕ}
 use lib.ListN.{take, replicate}
 use Rattle.lists.specs.Lists.{upFrom, before, howMany}
 use Rattle.answers.specs.Refusals.{answer}
-use Rattle.answers.specs.Sizes.{wrongCount, sizeRefusals, pictureRefusals, countRefusals}
+use Rattle.answers.specs.Sizes.{wrongCount, sizeRefusalsIn, pictureRefusals, countRefusals}
 use Rattle.answers.specs.Cells.{overwrite}
 use Rattle.answers.specs.After.{after, roomRefusals, roomFor}
 use Rattle.answers.proofs.P1.{keys, classes, old}
@@ -15,14 +15,15 @@ use Rattle.key.specs.Picture.{place}
 use Rattle.key.specs.Form.{from, formOf}
 use Rattle.window.specs.Window.{window, beyond, outside, windowRefusals}
 use Rattle.window.specs.Blocks.{across, rows}
+use Rattle.window.specs.Rules.{totalBy, totalsBy}
 use Rattle.window.proofs.P1.{W, column, columns, row, lower, first-two, middle, pixel, north-west, south-east}
 use Rattle.map.specs.Spans as spans
-use Rattle.map.specs.Check.{late, refusalsFrom, mapRefusals}
+use Rattle.map.specs.Check.{late, refusalsFrom, mapRefusalsIn}
 use Rattle.map.specs.Records.{recordOf}
-use Rattle.used.specs.Used.{useRefusals, spent, usedFor, borderRefusals}
-use Rattle.totals.specs.Totals.{total, totals}
+use Rattle.used.specs.Used.{useRefusalsIn, spent, usedIn, borderRefusals}
+use Rattle.totals.specs.Totals.{totals}
 use Rattle.report.specs.declared.Reported.the-variants.{Done, Refused}
-use Rattle.report.specs.Report.{reportOf}
+use Rattle.report.specs.Report.{reportOf, reportIn}
 
 -- the cells of a report on P1's map: so many pixels of the classes 1, 2 and 3
 abbrev pub counts : ℕ → ℕ → ℕ → List ℕ
@@ -48,9 +49,9 @@ pub record Examples : Type 0 where
   pub in-south-east : reportOf 2 keys classes south-east (old 3) (old 256) ≡ after (Done 4) (3 ∷ 3 ∷ 99 ∷ [], counts 1 2 1)
 
 pub examples : Examples
-unfolding pictureRefusals countRefusals borderRefusals roomRefusals roomFor answer wrongCount sizeRefusals overwrite upFrom spreadTo spread place from
+unfolding pictureRefusals countRefusals borderRefusals roomRefusals roomFor answer wrongCount sizeRefusalsIn overwrite upFrom spreadTo spread place from
     formOf beyond outside windowRefusals across rows spans.malformed spans.formExponent spans.start spans.end spans.holds late refusalsFrom
-    mapRefusals before howMany recordOf useRefusals spent total totals usedFor reportOf
+    mapRefusalsIn before howMany recordOf useRefusalsIn spent totalBy totalsBy usedIn reportIn
 examples = record {
   part = refl;
   report-short = refl;

@@ -1,6 +1,7 @@
 -- What report answers and leaves, by the verdict of its refusals.
 -- Assumes nothing.
 use mathlib.Core.Path.{_≡_, refl, sym}
+use mathlib.Core.Bool.{Bool}
 use mathlib.Core.List.{List}
 use Prim.Native.Nat.{ℕ, _*_, _≤_, _<_}
 use lib.ListN.{length}
@@ -9,31 +10,31 @@ use Rattle.answers.specs.Refusals.{verdict}
 use Rattle.answers.specs.Cells.{overwrite}
 use Rattle.answers.specs.After.{after}
 use Rattle.window.specs.declared.Window.{Window}
-use Rattle.used.specs.Used.{useRefusals, spent, usedFor}
+use Rattle.window.specs.Rules.{totalsBy}
+use Rattle.window.proofs.Laws.{totals-by-length}
+use Rattle.used.specs.Used.{useRefusalsIn, spent, usedIn}
 use Rattle.used.proofs.Laws.{used-refused, used-short, used-done}
-use Rattle.totals.specs.Totals.{totals}
-use Rattle.totals.proofs.Laws.{totals-length}
 use Rattle.report.specs.declared.Reported.the-variants.{Done, Refused}
-use Rattle.report.specs.Report.{reportOf}
+use Rattle.report.specs.Report.{reportIn}
 
-module _ (m : ℕ) (keys classes : List ℕ) (W : Window) (border out : List ℕ) where
-  pub report-is : reportOf m keys classes W border out ≡ usedFor Refused (Done (W .h * W .w)) (totals m keys classes W) m keys (length classes) W border out
-  unfolding reportOf
+module _ (whole : Bool) (rule : ℕ → ℕ) (m : ℕ) (keys : List ℕ) (classes : ℕ) (W : Window) (border out : List ℕ) where
+  pub report-is : reportIn whole rule m keys classes W border out ≡ usedIn whole Refused (Done (W .h * W .w)) (totalsBy rule W) m keys classes W border out
+  unfolding reportIn
   report-is = refl
 
-  pub report-refused : {n p : ℕ} → verdict (useRefusals m keys (length classes) W (length border)) ≡ verdict-of.Refused n p
-      → reportOf m keys classes W border out ≡ after (Refused n p) (border, out)
-  unfolding reportOf
-  report-refused e = used-refused Refused _ _ m keys (length classes) W border out e
+  pub report-refused : {n p : ℕ} → verdict (useRefusalsIn whole m keys classes W (length border)) ≡ verdict-of.Refused n p
+      → reportIn whole rule m keys classes W border out ≡ after (Refused n p) (border, out)
+  unfolding reportIn
+  report-refused e = used-refused whole Refused _ _ m keys classes W border out e
 
-  module _ (e : verdict (useRefusals m keys (length classes) W (length border)) ≡ verdict-of.Passed) {left : List ℕ} (d : left ≡ spent W border) where
-    pub report-short : length out < 256 → after (Refused 8 256) (left, out) ≡ reportOf m keys classes W border out
-    unfolding reportOf
+  module _ (e : verdict (useRefusalsIn whole m keys classes W (length border)) ≡ verdict-of.Passed) {left : List ℕ} (d : left ≡ spent W border) where
+    pub report-short : length out < 256 → after (Refused 8 256) (left, out) ≡ reportIn whole rule m keys classes W border out
+    unfolding reportIn
     report-short l =
-        let n = totals-length m keys classes W in
-        rw d (sym (rw n at (used-short Refused (Done (W .h * W .w)) (totals m keys classes W) m keys (length classes) W border out e (rw n l))))
+        let n = totals-by-length rule W in
+        rw d (sym (rw n at (used-short whole Refused (Done (W .h * W .w)) (totalsBy rule W) m keys classes W border out e (rw n l))))
 
-    pub report-done : {cells out′ : List ℕ} → 256 ≤ length out → cells ≡ totals m keys classes W → out′ ≡ overwrite cells out
-        → after (Done (W .h * W .w)) (left, out′) ≡ reportOf m keys classes W border out
-    unfolding reportOf
-    report-done l t o = rw (d, o, t) (sym (used-done Refused (Done (W .h * W .w)) (totals m keys classes W) m keys (length classes) W border out e (rw (totals-length m keys classes W) l)))
+    pub report-done : {cells out′ : List ℕ} → 256 ≤ length out → cells ≡ totalsBy rule W → out′ ≡ overwrite cells out
+        → after (Done (W .h * W .w)) (left, out′) ≡ reportIn whole rule m keys classes W border out
+    unfolding reportIn
+    report-done l t o = rw (d, o, t) (sym (used-done whole Refused (Done (W .h * W .w)) (totalsBy rule W) m keys classes W border out e (rw (totals-by-length rule W) l)))

@@ -1,6 +1,7 @@
 -- What an answer of report tells.
 -- Assumes nothing.
 use mathlib.Core.Path.{_≡_, _∙_}
+use mathlib.Core.Bool.{true}
 use mathlib.Core.List.{List}
 use Prim.Native.Nat.{ℕ, _*_, _≤_}
 use native.Mathlib.Omega.{arith}
@@ -15,7 +16,7 @@ use Rattle.used.proofs.Laws.{used-told, used-roomy}
 use Rattle.totals.specs.Totals.{totals}
 use Rattle.totals.proofs.Laws.{totals-length}
 use Rattle.report.specs.declared.Reported.the-variants.{Done, Refused}
-use Rattle.report.specs.Report.{reportOf}
+use Rattle.report.specs.Report.{reportIn, reportOf}
 
 -- what was counted, and into which cells
 pub record Counted (m : ℕ) (keys classes : List ℕ) (W : Window) (border value : ℕ) (out : List ℕ) : Type 0 where
@@ -30,17 +31,17 @@ reported-apart n p e = let z : _≡_ {A = ℕ} 0 1 = cc in omega arith
 module _ (m : ℕ) (keys classes : List ℕ) (W : Window) (border out : List ℕ) where
   pub counted : {value : ℕ} {border′ out′ : List ℕ} → reportOf m keys classes W border out ≡ after (Done value) (border′, out′)
       → Counted m keys classes W (length border) value out′
-  unfolding reportOf
+  unfolding reportIn
   counted e =
-      let t = used-told Refused (Done (W .h * W .w)) (totals m keys classes W) m keys (length classes) W border out (λ n p. reported-apart n p) e in
+      let t = used-told true Refused (Done (W .h * W .w)) (totals m keys classes W) m keys (length classes) W border out (λ n p. reported-apart n p) e in
       let d = t .says in
       record { passed = t .passed; pixels = cc; list = rw (← t .writes, ← totals-length m keys classes W) (take-overwrite (totals m keys classes W) out) }
 
   pub uncounted : {n p : ℕ} {border′ out′ : List ℕ} → 256 ≤ length out → reportOf m keys classes W border out ≡ after (Refused n p) (border′, out′)
       → verdict (useRefusals m keys (length classes) W (length border)) ≡ verdict-of.Refused n p
-  unfolding reportOf
+  unfolding reportIn
   uncounted {n} {p} room e =
-      let t = used-roomy Refused (Done (W .h * W .w)) (totals m keys classes W) m keys (length classes) W border out (λ n p. reported-apart n p) (omega (arith, totals-length m keys classes W)) e in
+      let t = used-roomy true Refused (Done (W .h * W .w)) (totals m keys classes W) m keys (length classes) W border out (λ n p. reported-apart n p) (omega (arith, totals-length m keys classes W)) e in
       go t
     where
       go : (n′ : ℕ) × (p′ : ℕ) × (verdict (useRefusals m keys (length classes) W (length border)) ≡ verdict-of.Refused n′ p′) × (Refused n′ p′ ≡ Refused n p)

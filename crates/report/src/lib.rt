@@ -38,7 +38,7 @@ pub fn report(
 ) -> Reported
     ensures { λ r. ⌜ after r (now (border .exit), now (out .exit)) ≡ reportOf m (now (keys .entry)) (now (classes .entry)) window (now (border .entry)) (now (out .entry)) ⌝ }
 {
-    let verdict = used::usable(m, keys, classes, window, border.len());
+    let verdict = used::usable(m, keys, classes, window, border.len(), true);
     if let Verdict::Refused { number, place } = verdict {
         return Reported::Refused { number, place };
     }

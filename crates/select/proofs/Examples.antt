@@ -4,7 +4,7 @@ use mathlib.Core.Path.{_≡_, refl}
 use mathlib.Core.List.{[], _∷_}
 use Rattle.lists.specs.Lists.{upFrom, any, keep, greatest}
 use Rattle.answers.specs.Refusals.{answer}
-use Rattle.answers.specs.Sizes.{wrongCount, sizeRefusals, pictureRefusals, countRefusals, tileRefusals}
+use Rattle.answers.specs.Sizes.{wrongCount, sizeRefusalsIn, pictureRefusals, countRefusals, tileRefusals}
 use Rattle.answers.specs.Cells.{overwrite}
 use Rattle.answers.specs.After.{after, roomRefusals, roomFor}
 use Rattle.answers.proofs.P1.{keys, classes, old}
@@ -17,10 +17,10 @@ use Rattle.window.specs.Keys.{keyOf, keysOf}
 use Rattle.window.proofs.P1.{W}
 use Rattle.map.specs.Spans as spans
 use Rattle.map.specs.Spans.{within}
-use Rattle.map.specs.Check.{late, refusalsFrom, mapRefusals}
-use Rattle.used.specs.Used.{useRefusals, spent, usedFor, borderRefusals}
+use Rattle.map.specs.Check.{late, refusalsFrom, mapRefusalsIn}
+use Rattle.used.specs.Used.{useRefusalsIn, spent, usedIn, borderRefusals}
 use Rattle.select.specs.declared.Selected.the-variants.{Done, Refused}
-use Rattle.select.specs.Select.{around, inside, selected, allSelected, selection, selectOf, selectTiled}
+use Rattle.select.specs.Select.{around, inside, selected, allSelected, selection, selectOf, selectTiled, selectKeys}
 
 pub record Examples : Type 0 where
   pub select-short : selectOf 2 keys classes W 1 (old 3) (old 3) ≡ after (Refused 8 4) (3 ∷ 3 ∷ 3 ∷ [], old 3)
@@ -35,10 +35,10 @@ pub record Examples : Type 0 where
   pub other : selected 2 keys classes 1 13 ≡ []
 
 pub examples : Examples
-unfolding pictureRefusals countRefusals borderRefusals roomRefusals roomFor answer wrongCount sizeRefusals overwrite upFrom spreadTo spread pixelKey
+unfolding pictureRefusals countRefusals borderRefusals roomRefusals roomFor answer wrongCount sizeRefusalsIn overwrite upFrom spreadTo spread pixelKey
     blockKey from formOf beyond outside windowRefusals keep floor lies fits greatest exponent corner across rows isCorner maximal keyOf keysOf
-    spans.malformed spans.formExponent spans.start spans.end late refusalsFrom mapRefusals any within useRefusals spent around inside selected
-    allSelected selection usedFor tileRefusals selectTiled
+    spans.malformed spans.formExponent spans.start spans.end late refusalsFrom mapRefusalsIn any within useRefusalsIn spent around inside selected
+    allSelected selection usedIn tileRefusals selectKeys
 examples = record {
   select-short = refl;
   select-none = refl;

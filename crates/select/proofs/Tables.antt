@@ -1,6 +1,7 @@
 -- What select answers and leaves, by the verdict of its refusals and the room for its keys.
 -- Assumes nothing.
 use mathlib.Core.Path.{_≡_, refl, sym, _∙_}
+use mathlib.Core.Bool.{Bool}
 use mathlib.Core.List.{List}
 use Prim.Native.Nat.{ℕ, _≤_, _<_}
 use native.Mathlib.Omega.{arith}
@@ -11,11 +12,11 @@ use Rattle.answers.specs.Cells.{Listed}
 use Rattle.answers.specs.After.{after, tiledFor}
 use Rattle.answers.proofs.Laws.{room-short, room-done, listed-count, listed-all}
 use Rattle.window.specs.declared.Window.{Window}
-use Rattle.used.specs.Used.{tiledRefusals, spent, usedFor}
+use Rattle.used.specs.Used.{tiledRefusals, spent, usedIn}
 use Rattle.used.proofs.Laws.{used-passed, tiled-cap, tiled-usable, used-tiled, used-within}
 use Rattle.select.specs.declared.Selected.{Selected}
 use Rattle.select.specs.declared.Selected.the-variants.{Done, Refused}
-use Rattle.select.specs.Select.{selection, selectTiled, keysInto}
+use Rattle.select.specs.Select.{selectKeys, keysInto}
 
 -- keys that are listed, or too many
 module _ (ks out : List ℕ) where
@@ -25,28 +26,22 @@ module _ (ks out : List ℕ) where
   pub keys-done : {value : ℕ} {out′ : List ℕ} → Listed 0 ks out value out′ → length ks ≤ length out → after (Done value) out′ ≡ keysInto ks out
   keys-done L l = rw (listed-count L, listed-all L l) (sym (room-done Refused (Done (length ks)) ks out l))
 
-module _ (m top : ℕ) (keys classes : List ℕ) (W : Window) (class : ℕ) (border out : List ℕ) where
-  abbrev chosen : List ℕ
-  chosen = selection m top keys classes W class
-
-  pub select-is : selectTiled m top keys classes W class border out
-      ≡ (let ks = selection m top keys classes W class in
-      tiledFor Refused m top (border, out) (usedFor Refused (Done (length ks)) ks m keys (length classes) W border out))
-  unfolding selectTiled
+module _ (whole : Bool) (ks : List ℕ) (m top : ℕ) (keys : List ℕ) (classes : ℕ) (W : Window) (border out : List ℕ) where
+  pub select-is : selectKeys whole ks m top keys classes W border out
+      ≡ tiledFor Refused m top (border, out) (usedIn whole Refused (Done (length ks)) ks m keys classes W border out)
+  unfolding selectKeys
   select-is = refl
 
-  pub select-refused : {n p : ℕ} → verdict (tiledRefusals m top keys (length classes) W (length border)) ≡ verdict-of.Refused n p
-      → selectTiled m top keys classes W class border out ≡ after (Refused n p) (border, out)
-  select-refused e = select-is ∙ used-tiled Refused (Done (length chosen)) chosen m top keys (length classes) W border out e
+  pub select-refused : {n p : ℕ} → verdict (tiledRefusals whole m top keys classes W (length border)) ≡ verdict-of.Refused n p
+      → selectKeys whole ks m top keys classes W border out ≡ after (Refused n p) (border, out)
+  select-refused e = select-is ∙ used-tiled whole Refused (Done (length ks)) ks m top keys classes W border out e
 
   -- with blocks no larger than the picture it is as without refusal 17
-  pub select-within : top ≤ m → selectTiled m top keys classes W class border out
-      ≡ (let ks = selection m top keys classes W class in usedFor Refused (Done (length ks)) ks m keys (length classes) W border out)
-  select-within cap = select-is ∙ used-within Refused (Done (length chosen)) chosen m top keys (length classes) W border out cap
+  pub select-within : top ≤ m → selectKeys whole ks m top keys classes W border out ≡ usedIn whole Refused (Done (length ks)) ks m keys classes W border out
+  select-within cap = select-is ∙ used-within whole Refused (Done (length ks)) ks m top keys classes W border out cap
 
-  module _ (e : verdict (tiledRefusals m top keys (length classes) W (length border)) ≡ verdict-of.Passed) {left : List ℕ} (d : left ≡ spent W border) where
-    pub select-listed : {r : Selected} {out′ : List ℕ} → after r out′ ≡ keysInto (selection m top keys classes W class) out
-        → after r (left, out′) ≡ selectTiled m top keys classes W class border out
+  module _ (e : verdict (tiledRefusals whole m top keys classes W (length border)) ≡ verdict-of.Passed) {left : List ℕ} (d : left ≡ spent W border) where
+    pub select-listed : {r : Selected} {out′ : List ℕ} → after r out′ ≡ keysInto ks out → after r (left, out′) ≡ selectKeys whole ks m top keys classes W border out
     select-listed t =
-        used-passed Refused (Done (length chosen)) chosen m keys (length classes) W border out (tiled-usable m top keys (length classes) W (length border) e) d t
-        ∙ sym (select-within (tiled-cap m top keys (length classes) W (length border) e))
+        used-passed whole Refused (Done (length ks)) ks m keys classes W border out (tiled-usable whole m top keys classes W (length border) e) d t
+        ∙ sym (select-within (tiled-cap whole m top keys classes W (length border) e))

@@ -1,6 +1,6 @@
 -- Selecting a class: for each maximal block its own key, or the keys of records inside it.
 -- Assumes nothing.
-use mathlib.Core.Bool.{Bool, cond, _&&_}
+use mathlib.Core.Bool.{Bool, true, cond, _&&_}
 use mathlib.Core.List.{List, [], _∷_, _++_, map}
 use Prim.Native.Nat.{ℕ, _+_}
 use lib.ListN.{length, getD}
@@ -11,7 +11,7 @@ use Rattle.window.specs.declared.Window.{Window}
 use Rattle.window.specs.Keys.{keysOf}
 use Rattle.map.specs.Spans.{within}
 use Rattle.map.specs.Classes.{classed}
-use Rattle.used.specs.Used.{usedFor}
+use Rattle.used.specs.Used.{usedIn}
 use Rattle.select.specs.declared.Selected.{Selected}
 use Rattle.select.specs.declared.Selected.the-variants.{Done, Refused}
 
@@ -45,11 +45,14 @@ selection m top keys classes W class = allSelected m keys classes class (keysOf 
 abbrev pub keysInto : List ℕ → List ℕ → After Selected (List ℕ)
 keysInto ks = roomFor Refused (Done (length ks)) ks
 
--- select with blocks of exponent up to `top`: how many keys there are, and the keys in their cells
-unfoldable pub selectTiled : ℕ → ℕ → List ℕ → List ℕ → Window → ℕ → List ℕ → List ℕ → After Selected (List ℕ × List ℕ)
-selectTiled m top keys classes W class border out =
-    let ks = selection m top keys classes W class in
-    tiledFor Refused m top (border, out) (usedFor Refused (Done (length ks)) ks m keys (length classes) W border out)
+-- select with blocks of exponent up to `top`, where these are the keys to select: how many there are, and the keys in their cells
+unfoldable pub selectKeys : Bool → List ℕ → ℕ → ℕ → List ℕ → ℕ → Window → List ℕ → List ℕ → After Selected (List ℕ × List ℕ)
+selectKeys whole ks m top keys classes W border out =
+    tiledFor Refused m top (border, out) (usedIn whole Refused (Done (length ks)) ks m keys classes W border out)
+
+-- on a whole map
+abbrev pub selectTiled : ℕ → ℕ → List ℕ → List ℕ → Window → ℕ → List ℕ → List ℕ → After Selected (List ℕ × List ℕ)
+selectTiled m top keys classes W class = selectKeys true (selection m top keys classes W class) m top keys (length classes) W
 
 -- select with blocks as large as the picture has
 abbrev pub selectOf : ℕ → List ℕ → List ℕ → Window → ℕ → List ℕ → List ℕ → After Selected (List ℕ × List ℕ)

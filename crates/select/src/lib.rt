@@ -104,7 +104,7 @@ pub fn select(
 ) -> Selected
     ensures { λ r. ⌜ after r (now (border .exit), now (out .exit)) ≡ selectTiled m top (now (keys .entry)) (now (classes .entry)) window class (now (border .entry)) (now (out .entry)) ⌝ }
 {
-    let verdict = used::usable_tiled(m, top, keys, classes, window, border.len());
+    let verdict = used::usable_tiled(m, top, keys, classes, window, border.len(), true);
     if let Verdict::Refused { number, place } = verdict {
         return Selected::Refused { number, place };
     }

@@ -20,10 +20,10 @@ use Rattle.window.specs.declared.Window.{Window}
 use Rattle.window.specs.Window.{In, Inside}
 use Rattle.window.specs.Blocks.{pixels}
 use Rattle.window.specs.SharingPromises.{Union, Intersection, Parted}
-use Rattle.window.proofs.Laws.{pixels-length, in-pixels, counts-shared, counts-parted}
+use Rattle.window.proofs.Laws.{pixels-length, in-pixels, total-by-is, totals-by-length, totals-by-at, total-by-most, totals-by-sum, total-by-shared, total-by-parted}
 use Rattle.map.specs.Sound.{Follow}
-use Rattle.map.specs.Records.{pixelRecord}
-use Rattle.map.specs.Classes.{classed, hasClass}
+use Rattle.map.specs.Records.{recordOf, pixelRecord}
+use Rattle.map.specs.Classes.{classed, classIn}
 use Rattle.map.proofs.Laws.{spaced}
 use Rattle.border.specs.Openings.{openings, allHands}
 use Rattle.border.proofs.Laws.{in-hands, hands-whole, records-once}
@@ -34,27 +34,17 @@ module _ (m : ℕ) (keys classes : List ℕ) (W : Window) where
   -- ---- the totals
 
   pub totals-length : length (totals m keys classes W) ≡ 256
-  unfolding totals
-  totals-length = length-map (upFrom 0 256) (total m keys classes W) ∙ up-length 0 256
+  totals-length = totals-by-length (classIn m keys classes) W
 
   pub totals-at : (k : ℕ) → k < 256 → getD (totals m keys classes W) k 0 ≡ total m keys classes W k
-  unfolding totals
-  totals-at k l = table-entry (total m keys classes W) 256 k refl l
+  totals-at = totals-by-at (classIn m keys classes) W
 
   pub total-most : (k : ℕ) → total m keys classes W k ≤ W .h * W .w
-  unfolding total
-  total-most k = omega (arith, many-most (hasClass m keys classes k) (pixels W), pixels-length W)
+  total-most = total-by-most (classIn m keys classes) W
 
   -- they add up to the number of pixels
   pub totals-sum : ((n : ℕ) → getD classes n 0 < 256) → sum (totals m keys classes W) ≡ W .h * W .w
-  unfolding totals total
-  totals-sum small = each-once class (pixels W) (up-distinct 0 256) ∙ many-all (pixels W) (λ p l. listed p) ∙ pixels-length W
-    where
-      class : Px → ℕ
-      class p = getD classes (pixelRecord m keys (p .0) (p .1)) 0
-
-      listed : (p : Px) → any (eqb (class p)) (upFrom 0 256) ≡ true
-      listed p = has-any (eqb (class p)) (up-in 0 256 (class p) .1 (omega (arith, small (pixelRecord m keys (p .0) (p .1))))) (eq-eqb (class p) (class p) refl)
+  totals-sum small = totals-by-sum (classIn m keys classes) W (λ q. small (recordOf m keys q))
 
   -- ---- records, gathered
 
@@ -133,7 +123,6 @@ module _ (m : ℕ) (keys classes : List ℕ) (W : Window) where
 
   pub gathered-all : {ns : List ℕ} → Ordered _≢_ ns → ((p : Px) → In W p → List·Memᴰ (pixelRecord m keys (p .0) (p .1)) ns)
       → gathered m keys classes W ns (replicate 256 0) ≡ totals m keys classes W
-  unfolding total
   gathered-all {ns} o has = ext-getD 0 _ _ (from-zeros ns ∙ sym totals-length) (λ k l. each k (omega (arith, from-zeros ns, l)))
     where
       -- a pixel's record is among those of class k exactly when its class is k
@@ -147,18 +136,16 @@ module _ (m : ℕ) (keys classes : List ℕ) (W : Window) where
           to e = let t = any-has (eqb n) (ofClass k ns) e in rw (eqb-true n (t .0) (t .2)) (keep-true (classed classes k) ns (t .1))
 
       each : (k : ℕ) → k < 256 → getD (gathered m keys classes W ns (replicate 256 0)) k 0 ≡ getD (totals m keys classes W) k 0
-      each k l = gathered-counts o l ∙ many-same (pixels W) (λ p n. same k p (in-pixels W .0 n)) ∙ sym (totals-at k l)
+      each k l = gathered-counts o l ∙ many-same (pixels W) (λ p n. same k p (in-pixels W .0 n)) ∙ sym (totals-at k l ∙ total-by-is (classIn m keys classes) W k)
 
 -- ---- windows that share pixels, and windows that part another
 
 module _ (m : ℕ) (keys classes : List ℕ) (k : ℕ) where
   pub total-shared : {A B U I : Window} → Union A B U → Intersection A B I → total m keys classes A k + total m keys classes B k ≡ total m keys classes U k + total m keys classes I k
-  unfolding total
-  total-shared u i = counts-shared u i (hasClass m keys classes k)
+  total-shared = total-by-shared (classIn m keys classes) k
 
   pub total-parted : {U : Window} {parts : List Window} → Parted U parts → sum (map (λ W. total m keys classes W k) parts) ≡ total m keys classes U k
-  unfolding total
-  total-parted t = counts-parted t (hasClass m keys classes k)
+  total-parted = total-by-parted (classIn m keys classes) k
 
 -- the openings of a window hand out such records
 pub openings-gathered : {m top : ℕ} {keys : List ℕ} → Follow m 0 keys → {W : Window} → Inside m W → top ≤ m → (classes : List ℕ)

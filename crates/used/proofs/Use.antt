@@ -2,7 +2,7 @@
 -- Assumes nothing.
 use mathlib.Core.Path.{_≡_, sym, ap, _∙_}
 use mathlib.Core.Logic.{_↔_}
-use mathlib.Core.Bool.{true, false}
+use mathlib.Core.Bool.{Bool, true, false}
 use mathlib.Core.List.{List, []}
 use Prim.Native.Nat.{ℕ, _≤_, _<_}
 use native.Mathlib.Omega.{arith}
@@ -15,11 +15,11 @@ use Rattle.answers.proofs.Laws.{refusal-held, answer-append, on-passed, append-
 use Rattle.window.specs.declared.Window.{Window}
 use Rattle.window.specs.Window.{outside, windowRefusals}
 use Rattle.window.proofs.Laws.{window-refused, window-passed, window-inside, numbered-window}
-use Rattle.map.specs.Check.{mapRefusals}
-use Rattle.map.specs.Sound.{Follow, SoundMap}
-use Rattle.map.proofs.Laws.{sound-map, spaced, numbered-map}
-use Rattle.used.specs.Used.{Usable, borderRefusals, useRefusals}
-use Rattle.used.specs.Promises.{Answerable}
+use Rattle.map.specs.Check.{mapRefusalsIn}
+use Rattle.map.specs.Sound.{Follow, SoundIn}
+use Rattle.map.proofs.Laws.{sound-map, recorded-spaced, numbered-map}
+use Rattle.used.specs.Used.{Usable, borderRefusals, useRefusalsIn, useRefusals}
+use Rattle.used.specs.Promises.{AnswerableIn}
 
 module _ (w cells : ℕ) where
   pub border-passed : (verdict (borderRefusals w cells) ≡ verdict-of.Passed) ↔ (w ≤ cells)
@@ -34,37 +34,37 @@ module _ (w cells : ℕ) where
   unfolding borderRefusals
   numbered-border h = numbered-next 7 (omega arith) h none
 
-module _ (m : ℕ) (keys : List ℕ) (classes : ℕ) (W : Window) (cells : ℕ) where
-  pub use-refused : {n p : ℕ} → verdict (mapRefusals m keys classes) ≡ verdict-of.Refused n p → verdict (useRefusals m keys classes W cells) ≡ verdict-of.Refused n p
-  unfolding useRefusals
-  use-refused e = append-refused verdict-of.Refused (mapRefusals m keys classes) _ _ e
+module _ (whole : Bool) (m : ℕ) (keys : List ℕ) (classes : ℕ) (W : Window) (cells : ℕ) where
+  pub use-refused : {n p : ℕ} → verdict (mapRefusalsIn whole m keys classes) ≡ verdict-of.Refused n p → verdict (useRefusalsIn whole m keys classes W cells) ≡ verdict-of.Refused n p
+  unfolding useRefusalsIn
+  use-refused e = append-refused verdict-of.Refused (mapRefusalsIn whole m keys classes) _ _ e
 
-  module _ (e : verdict (mapRefusals m keys classes) ≡ verdict-of.Passed) where
-    pub use-outside : outside m W ≡ true → verdict (useRefusals m keys classes W cells) ≡ verdict-of.Refused 6 0
-    unfolding useRefusals
-    use-outside o = append-passed verdict-of.Refused (mapRefusals m keys classes) _ _ e ∙ append-refused verdict-of.Refused (windowRefusals m W) _ _ (window-refused m W o)
+  module _ (e : verdict (mapRefusalsIn whole m keys classes) ≡ verdict-of.Passed) where
+    pub use-outside : outside m W ≡ true → verdict (useRefusalsIn whole m keys classes W cells) ≡ verdict-of.Refused 6 0
+    unfolding useRefusalsIn
+    use-outside o = append-passed verdict-of.Refused (mapRefusalsIn whole m keys classes) _ _ e ∙ append-refused verdict-of.Refused (windowRefusals m W) _ _ (window-refused m W o)
 
     module _ (o : outside m W ≡ false) where
-      pub use-inside : verdict (useRefusals m keys classes W cells) ≡ verdict (borderRefusals (W .w) cells)
-      unfolding useRefusals
-      use-inside = append-passed verdict-of.Refused (mapRefusals m keys classes) _ _ e ∙ append-passed verdict-of.Refused (windowRefusals m W) _ _ (window-passed m W o)
+      pub use-inside : verdict (useRefusalsIn whole m keys classes W cells) ≡ verdict (borderRefusals (W .w) cells)
+      unfolding useRefusalsIn
+      use-inside = append-passed verdict-of.Refused (mapRefusalsIn whole m keys classes) _ _ e ∙ append-passed verdict-of.Refused (windowRefusals m W) _ _ (window-passed m W o)
 
   -- one table after the other
-  pub use-parts : {A : Type 0} (refuse : ℕ → ℕ → A) (a : A) → answer refuse (useRefusals m keys classes W cells) a
-      ≡ answer refuse (mapRefusals m keys classes) (answer refuse (windowRefusals m W) (answer refuse (borderRefusals (W .w) cells) a))
-  unfolding useRefusals
+  pub use-parts : {A : Type 0} (refuse : ℕ → ℕ → A) (a : A) → answer refuse (useRefusalsIn whole m keys classes W cells) a
+      ≡ answer refuse (mapRefusalsIn whole m keys classes) (answer refuse (windowRefusals m W) (answer refuse (borderRefusals (W .w) cells) a))
+  unfolding useRefusalsIn
   use-parts refuse a =
-      answer-append refuse (mapRefusals m keys classes) _ a
-      ∙ ap (answer refuse (mapRefusals m keys classes)) (answer-append refuse (windowRefusals m W) (borderRefusals (W .w) cells) a)
+      answer-append refuse (mapRefusalsIn whole m keys classes) _ a
+      ∙ ap (answer refuse (mapRefusalsIn whole m keys classes)) (answer-append refuse (windowRefusals m W) (borderRefusals (W .w) cells) a)
 
   -- they pass exactly a sound map, a window inside and a border of at least w cells
-  pub use-answerable : (verdict (useRefusals m keys classes W cells) ≡ verdict-of.Passed) ↔ Answerable m keys classes W cells
-  unfolding useRefusals
+  pub use-answerable : (verdict (useRefusalsIn whole m keys classes W cells) ≡ verdict-of.Passed) ↔ AnswerableIn whole m keys classes W cells
+  unfolding useRefusalsIn
   use-answerable = (to, from)
     where
-      to : verdict (useRefusals m keys classes W cells) ≡ verdict-of.Passed → Answerable m keys classes W cells
+      to : verdict (useRefusalsIn whole m keys classes W cells) ≡ verdict-of.Passed → AnswerableIn whole m keys classes W cells
       to e =
-          let a = passed-append (mapRefusals m keys classes) _ .0 e in
+          let a = passed-append (mapRefusalsIn whole m keys classes) _ .0 e in
           let b = passed-append (windowRefusals m W) _ .0 (a .1) in
           record {
             sound = sound-map m keys classes .0 (a .0);
@@ -72,18 +72,18 @@ module _ (m : ℕ) (keys : List ℕ) (classes : ℕ) (W : Window) (cells : ℕ) 
             wide = border-passed (W .w) cells .0 (b .1);
           }
 
-      from : Answerable m keys classes W cells → verdict (useRefusals m keys classes W cells) ≡ verdict-of.Passed
+      from : AnswerableIn whole m keys classes W cells → verdict (useRefusalsIn whole m keys classes W cells) ≡ verdict-of.Passed
       from A =
           let behind-map = passed-append (windowRefusals m W) _ .1 (window-inside m W .1 (A .inside), border-passed (W .w) cells .1 (A .wide)) in
-          passed-append (mapRefusals m keys classes) _ .1 (sound-map m keys classes .1 (A .sound), behind-map)
+          passed-append (mapRefusalsIn whole m keys classes) _ .1 (sound-map m keys classes .1 (A .sound), behind-map)
 
-  pub numbered-use : {most : ℕ} → 7 ≤ most → Numbered most (useRefusals m keys classes W cells)
-  unfolding useRefusals
-  numbered-use h = numbered-append (numbered-map (omega arith) m keys classes) (numbered-append (numbered-window m W (omega arith)) (numbered-border (W .w) cells h))
+  pub numbered-use : {most : ℕ} → 7 ≤ most → Numbered most (useRefusalsIn whole m keys classes W cells)
+  unfolding useRefusalsIn
+  numbered-use h = numbered-append (numbered-map (omega arith) whole m keys classes) (numbered-append (numbered-window m W (omega arith)) (numbered-border (W .w) cells h))
 
   -- what a call may take for granted behind them
-  module _ (e : verdict (useRefusals m keys classes W cells) ≡ verdict-of.Passed) where
-    abbrev given : Answerable m keys classes W cells
+  module _ (e : verdict (useRefusalsIn whole m keys classes W cells) ≡ verdict-of.Passed) where
+    abbrev given : AnswerableIn whole m keys classes W cells
     given = use-answerable .0 e
 
     -- with any cap on its blocks
@@ -92,7 +92,7 @@ module _ (m : ℕ) (keys : List ℕ) (classes : ℕ) (W : Window) (cells : ℕ) 
       small = given .sound .sizes .small;
       cap = cap;
       few = given .sound .sizes .most;
-      spaced = spaced (given .sound .records);
+      spaced = recorded-spaced whole (given .sound .records);
       inside = given .inside;
       wide = given .wide;
     }
@@ -100,19 +100,19 @@ module _ (m : ℕ) (keys : List ℕ) (classes : ℕ) (W : Window) (cells : ℕ) 
     pub use-known : Usable m m keys W cells
     use-known = use-capped (omega arith)
 
-    -- the map is whole
-    pub use-whole : Follow m 0 keys
-    use-whole = given .sound .records
-
     pub use-same : length keys ≡ classes
     use-same = given .sound .sizes .same
 
--- of sound maps refusals 1 to 7 are the same
-pub use-sound : {m : ℕ} {keys keys′ : List ℕ} {classes classes′ : ℕ} → SoundMap m keys classes → SoundMap m keys′ classes′
+-- where it is to be so, the map is whole
+pub use-whole : (m : ℕ) (keys : List ℕ) (classes : ℕ) (W : Window) (cells : ℕ) → verdict (useRefusals m keys classes W cells) ≡ verdict-of.Passed → Follow m 0 keys
+use-whole m keys classes W cells e = use-answerable true m keys classes W cells .0 e .sound .records
+
+-- of sound maps, with gaps or without, refusals 1 to 7 are the same
+pub use-sound : {whole whole′ : Bool} {m : ℕ} {keys keys′ : List ℕ} {classes classes′ : ℕ} → SoundIn whole m keys classes → SoundIn whole′ m keys′ classes′
     → (W : Window) (cells : ℕ) {A : Type 0} (refuse : ℕ → ℕ → A) (a : A)
-    → answer refuse (useRefusals m keys classes W cells) a ≡ answer refuse (useRefusals m keys′ classes′ W cells) a
-use-sound {m} S S′ W cells {A} refuse a = behind S ∙ sym (behind S′)
+    → answer refuse (useRefusalsIn whole m keys classes W cells) a ≡ answer refuse (useRefusalsIn whole′ m keys′ classes′ W cells) a
+use-sound {m = m} S S′ W cells {A} refuse a = behind S ∙ sym (behind S′)
   where
-    behind : {ks : List ℕ} {n : ℕ} → SoundMap m ks n
-        → answer refuse (useRefusals m ks n W cells) a ≡ answer refuse (windowRefusals m W) (answer refuse (borderRefusals (W .w) cells) a)
-    behind {ks} {n} T = use-parts m ks n W cells refuse a ∙ on-passed refuse (mapRefusals m ks n) _ (sound-map m ks n .1 T)
+    behind : {b : Bool} {ks : List ℕ} {n : ℕ} → SoundIn b m ks n
+        → answer refuse (useRefusalsIn b m ks n W cells) a ≡ answer refuse (windowRefusals m W) (answer refuse (borderRefusals (W .w) cells) a)
+    behind {b} {ks} {n} T = use-parts b m ks n W cells refuse a ∙ on-passed refuse (mapRefusalsIn b m ks n) _ (sound-map m ks n .1 T)

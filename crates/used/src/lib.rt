@@ -4,7 +4,7 @@ use window::Window;
 ghost use mathlib.Core.Path.{_≡_};
 ghost use lib.ListN.{length};
 ghost use Rattle.answers.specs.Refusals.{verdict};
-ghost use Rattle.used.specs.Used.{borderRefusals, useRefusals, tiledRefusals};
+ghost use Rattle.used.specs.Used.{borderRefusals, useRefusalsIn, tiledRefusals};
 
 // Refusal 7: a border of so many cells is shorter than a window of w columns is wide.
 pub fn wide_enough(w: u16, cells: usize) -> Verdict
@@ -19,11 +19,18 @@ pub fn wide_enough(w: u16, cells: usize) -> Verdict
     Verdict::Passed
 }
 
-// Refusals 1 to 7: whoever uses a map and a window asks this first.
-pub fn usable(m: u32, keys: &[u32], classes: &[u8], window: Window, cells: usize) -> Verdict
-    ensures { λ r. ⌜ r ≡ verdict (useRefusals m (now (keys .entry)) (length (now (classes .entry))) window cells) ⌝ }
+// Refusals 1 to 7, of a map that is to be whole or may have gaps: whoever uses a map and a window asks this first.
+pub fn usable(
+    m: u32,
+    keys: &[u32],
+    classes: &[u8],
+    window: Window,
+    cells: usize,
+    whole: bool,
+) -> Verdict
+    ensures { λ r. ⌜ r ≡ verdict (useRefusalsIn whole m (now (keys .entry)) (length (now (classes .entry))) window cells) ⌝ }
 {
-    let sound = checks::sound(m, keys, classes);
+    let sound = checks::sound(m, keys, classes, whole);
     if let Verdict::Refused { number, place } = sound {
         return Verdict::Refused { number, place };
     }
@@ -44,12 +51,13 @@ pub fn usable_tiled(
     classes: &[u8],
     window: Window,
     cells: usize,
+    whole: bool,
 ) -> Verdict
-    ensures { λ r. ⌜ r ≡ verdict (tiledRefusals m top (now (keys .entry)) (length (now (classes .entry))) window cells) ⌝ }
+    ensures { λ r. ⌜ r ≡ verdict (tiledRefusals whole m top (now (keys .entry)) (length (now (classes .entry))) window cells) ⌝ }
 {
     let tile = answers::tile(m, top);
     if let Verdict::Refused { number, place } = tile {
         return Verdict::Refused { number, place };
     }
-    usable(m, keys, classes, window, cells)
+    usable(m, keys, classes, window, cells, whole)
 }

@@ -5,7 +5,7 @@ use mathlib.Core.List.{List, [], _∷_}
 use Prim.Native.Nat.{ℕ}
 use Rattle.lists.specs.Lists.{upFrom, any, all, keep, before, howMany, greatest}
 use Rattle.answers.specs.Refusals.{answer}
-use Rattle.answers.specs.Sizes.{wrongCount, sizeRefusals, pictureRefusals, countRefusals}
+use Rattle.answers.specs.Sizes.{wrongCount, sizeRefusalsIn, pictureRefusals, countRefusals}
 use Rattle.answers.specs.Cells.{overwrite}
 use Rattle.answers.specs.After.{after}
 use Rattle.answers.proofs.P1.{keys, old}
@@ -19,11 +19,11 @@ use Rattle.window.specs.Blocks.{floor, lies, fits, exponent, corner, across, ro
 use Rattle.window.specs.Keys.{keyOf, keysOf}
 use Rattle.window.proofs.P1.{W}
 use Rattle.map.specs.Spans as spans
-use Rattle.map.specs.Check.{late, refusalsFrom, mapRefusals}
+use Rattle.map.specs.Check.{late, refusalsFrom, mapRefusalsIn}
 use Rattle.map.specs.Records.{recordOf, exponentOf}
 use Rattle.map.specs.Runs.{runOf}
 use Rattle.border.specs.Openings.{isHanded, opening, openFrom, openings}
-use Rattle.used.specs.Used.{useRefusals, borderRefusals, spent}
+use Rattle.used.specs.Used.{useRefusalsIn, borderRefusals, spent}
 use Rattle.why.specs.declared.Why.the-variants.{Handed, Outside, Opened, Skipped, Refused}
 use Rattle.why.specs.declared.Side.the-variants.{North, South, West, East}
 use Rattle.why.specs.Why.{pixelsOf, firstSide, liesOf, handsOut, bringer, saidOf, recordSaid, opensAt, blockSaid, indexRefusals, keyRefusals, whyFor, whyRecordOf, whyBlockOf}
@@ -60,9 +60,9 @@ pub record Examples : Type 0 where
   pub malformed : whyBlockOf 2 keys 7 W 4 (old 3) ≡ after (Refused 22 0) (old 3)
 
 pub examples : Examples
-unfolding upFrom any all keep before howMany greatest answer wrongCount sizeRefusals pictureRefusals countRefusals overwrite spreadTo spread place pixelKey blockKey from formOf
+unfolding upFrom any all keep before howMany greatest answer wrongCount sizeRefusalsIn pictureRefusals countRefusals overwrite spreadTo spread place pixelKey blockKey from formOf
     beyond outside windowRefusals floor lies fits exponent corner across rows isCorner maximal keyOf keysOf spans.malformed spans.formExponent spans.start spans.end spans.holds
-    spans.within spans.overlap late refusalsFrom mapRefusals recordOf exponentOf runOf isHanded opening openFrom openings useRefusals borderRefusals spent
+    spans.within spans.overlap late refusalsFrom mapRefusalsIn recordOf exponentOf runOf isHanded opening openFrom openings useRefusalsIn borderRefusals spent
     pixelsOf firstSide liesOf handsOut bringer saidOf recordSaid opensAt blockSaid indexRefusals keyRefusals whyFor
 examples = record {
   first = refl;

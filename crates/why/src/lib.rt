@@ -169,7 +169,7 @@ pub fn of_record(
 ) -> Why
     ensures { λ r. ⌜ after r (now (border .exit)) ≡ whyRecordOf m (now (keys .entry)) (length (now (classes .entry))) window index (now (border .entry)) ⌝ }
 {
-    let verdict = used::usable(m, keys, classes, window, border.len());
+    let verdict = used::usable(m, keys, classes, window, border.len(), true);
     if let Verdict::Refused { number, place } = verdict {
         return Why::Refused { number, place };
     }
@@ -203,7 +203,7 @@ pub fn of_block(
 ) -> Why
     ensures { λ r. ⌜ after r (now (border .exit)) ≡ whyBlockOf m (now (keys .entry)) (length (now (classes .entry))) window key (now (border .entry)) ⌝ }
 {
-    let verdict = used::usable(m, keys, classes, window, border.len());
+    let verdict = used::usable(m, keys, classes, window, border.len(), true);
     if let Verdict::Refused { number, place } = verdict {
         return Why::Refused { number, place };
     }

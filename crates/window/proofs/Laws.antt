@@ -15,3 +15,5 @@ pub use Rattle.window.proofs.Counts.{rows-count, pixels-most, maximal-m
 pub use Rattle.window.proofs.Parts.{counts-shared, counts-parted}
 pub use Rattle.window.proofs.Pairs.{meet-is, meet-inside, overlapping-is, intersection-is, hull-has, hull-inside, hull-least, union-is}
 pub use Rattle.window.proofs.Sides.{touching-is, parted-two}
+pub use Rattle.window.proofs.Rules.{exists-by-means, total-by-is, totals-by-length, totals-by-at, total-by-most, totals-by-sum, total-by-same, totals-by-same, exists-by-same}
+pub use Rattle.window.proofs.Rules.{total-by-shared, total-by-parted}

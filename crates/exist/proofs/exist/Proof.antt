@@ -1,6 +1,7 @@
 -- `exist::exist` meets its contract. Each test decides what its law in `Tables` says.
 -- Assumes nothing.
 use mathlib.Core.Path.{_≡_, sym, _∙_}
+use mathlib.Core.Bool.{true}
 use lib.ListN.{length}
 use borrow.Author.Needs.{needs}
 use Rattle.answers.specs.declared.Verdict.the-variants.{Passed}
@@ -18,7 +19,7 @@ enum-known-verdict : tie.Need-enum-known-verdict
 enum-known-verdict c = search needs
 
 returns : tie.Need-returns
-returns c = sym (exist-refused _ _ _ _ _ _ (sym (c .before .before .before .usable .ensures) ∙ c .before .verdict .given .1))
+returns c = sym (exist-refused _ _ _ _ _ _ _ _ (sym (c .before .before .before .usable .ensures) ∙ c .before .verdict .given .1))
 
 enum-told : tie.Need-enum-told
 enum-told c = search needs
@@ -35,13 +36,13 @@ passed c = sym (c .before .before .usable .ensures) ∙ c .enum-told .given .1
 seek-requires : tie.Need-seek-requires
 seek-requires c κs =
     let ok = passed (c .before .before .before) in
-    (c .before .before .spread-table .ensures, use-known _ _ _ _ _ ok, use-same _ _ _ _ _ ok, use-whole _ _ _ _ _ ok)
+    (c .before .before .spread-table .ensures, use-known true _ _ _ _ _ ok, use-same true _ _ _ _ _ ok, use-whole _ _ _ _ _ ok)
 
 same-length : tie.Need-same-length
 same-length c = search needs
 
 returns-2 : tie.Need-returns-2
-returns-2 c = c .before .before .seek .ensures ∙ sym (exist-done _ _ _ _ _ _ (passed (c .before .before .before .before .before .before)))
+returns-2 c = c .before .before .seek .ensures ∙ sym (exist-done _ _ _ _ _ _ _ _ (passed (c .before .before .before .before .before .before)))
 
 pub exist-spec : {M : Type 1} → statement M
 exist-spec =

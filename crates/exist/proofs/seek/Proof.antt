@@ -78,7 +78,7 @@ module _ (c : tie.After-enum-told Inv-loop μ-loop) where
       let end = finding-last (last .loop .inv .finding) (asked .next-opening .ensures) (c .enum-told .given .1) in
       let known = seeking-last _ _ (p .1) (p .3) (last .loop .inv) (asked .next-opening .ensures) (c .enum-told .given .1) in (
         end .2 .same ∙ fresh-same _ (p .1) (fresh last .fill .ensures),
-        existing-none _ _ _ _ _ _ (known .0) (known .1) (end .1 ∙ fresh-spent _ (p .1) (fresh last .fill .ensures)),
+        existing-none _ _ _ _ (known .0) (known .1) (end .1 ∙ fresh-spent _ (p .1) (fresh last .fill .ensures)),
       )
 
 same-length : tie.Need-same-length Inv-loop μ-loop
@@ -134,7 +134,7 @@ same-length-3 c = spent-now c .1 ∙ fresh-same _ (first (at c) .pre .1) (fresh 
 
 returns-3 : tie.Need-returns-3 Inv-loop μ-loop
 returns-3 c =
-    existing-yes _ _ _ _ _ _
+    existing-yes _ _ _ _
     (seeking-found _ _ (first (at c) .pre .1) (first (at c) .pre .3) (at c .loop .inv) (opens (looked c .before))
     (sym (looked c .look .ensures .0) ∙ c .before .before .before .before .before .if2 .taken))
     (spent-now c .0 ∙ fresh-spent _ (first (at c) .pre .1) (fresh (at c) .fill .ensures))

@@ -1,7 +1,7 @@
 -- `many::line_of` meets its contract: where 6 does not refuse the window, a pass over its border counts its openings and their records.
 -- Assumes nothing.
 use mathlib.Core.Path.{_≡_, sym, _∙_}
-use mathlib.Core.Bool.{false}
+use mathlib.Core.Bool.{true, false}
 use native.Mathlib.Omega.{arith}
 use lib.ListN.{length}
 use borrow.Author.Needs.{needs}
@@ -35,8 +35,8 @@ module _ (c : tie.Else1) where
 
   usable : Usable (asked .args .m) (asked .args .m) (asked .args .keys .now) (asked .args .window) (length (asked .args .border .now))
   usable =
-      use-known _ _ _ _ _
-      (use-answerable _ _ _ _ _ .1 (record { sound = asked .pre .1; inside = drawn; wide = rw (columns-inside _ _ lies) at (asked .pre .2) }))
+      use-known true _ _ _ _ _
+      (use-answerable true _ _ _ _ _ .1 (record { sound = asked .pre .1; inside = drawn; wide = rw (columns-inside _ _ lies) at (asked .pre .2) }))
 
 slice-aggregate-pass : tie.Need-slice-aggregate-pass
 slice-aggregate-pass c = search needs

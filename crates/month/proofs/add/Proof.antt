@@ -1,6 +1,7 @@
 -- `month::add` meets its contract: what is counted goes into the rows, and `grown-stored` says that this is the table with the map.
 -- Assumes nothing.
 use mathlib.Core.Path.{_≡_, refl, sym, _∙_}
+use mathlib.Core.Bool.{true}
 use mathlib.Core.List.{List}
 use Prim.Native.Nat.{ℕ, _≤_}
 use native.Mathlib.Omega.{arith}
@@ -54,7 +55,7 @@ module _ (c : tie.After-enum-told) where
   small = taken .sound .sizes .small
 
   used : verdict (useRefusals (entry .args .m) (entry .args .keys .now) (length (entry .args .classes .now)) (windowIn cells) (length (entry .args .border .now))) ≡ Passed
-  used = use-answerable _ _ _ _ _ .1 (record { sound = taken .sound; inside = taken .ongoing .sane .inside; wide = taken .wide })
+  used = use-answerable true _ _ _ _ _ .1 (record { sound = taken .sound; inside = taken .ongoing .sane .inside; wide = taken .wide })
 
 window-in-requires : tie.Need-window-in-requires
 window-in-requires c κs = taken (c .before) .ongoing .long
@@ -71,7 +72,7 @@ count-requires : tie.Need-count-requires
 count-requires c κs =
     let at = c .before .before in
     let ok = used (told at) in
-    (rw (exact at) (use-known _ _ _ _ _ ok), use-same _ _ _ _ _ ok, refl, use-whole _ _ _ _ _ ok)
+    (rw (exact at) (use-known true _ _ _ _ _ ok), use-same true _ _ _ _ _ ok, refl, use-whole _ _ _ _ _ ok)
 
 -- the pixels are counted, and the border is spent
 module _ (c : tie.After-count) where
@@ -103,7 +104,9 @@ slice-write-table : tie.Need-slice-write-table
 slice-write-table c = omega (arith, goes-on (c .before .before .before) .long)
 
 add-rows-requires : tie.Need-add-rows-requires
-add-rows-requires c κs = let at = c .before .before .before .before .before in stored-fits _ _ _ _ (goes-on at .long) (goes-on at .same) (small (told (drawn at))) (goes-on at .sane) (counted at)
+add-rows-requires c κs =
+    let at = c .before .before .before .before .before in
+    stored-fits _ (start at .args .keys .now) (start at .args .classes .now) _ (goes-on at .long) (goes-on at .same) (small (told (drawn at))) (goes-on at .sane) (counted at)
 
 add-t22 : tie.Need-add-t22
 add-t22 c = omega (arith, goes-on (c .before .before .before .before .before .before .before .before) .fewer)

@@ -1,6 +1,7 @@
 -- `select::select` meets its contract. Each test decides what its law in `Tables` says.
 -- Assumes nothing.
 use mathlib.Core.Path.{_≡_, sym, _∙_}
+use mathlib.Core.Bool.{true}
 use native.Mathlib.Omega.{arith}
 use lib.ListN.{length}
 use borrow.Author.Needs.{needs}
@@ -21,7 +22,7 @@ enum-known-verdict : tie.Need-enum-known-verdict
 enum-known-verdict c = search needs
 
 returns : tie.Need-returns
-returns c = sym (select-refused _ _ _ _ _ _ _ _ (sym (c .before .before .before .usable-tiled .ensures) ∙ c .before .verdict .given .1))
+returns c = sym (select-refused _ _ _ _ _ _ _ _ _ (sym (c .before .before .before .usable-tiled .ensures) ∙ c .before .verdict .given .1))
 
 enum-told : tie.Need-enum-told
 enum-told c = search needs
@@ -31,12 +32,12 @@ module _ (c : tie.After-enum-told) where
   abbrev entry : tie.Start
   entry = c .before .before .before .before .before .before .before
 
-  passed : verdict (tiledRefusals (entry .args .m) (entry .args .top) (entry .args .keys .now) (length (entry .args .classes .now))
+  passed : verdict (tiledRefusals true (entry .args .m) (entry .args .top) (entry .args .keys .now) (length (entry .args .classes .now))
       (entry .args .window) (length (entry .args .border .now))) ≡ Passed
   passed = sym (c .before .before .usable-tiled .ensures) ∙ c .enum-told .given .1
 
   known : Usable (entry .args .m) (entry .args .top) (entry .args .keys .now) (entry .args .window) (length (entry .args .border .now))
-  known = tiled-known _ _ _ _ _ _ passed
+  known = tiled-known true _ _ _ _ _ _ passed
 
 cast-fill : tie.Need-cast-fill
 cast-fill c = search needs
@@ -56,7 +57,7 @@ list-keys-requires c κs =
     let u = known told in (
       c .before .before .spread-table .ensures,
       record { small = u .small; cap = u .cap; few = u .few; spaced = u .spaced; inside = u .inside; wide = omega arith },
-      use-same _ _ _ _ _ (tiled-usable _ _ _ _ _ _ (passed told)),
+      use-same true _ _ _ _ _ (tiled-usable true _ _ _ _ _ _ (passed told)),
     )
 
 same-length : tie.Need-same-length
@@ -69,7 +70,7 @@ returns-2 : tie.Need-returns-2
 returns-2 c =
     let filled = c .before .before .before .before .before .before .before .before in
     let told = filled .before .before .before .before in
-    select-listed _ _ _ _ _ _ _ _ (passed told) (filled .fill .ensures ∙ filled-spent _ _ (known told .wide)) (c .before .before .list-keys .ensures)
+    select-listed _ _ _ _ _ _ _ _ _ (passed told) (filled .fill .ensures ∙ filled-spent _ _ (known told .wide)) (c .before .before .list-keys .ensures)
 
 pub select-spec : {M : Type 1} → statement M
 select-spec =

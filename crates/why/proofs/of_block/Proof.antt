@@ -1,7 +1,7 @@
 -- `why::of_block` meets its contract. Each test decides what its law in `Tables` and `Blocks` says.
 -- Assumes nothing.
 use mathlib.Core.Path.{_≡_, sym, ap, _∙_}
-use mathlib.Core.Bool.{Bool, not, Bool·not-not}
+use mathlib.Core.Bool.{Bool, true, not, Bool·not-not}
 use mathlib.Core.List.{List·Memᴰ}
 use native.Mathlib.Omega.{arith}
 use lib.ListN.{length}
@@ -45,7 +45,7 @@ module _ (c : tie.After-enum-told) where
   passed = sym (c .before .before .usable .ensures) ∙ c .enum-told .given .1
 
   known : let a = first .args in Usable (a .m) (a .m) (a .keys .now) (a .window) (length (a .border .now))
-  known = use-known _ _ _ _ _ passed
+  known = use-known true _ _ _ _ _ passed
 
 spread-table-requires : tie.Need-spread-table-requires
 spread-table-requires c κs = search needs

@@ -1,6 +1,7 @@
 -- `why::of_record` meets its contract. Each test decides what its law in `Tables` and `Records` says.
 -- Assumes nothing.
 use mathlib.Core.Path.{_≡_, sym, _∙_}
+use mathlib.Core.Bool.{true}
 use native.Mathlib.Omega.{arith}
 use lib.ListN.{length}
 use borrow.Author.Needs.{needs}
@@ -36,7 +37,7 @@ module _ (c : tie.After-enum-told) where
   passed = sym (c .before .before .usable .ensures) ∙ c .enum-told .given .1
 
   known : let a = first .args in Usable (a .m) (a .m) (a .keys .now) (a .window) (length (a .border .now))
-  known = use-known _ _ _ _ _ passed
+  known = use-known true _ _ _ _ _ passed
 
 returns-2 : tie.Need-returns-2
 returns-2 c = sym (why-more _ _ _ _ _ _ _ (passed (c .before)) (index-refused _ _ (c .if1 .taken)))
