@@ -1,7 +1,7 @@
 -- The words in which the promises about the openings of a window are said.
 -- Assumes nothing.
 use mathlib.Core.Path.{_≡_}
-use mathlib.Core.Bool.{true}
+use mathlib.Core.Bool.{true, false}
 use mathlib.Core.List.{List, [], _∷_, _++_, List·Memᴰ}
 use Prim.Native.Nat.{ℕ, _<_}
 use lib.Dec.{ltb}
@@ -13,7 +13,7 @@ use Rattle.key.specs.Form.{formOf}
 use Rattle.window.specs.declared.Window.{Window}
 use Rattle.window.specs.Window.{In}
 use Rattle.window.specs.Keys.{keyOf, keysOf}
-use Rattle.map.specs.Spans.{within}
+use Rattle.map.specs.Spans.{within, overlap}
 use Rattle.map.specs.Records.{pixelRecord}
 use Rattle.border.specs.Openings.{met, Opening, made, opening, hands}
 
@@ -68,6 +68,10 @@ pub record SkippedFor (m top : ℕ) (keys : List ℕ) (W : Window) (os : List Op
 -- the openings that bring a record: where the map has gaps, a block that overlaps no record is opened too
 unfoldable pub bringing : List Opening → List Opening
 bringing os = keep (λ o. ltb 0 (o .count)) os
+
+-- no record overlaps the block of a key
+pub record Unmet (m : ℕ) (keys : List ℕ) (key : ℕ) : Type 0 where
+  pub none : (n : ℕ) → n < length keys → overlap (formOf m key) (formOf m (getD keys n 0)) ≡ false
 
 -- no record is handed out by both
 abbrev pub Apart : Opening → Opening → Type 0
