@@ -1,7 +1,7 @@
 -- Where the map has gaps: the openings that bring no record are exactly the maximal blocks that no record overlaps.
 -- Assumes nothing.
 use mathlib.Core.Path.{_≡_, sym, ap, ap₂, _∙_}
-use mathlib.Core.Logic.{_↔_, ⊎-elim}
+use mathlib.Core.Logic.{_↔_, _⊎_, inl, inr, ⊎-elim}
 use mathlib.Core.Bool.{true}
 use mathlib.Core.List.{List, [], List·Memᴰ, Memᴰ·cast}
 use Prim.Native.Nat.{ℕ, _^_, _≤_, _<_}
@@ -60,9 +60,9 @@ module _ {m : ℕ} {keys : List ℕ} (F : Spaced m 0 keys) {key i s : ℕ} (B : 
       let shared : Overlap s (4 ^ i) t (4 ^ j) = record { left = omega (arith, h .most, pow-least 3 i); right = omega (arith, h .least, pow-least 3 i) } in
       never (sym (overlap-is B (R .names) .1 shared) ∙ U .none n (R .within))
 
-module _ {m top : ℕ} {keys : List ℕ} (F : Spaced m 0 keys) {W : Window} (I : Inside m W) (small : top ≤ m) (key : ℕ) where
-  pub empty-is : List·Memᴰ (made key 0 0) (openings m top keys W) ↔ (List·Memᴰ key (keysOf m top W) × Unmet m keys key)
-  empty-is = (to, from)
+module _ {m top : ℕ} {keys : List ℕ} (F : Spaced m 0 keys) {W : Window} (I : Inside m W) (small : top ≤ m) where
+  pub empty-is : (key : ℕ) → List·Memᴰ (made key 0 0) (openings m top keys W) ↔ (List·Memᴰ key (keysOf m top W) × Unmet m keys key)
+  empty-is key = (to, from)
     where
       to : List·Memᴰ (made key 0 0) (openings m top keys W) → List·Memᴰ key (keysOf m top W) × Unmet m keys key
       to l =
@@ -80,3 +80,17 @@ module _ {m top : ℕ} {keys : List ℕ} (F : Spaced m 0 keys) {W : Window} (I :
               let t = handed-lies m keys _ key (rw (hands-opens m keys [] (keysOf m top W), ← openings-from m top keys W) at h) in
               let out = hands-all F I small (t .0) .1 (in-hands (openings m top keys W) (t .0) .0 (t .1)) in
               absurd (unmet-lies F B U (record-at F (t .0) (out .1) .is) (t .2))
+
+  -- any other brings a record
+  pub empty-or-brings : (o : Opening) → List·Memᴰ o (openings m top keys W) → (o ≡ made (o .key) 0 0) ⊎ (1 ≤ o .count)
+  unfolding opening
+  empty-or-brings o l = go (decLt 0 (o .count))
+    where
+      t : List·Memᴰ (o .key) (keysOf m top W) × (o ≡ opening m keys (o .key))
+      t = opens-in m keys [] (keysOf m top W) (rw (openings-from m top keys W) at l)
+
+      go : Dec (0 < o .count) → (o ≡ made (o .key) 0 0) ⊎ (1 ≤ o .count)
+      go (yes h) = inr h
+      go (no h) =
+          let z : runOf m keys (o .key) .count ≡ 0 = omega (arith, h, ap (λ (x : Opening). x .count) (t .1)) in
+          inl (t .1 ∙ ap₂ (made (o .key)) (block-records F (key-block I small (t .0) .3) .empty z) z)

@@ -9,7 +9,7 @@ pub use Rattle.border.proofs.Making.{opened-step, covered-step, handed-
 pub use Rattle.border.proofs.Once.{records-out, hands-all, hands-once, records-once}
 pub use Rattle.border.proofs.Fewest.{openings-enough, bringing-enough, fewest, openings-most, records-most, bringing-records, openings-capped, openings-few}
 pub use Rattle.border.proofs.Whole.{covered-whole, stays-whole, hands-some, hands-whole, all-bring, fewest-whole}
-pub use Rattle.border.proofs.Empty.{empty-is}
+pub use Rattle.border.proofs.Empty.{empty-is, empty-or-brings}
 pub use Rattle.border.proofs.Reasons.{handed-number, handed-out, opened-or-skipped, handed-one, first-at, opened-first, skipped-first, opened-one, skipped-one, not-both}
 pub use Rattle.border.proofs.View.{keep-view, any-view, view-has, views-one, touched, pixel-view}
 pub use Rattle.border.proofs.Blind.{openings-view, openings-tell, openings-numbers, brought-length, brought-at}

@@ -10,9 +10,12 @@ use Rattle.answers.specs.Refusals.{verdict, answer}
 use Rattle.answers.specs.After.{After, after}
 use Rattle.answers.proofs.Laws.{on-passed, on-refused, unless-answer, unless-kept}
 use Rattle.window.specs.declared.Window.{Window}
+use Rattle.window.specs.Window.{Inside}
 use Rattle.window.specs.Rules.{existsBy}
+use Rattle.map.specs.Sound.{SoundIn}
 use Rattle.map.specs.Classes.{notSeen}
 use Rattle.used.specs.Used.{useRefusalsIn, spent}
+use Rattle.used.proofs.Laws.{use-alike}
 use Rattle.exist.specs.declared.Existence.{Existence}
 use Rattle.exist.specs.declared.Existence.the-variants as existence
 use Rattle.exist.specs.Exist.{presenceBy, existingBy, existIn}
@@ -61,3 +64,11 @@ module _ (rule : ℕ → ℕ) (W : Window) (class : ℕ) (border : List ℕ) {le
       → after (cond unseen existence.CannotTell existence.No) left ≡ existingBy rule W class border
   unfolding presenceBy existingBy
   existing-none e u d = rw (e, u, d)
+
+-- on a sound map two rules that say the same of a window inside answer alike, whether the map is to be whole or not
+pub exist-sound : {whole whole′ : Bool} {m : ℕ} {keys : List ℕ} {classes : ℕ} → SoundIn whole m keys classes → SoundIn whole′ m keys classes
+    → (rule rule′ : ℕ → ℕ) (W : Window) (class : ℕ) (border : List ℕ) → (Inside m W → presenceBy rule W class ≡ presenceBy rule′ W class)
+    → existIn whole rule m keys classes W class border ≡ existIn whole′ rule′ m keys classes W class border
+unfolding existIn existingBy
+exist-sound S S′ rule rule′ W class border h =
+    use-alike S S′ W (length border) (λ n p. after (existence.Refused n p) border) _ _ (λ I. ap (λ (x : Existence). after x (spent W border)) (h I))

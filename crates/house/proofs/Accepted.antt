@@ -7,7 +7,7 @@ use mathlib.Core.List.{List, [], _∷_}
 use Prim.Native.Nat.{ℕ, _+_, _*_, _≤_}
 use native.Mathlib.Omega.{arith}
 use lib.Dec.{ltb}
-use lib.ListN.{length}
+use lib.ListN.{length, getD}
 use borrow.Author.Tests.{le-ltb, ltb-false}
 use Rattle.lists.proofs.Laws.{neither}
 use Rattle.answers.specs.declared.Verdict.the-variants as verdict-of
@@ -16,13 +16,13 @@ use Rattle.answers.specs.Sizes.{sizeRefusalsIn, SizedIn}
 use Rattle.answers.specs.Cells.{overwrite}
 use Rattle.answers.specs.After.{After, after}
 use Rattle.answers.proofs.Laws.{room-passed, answer-none, unless-answer, unless-kept, on-passed, accepted, passed-next, passed-append}
-use Rattle.answers.proofs.Laws.{sized, Numbered, none, numbered-next, numbered-append, numbered-sizes, numbered-room}
+use Rattle.answers.proofs.Laws.{sized, sizes-some, Numbered, none, numbered-next, numbered-append, numbered-sizes, numbered-room}
 use Rattle.numbers.specs.Numbers.{numbers}
 use Rattle.house.specs.declared.Reading.{Reading}
 use Rattle.house.specs.declared.Reading.the-variants as reading
 use Rattle.house.specs.declared.Writing.{Writing}
 use Rattle.house.specs.declared.Writing.the-variants as writing
-use Rattle.house.specs.File.{layoutRefusals, readRefusalsIn, writeRefusalsIn, fileOf, fileM, fileQ, fileKeys, fileClasses, readIn, writeIn}
+use Rattle.house.specs.File.{layoutRefusals, readRefusalsIn, writeRefusalsIn, fileOf, fileM, fileQ, fileKeys, fileClasses, readIn, readOf, writeIn, writeOf}
 use Rattle.house.specs.Promises.{ReadableIn}
 use Rattle.house.proofs.Tables.{laid}
 
@@ -154,3 +154,13 @@ write-accepted whole m keys classes out {n} e =
       n-is = cc;
       out-is = ap (λ (x : After Writing (List ℕ)). x .lent) (a .1);
     }
+
+-- ---- files of maps with a record: the same whether the map is to be whole or not
+
+pub read-some : (whole : Bool) (file keys classes : List ℕ) → 1 ≤ fileQ file → readIn whole file keys classes ≡ readOf file keys classes
+unfolding readIn readRefusalsIn layoutRefusals fileQ
+read-some whole file keys classes l = rw (sizes-some whole (getD (numbers 5 file) 1 0) (getD (numbers 5 file) 2 0) l)
+
+pub write-some : (whole : Bool) (m : ℕ) (keys classes out : List ℕ) → 1 ≤ length keys → writeIn whole m keys classes out ≡ writeOf m keys classes out
+unfolding writeIn writeRefusalsIn
+write-some whole m keys classes out l = rw (sizes-some whole m (length classes) l)

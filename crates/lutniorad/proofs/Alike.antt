@@ -20,7 +20,7 @@ use Rattle.border.specs.Openings.{Opening, openings, handedCount, cellsOf}
 use Rattle.border.specs.ViewPromises.{SameView}
 use Rattle.border.proofs.Laws.{cells-length, openings-numbers}
 use Rattle.used.specs.Used.{useRefusals}
-use Rattle.used.proofs.Laws.{use-answerable, use-sound}
+use Rattle.used.proofs.Laws.{use-alike}
 use Rattle.exist.proofs.Laws.{presence-view}
 use Rattle.totals.proofs.Laws.{totals-length}
 use Rattle.select.specs.Select.{selection}
@@ -38,8 +38,7 @@ module _ {m : ℕ} {keys keys′ : List ℕ} {n n′ : ℕ} (S : SoundMap m keys
   used : {cells cells′ : ℕ} → cells ≡ cells′ → (a a′ : Answer) → (Inside m W → a ≡ a′)
       → answer refused (useRefusals m keys n W cells) a ≡ answer refused (useRefusals m keys′ n′ W cells′) a′
   used {cells′ = cells′} e a a′ h =
-      rw e (use-sound S S′ W cells′ refused a) ∙ answer-same refused (useRefusals m keys′ n′ W cells′) a a′
-      (λ passed. h (use-answerable true m keys′ n′ W cells′ .0 passed .inside))
+      rw e (use-alike S S′ W cells′ refused a a′ h)
 
   -- and behind 17, before 8
   tiled : (top : ℕ) {cells cells′ room room′ : ℕ} → cells ≡ cells′ → room ≡ room′ → {needed needed′ : ℕ} (a a′ : Answer)

@@ -10,10 +10,12 @@ use Rattle.answers.specs.Refusals.{verdict}
 use Rattle.answers.specs.Cells.{overwrite}
 use Rattle.answers.specs.After.{after}
 use Rattle.window.specs.declared.Window.{Window}
+use Rattle.window.specs.Window.{Inside}
 use Rattle.window.specs.Rules.{totalsBy}
 use Rattle.window.proofs.Laws.{totals-by-length}
+use Rattle.map.specs.Sound.{SoundIn}
 use Rattle.used.specs.Used.{useRefusalsIn, spent, usedIn}
-use Rattle.used.proofs.Laws.{used-refused, used-short, used-done}
+use Rattle.used.proofs.Laws.{used-refused, used-short, used-done, used-alike}
 use Rattle.report.specs.declared.Reported.the-variants.{Done, Refused}
 use Rattle.report.specs.Report.{reportIn}
 
@@ -38,3 +40,10 @@ module _ (whole : Bool) (rule : ℕ → ℕ) (m : ℕ) (keys : List ℕ) (classe
         → after (Done (W .h * W .w)) (left, out′) ≡ reportIn whole rule m keys classes W border out
     unfolding reportIn
     report-done l t o = rw (d, o, t) (sym (used-done whole Refused (Done (W .h * W .w)) (totalsBy rule W) m keys classes W border out e (rw (totals-by-length rule W) l)))
+
+-- on a sound map two rules that count the same in a window inside answer alike, whether the map is to be whole or not
+pub report-sound : {whole whole′ : Bool} {m : ℕ} {keys : List ℕ} {classes : ℕ} → SoundIn whole m keys classes → SoundIn whole′ m keys classes
+    → (rule rule′ : ℕ → ℕ) (W : Window) (border out : List ℕ) → (Inside m W → totalsBy rule W ≡ totalsBy rule′ W)
+    → reportIn whole rule m keys classes W border out ≡ reportIn whole′ rule′ m keys classes W border out
+unfolding reportIn
+report-sound S S′ rule rule′ W border out h = used-alike S S′ Refused _ _ _ _ W border out (λ I. (refl, h I))

@@ -10,11 +10,13 @@ use Rattle.answers.specs.declared.Verdict.the-variants.{Passed, Refused}
 use Rattle.answers.specs.Refusals.{verdict}
 use Rattle.answers.specs.Sizes.{tileRefusals}
 use Rattle.answers.specs.After.{after, tiledFor}
-use Rattle.answers.proofs.Laws.{append-passed, append-refused, passed-append, on-passed, on-refused, tile-passed, tiled-within}
+use Rattle.answers.proofs.Laws.{append-passed, append-refused, passed-append, on-passed, on-refused, answer-same, tile-passed, tiled-within}
 use Rattle.window.specs.declared.Window.{Window}
+use Rattle.window.specs.Window.{Inside}
+use Rattle.map.specs.Sound.{SoundIn}
 use Rattle.used.specs.Used.{Usable, useRefusalsIn, tiledRefusals, usedIn}
 use Rattle.used.proofs.Use.{use-capped}
-use Rattle.used.proofs.Used.{used-refused, used-over}
+use Rattle.used.proofs.Used.{used-refused, used-over, used-alike}
 
 module _ (whole : Bool) (m top : ℕ) (keys : List ℕ) (classes : ℕ) (W : Window) (cells : ℕ) where
   pub tiled-first : {n p : ℕ} → verdict (tileRefusals m top) ≡ Refused n p → verdict (tiledRefusals whole m top keys classes W cells) ≡ Refused n p
@@ -57,3 +59,12 @@ module _ (whole : Bool) {A : Type 0} (refuse : ℕ → ℕ → A) (done : A) (ce
   -- a cap that is no larger than m refuses nothing
   pub used-within : top ≤ m → tiledFor refuse m top (border, out) (usedIn whole refuse done cells m keys classes W border out) ≡ usedIn whole refuse done cells m keys classes W border out
   used-within cap = tiled-within m top refuse (border, out) _ cap (λ l. used-over whole refuse done cells m keys classes W border out l)
+
+-- on a sound map, whole or not, two uses are the same where the cap is no larger than m and the window is inside
+pub tiled-alike : {whole whole′ : Bool} {m : ℕ} {keys : List ℕ} {classes : ℕ} → SoundIn whole m keys classes → SoundIn whole′ m keys classes
+    → {A : Type 0} (refuse : ℕ → ℕ → A) (done done′ : A) (cells cells′ : List ℕ) (top : ℕ) (W : Window) (border out : List ℕ)
+    → (top ≤ m → Inside m W → (done ≡ done′) × (cells ≡ cells′))
+    → tiledFor refuse m top (border, out) (usedIn whole refuse done cells m keys classes W border out)
+    ≡ tiledFor refuse m top (border, out) (usedIn whole′ refuse done′ cells′ m keys classes W border out)
+tiled-alike {m = m} S S′ refuse done done′ cells cells′ top W border out h =
+    answer-same _ (tileRefusals m top) _ _ (λ passed. used-alike S S′ refuse done done′ cells cells′ W border out (h (tile-passed m top .0 passed .1)))

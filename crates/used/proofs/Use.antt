@@ -11,9 +11,9 @@ use lib.ListN.{length}
 use borrow.Author.Tests.{lt-ltb, le-ltb, ltb-false}
 use Rattle.answers.specs.declared.Verdict.the-variants as verdict-of
 use Rattle.answers.specs.Refusals.{answer, verdict}
-use Rattle.answers.proofs.Laws.{refusal-held, answer-append, on-passed, append-passed, append-refused, passed-one, passed-append, Numbered, none, numbered-next, numbered-append}
+use Rattle.answers.proofs.Laws.{refusal-held, answer-append, answer-same, on-passed, append-passed, append-refused, passed-one, passed-append, Numbered, none, numbered-next, numbered-append}
 use Rattle.window.specs.declared.Window.{Window}
-use Rattle.window.specs.Window.{outside, windowRefusals}
+use Rattle.window.specs.Window.{outside, windowRefusals, Inside}
 use Rattle.window.proofs.Laws.{window-refused, window-passed, window-inside, numbered-window}
 use Rattle.map.specs.Check.{mapRefusalsIn}
 use Rattle.map.specs.Sound.{Follow, SoundIn}
@@ -116,3 +116,11 @@ use-sound {m = m} S S′ W cells {A} refuse a = behind S ∙ sym (behind S′)
     behind : {b : Bool} {ks : List ℕ} {n : ℕ} → SoundIn b m ks n
         → answer refuse (useRefusalsIn b m ks n W cells) a ≡ answer refuse (windowRefusals m W) (answer refuse (borderRefusals (W .w) cells) a)
     behind {b} {ks} {n} T = use-parts b m ks n W cells refuse a ∙ on-passed refuse (mapRefusalsIn b m ks n) _ (sound-map m ks n .1 T)
+
+-- and so are outcomes that are the same where the window is inside
+pub use-alike : {whole whole′ : Bool} {m : ℕ} {keys keys′ : List ℕ} {classes classes′ : ℕ} → SoundIn whole m keys classes → SoundIn whole′ m keys′ classes′
+    → (W : Window) (cells : ℕ) {A : Type 0} (refuse : ℕ → ℕ → A) (a a′ : A) → (Inside m W → a ≡ a′)
+    → answer refuse (useRefusalsIn whole m keys classes W cells) a ≡ answer refuse (useRefusalsIn whole′ m keys′ classes′ W cells) a′
+use-alike {whole′ = whole} {m} {keys′ = keys} {classes′ = classes} S S′ W cells refuse a a′ h =
+    use-sound S S′ W cells refuse a
+    ∙ answer-same refuse (useRefusalsIn whole m keys classes W cells) a a′ (λ passed. h (use-answerable whole m keys classes W cells .0 passed .inside))

@@ -16,10 +16,12 @@ use Rattle.answers.proofs.Laws as Answers
 use Rattle.answers.proofs.Laws.{unless-answer, unless-said, answer-append, on-passed, on-refused, passed-append, room-passed, room-short}
 use Rattle.answers.proofs.Laws.{room-done, room-by-lengths, room-said, room-told, Numbered, numbered-append, numbered-room}
 use Rattle.window.specs.declared.Window.{Window}
+use Rattle.window.specs.Window.{Inside}
+use Rattle.map.specs.Sound.{SoundIn}
 use Rattle.map.proofs.Laws.{map-over}
 use Rattle.used.specs.Used.{useRefusalsIn, spent, usedIn}
 use Rattle.used.specs.Promises.{AnswerableIn}
-use Rattle.used.proofs.Use.{use-refused, use-answerable, numbered-use}
+use Rattle.used.proofs.Use.{use-refused, use-answerable, numbered-use, use-alike}
 
 -- ---- refusal 8, and an accepted call
 
@@ -108,3 +110,11 @@ module _ (whole : Bool) {A : Type 0} (refuse : ℕ → ℕ → A) (done : A) (ce
           → (n′ : ℕ) × (p′ : ℕ) × (verdict (useRefusalsIn whole m keys classes W (length border)) ≡ verdict-of.Refused n′ p′) × (refuse n′ p′ ≡ refuse n p)
       go verdict-of.Passed q = absurd (other n p (sym (says (used-done q room))))
       go (verdict-of.Refused n′ p′) q = (n′, p′, q, says (used-refused q))
+
+-- on a sound map, whole or not, two uses are the same where the window is inside
+pub used-alike : {whole whole′ : Bool} {m : ℕ} {keys : List ℕ} {classes : ℕ} → SoundIn whole m keys classes → SoundIn whole′ m keys classes
+    → {A : Type 0} (refuse : ℕ → ℕ → A) (done done′ : A) (cells cells′ : List ℕ) (W : Window) (border out : List ℕ) → (Inside m W → (done ≡ done′) × (cells ≡ cells′))
+    → usedIn whole refuse done cells m keys classes W border out ≡ usedIn whole′ refuse done′ cells′ m keys classes W border out
+unfolding usedIn
+used-alike S S′ refuse done done′ cells cells′ W border out h =
+    use-alike S S′ W (length border) (λ n p. after (refuse n p) (border, out)) _ _ (λ I. let t = h I in rw (t .0, t .1))
