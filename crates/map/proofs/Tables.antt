@@ -13,14 +13,14 @@ use Rattle.answers.specs.declared.Verdict.the-variants as refusal
 use Rattle.answers.specs.Refusals.{answer, verdict}
 use Rattle.answers.specs.Sizes.{sizeRefusalsIn}
 use Rattle.answers.proofs.Laws.{on-passed, on-refused, append-refused, append-passed, refused-not-passed, passed-append, sized, over-12}
-use Rattle.answers.proofs.Laws.{Numbered, none, numbered-next, numbered-append, numbered-sizes}
+use Rattle.answers.proofs.Laws.{Numbered, none, numbered-next, numbered-append, numbered-sizes, Without, without-none, without-other, without-clear, without-append, without-over}
 use Rattle.key.specs.declared.Form.{Form}
 use Rattle.key.specs.declared.Form.the-variants.{Block, Malformed}
 use Rattle.key.specs.Form.{formOf}
 use Rattle.key.specs.Blocks.{Names}
 use Rattle.key.proofs.Laws.{one-block, block-lies}
 use Rattle.map.specs.declared.Checked.the-variants.{Sound, Refused}
-use Rattle.map.specs.Spans.{end}
+use Rattle.map.specs.Spans.{start, end}
 use Rattle.map.specs.Check.{late, refusalsFrom, mapRefusalsIn, checkIn}
 use Rattle.map.specs.Sound.{Follow, full, next, Spaced, ended, later, Recorded, SoundIn}
 use Rattle.map.proofs.Steps.{late-not, late-never, not-late, step-malformed, step-early, step-late, step-next, step-short, step-full}
@@ -62,6 +62,18 @@ module _ {most : ℕ} (h : 5 ≤ most) where
   pub numbered-map : (whole : Bool) (m : ℕ) (keys : List ℕ) (classes : ℕ) → Numbered most (mapRefusalsIn whole m keys classes)
   unfolding mapRefusalsIn
   numbered-map whole m keys classes = numbered-append (numbered-sizes whole m (length keys) classes (omega arith)) (numbered-records whole m 0 0 keys)
+
+-- where gaps are allowed, 5 is not given
+without-records : (m n at : ℕ) (keys : List ℕ) → Without 5 (refusalsFrom false m n at keys)
+unfolding refusalsFrom
+without-records m n at [] = without-clear 5 (late-never at (4 ^ m)) without-none
+without-records m n at (k ∷ ks) =
+    let f = formOf m k in
+    without-other 3 (λ e. omega (arith, e)) (without-other 4 (λ e. omega (arith, e)) (without-clear 5 (late-never at (start f)) (without-records m (suc n) (end f) ks)))
+
+pub without-map : (m : ℕ) (keys : List ℕ) (classes : ℕ) → Without 5 (mapRefusalsIn false m keys classes)
+unfolding mapRefusalsIn
+without-map m keys classes = without-append (without-over (numbered-sizes {most = 2} false m (length keys) classes (omega arith)) (omega arith)) (without-records m 0 0 keys)
 
 -- what the table asks of the records behind `at`: that they follow one another, or that they are spaced
 module _ (whole : Bool) (m : ℕ) (Good : ℕ → List ℕ → Type 0)

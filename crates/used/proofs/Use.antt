@@ -12,12 +12,13 @@ use borrow.Author.Tests.{lt-ltb, le-ltb, ltb-false}
 use Rattle.answers.specs.declared.Verdict.the-variants as verdict-of
 use Rattle.answers.specs.Refusals.{answer, verdict}
 use Rattle.answers.proofs.Laws.{refusal-held, answer-append, answer-same, on-passed, append-passed, append-refused, passed-one, passed-append, Numbered, none, numbered-next, numbered-append}
+use Rattle.answers.proofs.Laws.{Without, without-none, without-other, without-append}
 use Rattle.window.specs.declared.Window.{Window}
 use Rattle.window.specs.Window.{outside, windowRefusals, Inside}
-use Rattle.window.proofs.Laws.{window-refused, window-passed, window-inside, numbered-window}
+use Rattle.window.proofs.Laws.{window-refused, window-passed, window-inside, numbered-window, without-window}
 use Rattle.map.specs.Check.{mapRefusalsIn}
 use Rattle.map.specs.Sound.{Follow, SoundIn}
-use Rattle.map.proofs.Laws.{sound-map, recorded-spaced, numbered-map}
+use Rattle.map.proofs.Laws.{sound-map, recorded-spaced, numbered-map, without-map}
 use Rattle.used.specs.Used.{Usable, borderRefusals, useRefusalsIn, useRefusals}
 use Rattle.used.specs.Promises.{AnswerableIn}
 
@@ -102,6 +103,12 @@ module _ (whole : Bool) (m : ℕ) (keys : List ℕ) (classes : ℕ) (W : Window)
 
     pub use-same : length keys ≡ classes
     use-same = given .sound .sizes .same
+
+-- where gaps are allowed, 5 is not given
+pub without-use : (m : ℕ) (keys : List ℕ) (classes : ℕ) (W : Window) (cells : ℕ) → Without 5 (useRefusalsIn false m keys classes W cells)
+unfolding useRefusalsIn borderRefusals
+without-use m keys classes W cells =
+    without-append (without-map m keys classes) (without-append (without-window m W (λ e. omega (arith, e))) (without-other 7 (λ e. omega (arith, e)) without-none))
 
 -- where it is to be so, the map is whole
 pub use-whole : (m : ℕ) (keys : List ℕ) (classes : ℕ) (W : Window) (cells : ℕ) → verdict (useRefusals m keys classes W cells) ≡ verdict-of.Passed → Follow m 0 keys

@@ -7,7 +7,7 @@ pub use Rattle.window.proofs.Blocks.{exponent-le, exponent-fits, expone
 pub use Rattle.window.proofs.Listed.{before-row, before-irrefl, listed→, →listed, listed-ordered, block-of, block-one, trichotomy, front-all}
 pub use Rattle.window.proofs.Few.{blocks-most, blocks-capped, blocks-few}
 pub use Rattle.window.proofs.Largest.{largest-one, largest-some, largest-is, largest-corner}
-pub use Rattle.window.proofs.Tests.{inside, not-outside, window-refused, window-passed, window-inside, numbered-window, inside-12}
+pub use Rattle.window.proofs.Tests.{inside, not-outside, window-refused, window-passed, window-inside, numbered-window, without-window, inside-12}
 pub use Rattle.window.proofs.Drawn.{drawn-over, drawn-outside, drawn-short, drawn-done, numbered-drawn, drawn-passed, drawn-said, drawn-by-length, drawn-leaves, drawn-untouched}
 pub use Rattle.window.proofs.Past.{walked-first, walked-next, walked-last, walked-split, walked-room, goes-in, goes-exponent, goes-less, goes-corner, goes-own, goes-some}
 pub use Rattle.window.proofs.Keys.{keys-of, key-at, pixel-in, key-named, key-maximal, key-block, key-listed, keys-distinct, keys-length}
