@@ -1,7 +1,7 @@
 -- The laws of openings: all that the crates above know of them. They hand out the records that overlap the window, each once, and no fewer blocks bring these. Of a map that may have
 -- gaps `Spaced` is known, of a whole one `Follow`.
 -- Assumes nothing.
-pub use Rattle.border.proofs.Fold.{met-in}
+pub use Rattle.border.proofs.Fold.{met-run, met-in}
 pub use Rattle.border.proofs.Hands.{hands-none, hands-one, hands-append, in-hands, hands-count, cells-length, openings-in}
 pub use Rattle.border.proofs.Overlaps.{spans, met-pixels, met-room, block-key}
 pub use Rattle.border.proofs.Handing.{listed-corner}

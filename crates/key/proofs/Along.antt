@@ -74,6 +74,21 @@ first-stands {m} {s} ep ek et =
       aligned = λ i l. (λ h. z i, λ h. omega arith);
     }
 
+-- a place behind the first, or the picture's end: how large a block may start there
+module _ {m place top : ℕ} (few : m ≤ 12) (some : 1 ≤ place) (within : place ≤ 4 ^ m) (et : top ≡ alignment 32 place / 2) where
+  pub half : (k : ℕ) → k ≤ 16 → (k ≤ top) ↔ (place % 4 ^ k ≡ 0)
+  half k l = rw et (halves place k (alignment 32 place) l refl)
+
+  pub top-cap : top ≤ m
+  top-cap =
+      elim (decLt m top) [
+        | yes h ↦
+            let z : place % 4 ^ suc m ≡ 0 = half (suc m) (omega arith) .0 h in
+            let l : place < 4 ^ suc m = omega (arith, pow-suc 4 m, pow-least 3 m) in
+            absurd (omega (arith, sym (mod-eq-of-lt l)))
+        | no h ↦ omega arith
+      ]
+
 -- behind a block
 module _ {m key i s : ℕ} (few : m ≤ 12) (n : Names m key i s) where
   here : At m key i s
@@ -82,20 +97,18 @@ module _ {m key i s : ℕ} (few : m ≤ 12) (n : Names m key i s) where
   pub next-room : Lies m key i s
   next-room = lies here
 
-  -- how large a block may start there
   module _ {place top : ℕ} (ep : place ≡ s + 4 ^ i) (et : top ≡ alignment 32 place / 2) where
-    half : (k : ℕ) → k ≤ 16 → (k ≤ top) ↔ (place % 4 ^ k ≡ 0)
-    half k l = rw et (halves place k (alignment 32 place) l refl)
+    some-place : 1 ≤ place
+    some-place = omega (arith, pow-least 3 i)
+
+    next-within : place ≤ 4 ^ m
+    next-within = omega (arith, lies here .span)
+
+    next-half : (k : ℕ) → k ≤ 16 → (k ≤ top) ↔ (place % 4 ^ k ≡ 0)
+    next-half = half few some-place next-within et
 
     next-cap : top ≤ m
-    next-cap =
-        elim (decLt m top) [
-          | yes h ↦
-              let z : place % 4 ^ suc m ≡ 0 = half (suc m) (omega arith) .0 h in
-              let l : place < 4 ^ suc m = omega (arith, lies here .span, pow-suc 4 m, pow-least 3 m) in
-              absurd (omega (arith, sym (mod-eq-of-lt l), pow-least 3 i))
-          | no h ↦ omega arith
-        ]
+    next-cap = top-cap few some-place next-within et
 
     -- the largest block that starts there has this exponent
     next-top : place < 4 ^ m → At m (key + 5 ^ i) top place
@@ -103,9 +116,9 @@ module _ {m key i s : ℕ} (few : m ≤ 12) (n : Names m key i s) where
       where
         go : Top m (key + 5 ^ i) place → At m (key + 5 ^ i) top place
         go t =
-            let l = half top (omega (arith, next-cap)) .0 (omega arith) in
+            let l = next-half top (omega (arith, next-cap)) .0 (omega arith) in
             let up : top ≤ t .top = t .most (start-at m top place next-cap h l .1) in
-            let down : t .top ≤ top = half (t .top) (omega (arith, lies (t .at) .small)) .1 (at-aligned (t .at)) in
+            let down : t .top ≤ top = next-half (t .top) (omega (arith, lies (t .at) .small)) .1 (at-aligned (t .at)) in
             let e : t .top ≡ top = omega arith in
             subst (λ (x : ℕ). At m (key + 5 ^ i) x place) e (t .at)
 
@@ -115,7 +128,7 @@ module _ {m key i s : ℕ} (few : m ≤ 12) (n : Names m key i s) where
     within = omega (arith, lies here .span);
     largest = λ h. let e : t .key ≡ key + 5 ^ i = omega (arith, ones-pow i) in rw e (record { is = at-form (next-top ep et h) });
     cap = next-cap ep et;
-    aligned = λ k l. half ep et k (omega arith);
+    aligned = λ k l. next-half ep et k (omega arith);
   }
 
 -- ---- what a key is at a place

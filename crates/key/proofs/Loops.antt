@@ -7,7 +7,7 @@ pub use Rattle.key.proofs.Reading.{Reading, reading-first, reading-few,
 pub use Rattle.key.proofs.Corners.{pixel-key-ones, ones-pow, ones-entry, ones-listed, corner-pixel, corner-key, spread-is-ones, ones-most}
 pub use Rattle.key.proofs.Around.{Grown, grown-first, grown-next, below-room, grown-most, reached, unreached, reached-all}
 pub use Rattle.key.proofs.Along.{pixel-room, fits-start, first-stands, next-room, next-stands, not-behind, Less, Told, told, fits-behind, fits-largest, fits-unlike, fits-large, fits-here}
-pub use Rattle.key.proofs.Here.{begins-before, begins-over, begins-told}
+pub use Rattle.key.proofs.Here.{begins-before, begins-over, begins-told, begin-top, begin-first, begin-stands}
 pub use Rattle.key.proofs.Zeros.{alignment-counted}
 pub use Rattle.key.proofs.Powers.{bit}
 pub use Rattle.key.proofs.Bits.{spread-lt, spread-power, spreads-short}

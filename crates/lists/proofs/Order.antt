@@ -48,6 +48,13 @@ ordered-map {B = B} {S = S} f (more {x = x} {l = l} h o) k = more late (ordered-
     late : (y : B) → List·Memᴰ y (map f l) → S (f x) y
     late y m = let t = Memᴰ·of-map f l m in rw (← t .2) (k x (t .0) (List·Memᴰ·head refl) (List·Memᴰ·tail (t .1)) (h (t .0) (t .1)))
 
+-- two elements of an ordered list, neither before the other, are one
+pub ordered-one : {A : Type 0} {R : A → A → Type 0} {l : List A} {x y : A} → Ordered R l → List·Memᴰ x l → List·Memᴰ y l → (R x y → ⊥) → (R y x → ⊥) → x ≡ y
+ordered-one (more h o) (List·Memᴰ·head e) (List·Memᴰ·head d) p q = e ∙ sym d
+ordered-one {y = y} (more h o) (List·Memᴰ·head e) (List·Memᴰ·tail n) p q = absurd (p (rw e (h y n)))
+ordered-one {x = x} (more h o) (List·Memᴰ·tail m) (List·Memᴰ·head d) p q = absurd (q (rw d (h x m)))
+ordered-one (more h o) (List·Memᴰ·tail m) (List·Memᴰ·tail n) p q = ordered-one o m n p q
+
 -- different elements, and a function that keeps them apart
 pub distinct-map : {A B : Type 0} (f : A → B) {l : List A} → Ordered _≢_ l → ((x y : A) → List·Memᴰ x l → List·Memᴰ y l → f x ≡ f y → x ≡ y) → Ordered _≢_ (map f l)
 distinct-map f o u = ordered-map f o (λ x y m n h e. h (u x y m n e))

@@ -3,7 +3,7 @@
 use mathlib.Core.Path.{_≡_, refl, _∙_}
 use mathlib.Core.Bool.{Bool, true, false, cond}
 use mathlib.Core.List.{List, [], _∷_, _++_, map, map-append, List·Memᴰ}
-use Prim.Native.Nat.{ℕ, _+_, _-_, _≤_, _<_}
+use Prim.Native.Nat.{ℕ, suc, _+_, _-_, _≤_, _<_}
 use native.Mathlib.Decide.{ℕ-discrete}
 use native.Mathlib.Omega.{arith}
 use lib.ListN.{length, getD, length-map}
@@ -36,16 +36,23 @@ module _ (keys classes : List ℕ) (class : ℕ) where
       go true e = rw (up-one n, keep-taken (classed classes class) {x = n} [] e, keep-empty (classed classes class))
       go false e = rw (up-one n, keep-passed (classed classes class) {x = n} [] e, keep-empty (classed classes class))
 
-  -- no record, and one more
-  none : (first : ℕ) → pickedRun keys classes class first 0 ≡ []
+  -- no record, and more behind them
+  pub picked-none : (first : ℕ) → pickedRun keys classes class first 0 ≡ []
   unfolding pickedRun
-  none first = rw (up-none first, keep-empty (classed classes class))
+  picked-none first = rw (up-none first, keep-empty (classed classes class))
 
-  one-more : (first n : ℕ) → pickedRun keys classes class first (n + 1) ≡ pickedRun keys classes class first n ++ pickedRun keys classes class (first + n) 1
+  more : (first n k : ℕ) → pickedRun keys classes class first (n + k) ≡ pickedRun keys classes class first n ++ pickedRun keys classes class (first + n) k
   unfolding pickedRun
-  one-more first n =
-      rw (up-append first n 1, keep-append (classed classes class) (upFrom first n) (upFrom (first + n) 1))
-      (map-append (λ i. getD keys i 0) (keep (classed classes class) (upFrom first n)) (keep (classed classes class) (upFrom (first + n) 1)))
+  more first n k =
+      rw (up-append first n k, keep-append (classed classes class) (upFrom first n) (upFrom (first + n) k))
+      (map-append (λ i. getD keys i 0) (keep (classed classes class) (upFrom first n)) (keep (classed classes class) (upFrom (first + n) k)))
+
+  -- the first record, and the others
+  pub picked-next : (n count : ℕ) → pickedRun keys classes class n (suc count) ≡ pickedAround classes class (getD keys n 0) n ++ pickedRun keys classes class (suc n) count
+  picked-next n count =
+      let e : suc count ≡ 1 + count = omega arith in
+      let d : n + 1 ≡ suc n = omega arith in
+      rw (e, more n 1 count, d, picks-one n)
 
   pub picked-most : (first count : ℕ) → length (pickedRun keys classes class first count) ≤ count
   unfolding pickedRun
@@ -62,7 +69,7 @@ module _ {keys classes : List ℕ} {class first end n : ℕ} where
   pub picking-first : {out : List ℕ} → first ≤ end → Picking keys classes class first end n out out first n
   picking-first {out} l =
       let e : first - first ≡ 0 = omega arith in
-      record { low = omega arith; high = l; listing = rw (e, none keys classes class first) (listed-none n out) }
+      record { low = omega arith; high = l; listing = rw (e, picked-none keys classes class first) (listed-none n out) }
 
   module _ {out₀ out : List ℕ} {i k : ℕ} (P : Picking keys classes class first end n out₀ out i k) where
     pub picking-most : k ≤ n + (i - first)
@@ -74,7 +81,7 @@ module _ {keys classes : List ℕ} {class first end n : ℕ} where
         let d : i + 1 - first ≡ i - first + 1 = omega (arith, P .low) in
         let e : first + (i - first) ≡ i = omega (arith, P .low) in
         let s : pickedRun keys classes class first (i + 1 - first) ≡ pickedRun keys classes class first (i - first) ++ pickedAround classes class (getD keys i 0) i =
-        rw (d, ← picks-one keys classes class i) (one-more keys classes class first (i - first) ∙ rw e) in
+        rw (d, ← picks-one keys classes class i) (more keys classes class first (i - first) 1 ∙ rw e) in
         record { low = omega (arith, P .low); high = omega arith; listing = rw s (listed-more (P .listing) L) }
 
 -- all have been

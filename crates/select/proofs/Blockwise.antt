@@ -1,12 +1,10 @@
 -- What is selected from blocks, one after another: part by part, and one block more.
 -- Assumes nothing.
-use mathlib.Core.Path.{_≡_, refl, sym, ap}
-use mathlib.Core.Logic.{_⊎_, inl, inr}
-use mathlib.Core.List.{List, [], _∷_, _++_, append-assoc, append-nil, map, map-append}
-use mathlib.Core.List.{List·Memᴰ, List·Memᴰ·head, List·Memᴰ·tail, List·Memᴰ·not-nil, List·Memᴰ·append-cases, Memᴰ·append-left, Memᴰ·append-right}
+use mathlib.Core.Path.{_≡_, refl, sym, _∙_}
+use mathlib.Core.List.{List, [], _∷_, _++_, map, flatMap, List·Memᴰ}
 use Prim.Native.Nat.{ℕ, _+_, _≤_}
-use native.Mathlib.Omega.{arith}
-use lib.ListN.{length, length-append}
+use lib.ListN.{length}
+use Rattle.lists.proofs.Laws.{flat-next, flat-none, flat-last, flat-room, flat-in, in-flat, flat-map}
 use Rattle.key.specs.Picture.{Px}
 use Rattle.window.specs.declared.Window.{Window}
 use Rattle.window.specs.Blocks.{maximal}
@@ -23,46 +21,41 @@ module _ (m : ℕ) (keys classes : List ℕ) (class : ℕ) where
   unfolding allSelected
   all-cons k ks = refl
 
-  pub all-append : (ks ks′ : List ℕ) → allSelected m keys classes class (ks ++ ks′) ≡ allSelected m keys classes class ks ++ allSelected m keys classes class ks′
-  unfolding allSelected
-  all-append [] ks′ = refl
-  all-append (k ∷ ks) ks′ = rw (all-append ks ks′) (sym (append-assoc (selected m keys classes class k) (allSelected m keys classes class ks) (allSelected m keys classes class ks′)))
+  -- as each element of a list makes its own
+  pub all-flat : (ks : List ℕ) → allSelected m keys classes class ks ≡ flatMap (selected m keys classes class) ks
+  all-flat [] = all-none ∙ sym (flat-none (selected m keys classes class))
+  all-flat (k ∷ ks) = all-cons k ks ∙ rw (all-flat ks) (sym (flat-next (selected m keys classes class) k ks))
 
   -- from which block
   pub all-in : (ks : List ℕ) {x : ℕ} → List·Memᴰ x (allSelected m keys classes class ks) → (k : ℕ) × List·Memᴰ k ks × List·Memᴰ x (selected m keys classes class k)
-  unfolding allSelected
-  all-in [] l = absurd (List·Memᴰ·not-nil l)
-  all-in (k ∷ ks) {x} l = go (all-in ks) (List·Memᴰ·append-cases (selected m keys classes class k) l)
-    where
-      go : (List·Memᴰ x (allSelected m keys classes class ks) → (j : ℕ) × List·Memᴰ j ks × List·Memᴰ x (selected m keys classes class j))
-          → List·Memᴰ x (selected m keys classes class k) ⊎ List·Memᴰ x (allSelected m keys classes class ks)
-          → (j : ℕ) × List·Memᴰ j (k ∷ ks) × List·Memᴰ x (selected m keys classes class j)
-      go ih (inl n) = (k, List·Memᴰ·head refl, n)
-      go ih (inr n) = let t = ih n in (t .0, List·Memᴰ·tail (t .1), t .2)
+  all-in ks l = flat-in (selected m keys classes class) ks (rw (all-flat ks) at l)
 
   pub in-all : {ks : List ℕ} {k x : ℕ} → List·Memᴰ k ks → List·Memᴰ x (selected m keys classes class k) → List·Memᴰ x (allSelected m keys classes class ks)
-  unfolding allSelected
-  in-all {x = x} (List·Memᴰ·head {xs = ks} e) n = Memᴰ·append-left (allSelected m keys classes class ks) (rw e at n)
-  in-all (List·Memᴰ·tail {x = j} l) n = Memᴰ·append-right (selected m keys classes class j) (in-all l n)
+  in-all {ks} l n = rw (all-flat ks) (in-flat (selected m keys classes class) l n)
 
   module _ (top : ℕ) (W : Window) where
     abbrev pub selectedBy : List Px → List ℕ
     selectedBy bs = allSelected m keys classes class (map (keyOf m top W) bs)
 
+    -- of a block by its corner
+    abbrev of : Px → List ℕ
+    of b = selected m keys classes class (keyOf m top W b)
+
+    by-flat : (bs : List Px) → selectedBy bs ≡ flatMap (λ b. selected m keys classes class (keyOf m top W b)) bs
+    by-flat bs = all-flat (map (keyOf m top W) bs) ∙ flat-map (selected m keys classes class) (keyOf m top W) bs
+
     pub selection-is : selection m top keys classes W class ≡ selectedBy (maximal W top)
     unfolding selection
     selection-is = rw (keys-of m top W)
 
+    pub selection-flat : selection m top keys classes W class ≡ flatMap (λ b. selected m keys classes class (keyOf m top W b)) (maximal W top)
+    selection-flat = selection-is ∙ by-flat (maximal W top)
+
     -- one block more
     pub selected-snoc : (past : List Px) (b : Px) → selectedBy (past ++ (b ∷ [])) ≡ selectedBy past ++ selected m keys classes class (keyOf m top W b)
-    selected-snoc past b =
-        rw (map-append (keyOf m top W) past (b ∷ []), all-append (map (keyOf m top W) past) (keyOf m top W b ∷ []), all-cons (keyOf m top W b) [], all-none)
-        (ap (λ (l : List ℕ). selectedBy past ++ l) (append-nil (selected m keys classes class (keyOf m top W b))))
+    selected-snoc past b = rw (by-flat (past ++ (b ∷ [])), by-flat past) (flat-last of past b)
 
     -- what is past and what one block gives are of the whole
     pub selected-room : (past : List Px) (b : Px) (rest : List Px) → maximal W top ≡ past ++ b ∷ rest
         → length (selectedBy past) + length (selected m keys classes class (keyOf m top W b)) ≤ length (selection m top keys classes W class)
-    selected-room past b rest e =
-        let ks : List ℕ = map (keyOf m top W) rest in
-        rw (selection-is, e, map-append (keyOf m top W) past (b ∷ rest), all-append (map (keyOf m top W) past) (keyOf m top W b ∷ ks), all-cons (keyOf m top W b) ks)
-        (simp length-append (omega arith))
+    selected-room past b rest e = rw (selection-is, e, by-flat (past ++ b ∷ rest), by-flat past) (flat-room of past b rest)

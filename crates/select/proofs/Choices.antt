@@ -38,19 +38,37 @@ module _ {m : ℕ} {keys : List ℕ} (classes : List ℕ) (class : ℕ) {key i s
 -- ---- what is selected, by cases
 
 module _ (m : ℕ) (keys classes : List ℕ) (class key : ℕ) where
+  -- the block lies in a record of the class, or in none
+  pub data Lying : Type 0 where
+    lies : {n : ℕ} → n < length keys → around m keys classes class key n ≡ true → Lying
+    apart : ((n : ℕ) → n < length keys → ¬ (around m keys classes class key n ≡ true)) → Lying
+
+  pub some-around : {n : ℕ} → n < length keys → around m keys classes class key n ≡ true → any (around m keys classes class key) (upFrom 0 (length keys)) ≡ true
+  some-around {n} l e = has-any (around m keys classes class key) (up-in 0 (length keys) n .1 (omega arith)) e
+
+  pub none-around : ((n : ℕ) → n < length keys → ¬ (around m keys classes class key n ≡ true)) → any (around m keys classes class key) (upFrom 0 (length keys)) ≡ false
+  none-around h = refuted (any (around m keys classes class key) (upFrom 0 (length keys))) none
+    where
+      none : any (around m keys classes class key) (upFrom 0 (length keys)) ≡ true → ⊥
+      none e = let t = any-has (around m keys classes class key) (upFrom 0 (length keys)) e in let a = up-in 0 (length keys) (t .0) .0 (t .1) in h (t .0) (omega arith) (t .2)
+
+  pub lying : Lying
+  lying = go (any (around m keys classes class key) (upFrom 0 (length keys))) refl
+    where
+      go : (b : Bool) → any (around m keys classes class key) (upFrom 0 (length keys)) ≡ b → Lying
+      go true e = let t = any-has (around m keys classes class key) (upFrom 0 (length keys)) e in lies {n = t .0} (omega (arith, up-in 0 (length keys) (t .0) .0 (t .1))) (t .2)
+      go false e = apart (λ n l h. never (sym (some-around l h) ∙ e))
+
   -- the block lies in a record of the class
   pub selected-whole : {n : ℕ} → n < length keys → around m keys classes class key n ≡ true → selected m keys classes class key ≡ key ∷ []
   unfolding selected
-  selected-whole {n} l e = rw (has-any (around m keys classes class key) (up-in 0 (length keys) n .1 (omega arith)) e)
+  selected-whole l e = rw (some-around l e)
 
   -- it lies in none
   pub selected-parts : ((n : ℕ) → n < length keys → ¬ (around m keys classes class key n ≡ true))
       → selected m keys classes class key ≡ map (λ n. getD keys n 0) (keep (inside m keys classes class key) (upFrom 0 (length keys)))
   unfolding selected
-  selected-parts h = rw (refuted (any (around m keys classes class key) (upFrom 0 (length keys))) none)
-    where
-      none : any (around m keys classes class key) (upFrom 0 (length keys)) ≡ true → ⊥
-      none e = let t = any-has (around m keys classes class key) (upFrom 0 (length keys)) e in let a = up-in 0 (length keys) (t .0) .0 (t .1) in h (t .0) (omega arith) (t .2)
+  selected-parts h = rw (none-around h)
 
   -- one or the other
   pub data Choice : Type 0 where
@@ -59,20 +77,8 @@ module _ (m : ℕ) (keys classes : List ℕ) (class key : ℕ) where
         → selected m keys classes class key ≡ map (λ n. getD keys n 0) (keep (inside m keys classes class key) (upFrom 0 (length keys))) → Choice
 
   pub choice : Choice
-  choice = go (any test records) refl
+  choice = go lying
     where
-      test : ℕ → Bool
-      test = around m keys classes class key
-
-      records : List ℕ
-      records = upFrom 0 (length keys)
-
-      go : (b : Bool) → any test records ≡ b → Choice
-      go true e =
-          let t = any-has test records e in
-          let l : t .0 < length keys = omega (arith, up-in 0 (length keys) (t .0) .0 (t .1)) in
-          whole l (t .2) (selected-whole l (t .2))
-      go false e = parts none (selected-parts none)
-        where
-          none : (n : ℕ) → n < length keys → ¬ (test n ≡ true)
-          none n l h = never (sym (has-any test (up-in 0 (length keys) n .1 (omega arith)) h) ∙ e)
+      go : Lying → Choice
+      go (lies l e) = whole l e (selected-whole l e)
+      go (apart h) = parts h (selected-parts h)

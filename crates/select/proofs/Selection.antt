@@ -35,7 +35,7 @@ module _ {m top : ℕ} {keys : List ℕ} (F : Spaced m 0 keys) {W : Window} (I :
   named C = key-named I small (C .inside) (C .own)
 
   -- maximal blocks that share a place are one
-  one-corner : {b b′ : Px} {q : ℕ} → Corner W top b → Corner W top b′
+  pub one-corner : {b b′ : Px} {q : ℕ} → Corner W top b → Corner W top b′
       → Among (place (b .0) (b .1)) (4 ^ exponent W top b) q → Among (place (b′ .0) (b′ .1)) (4 ^ exponent W top b′) q → b ≡ b′
   one-corner {b} {b′} {q} C C′ h h′ = go (place-onto m q (omega (arith, block-lies (named C) .span)))
     where

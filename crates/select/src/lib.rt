@@ -65,7 +65,7 @@ fn pick_all(
 
 // The keys of the class, in the order of maximal blocks. A slice with room for as many as there can be takes one pass; otherwise a first pass counts them and writes none, since 8
 // writes nothing into the slice.
-fn list_keys(
+pub fn list_keys(
     table: &[u32; 256],
     m: u32,
     keys: &[u32],

@@ -116,3 +116,21 @@ pub fn advance(ones: &[u32; 13], m: u32, key: u32, i: u32, start: u32) -> Spot
         top,
     }
 }
+
+// Where the block of a key begins, of exponent i and with a span from `start` on: the key of the largest block there is so many digits 1 below that of the block's first pixel.
+pub fn begin(ones: &[u32; 13], m: u32, key: u32, i: u32, start: u32) -> Spot
+    requires { ⌜ (now ones ≡ onesTable) × (m ≤ 12) × Names m key i start ⌝ }
+    ensures { λ r. ⌜ (r .place ≡ start) × Stands m r ⌝ }
+{
+    if start == 0 {
+        return first_spot(m);
+    }
+    let top = u32::trailing_zeros(start) / 2;
+    let first = key + ones[i as usize];
+    let largest = first - ones[top as usize];
+    Spot {
+        place: start,
+        key: largest,
+        top,
+    }
+}

@@ -9,11 +9,11 @@ use native.Mathlib.Omega.{arith}
 use Rattle.lists.proofs.Laws.{refuted}
 use Rattle.key.specs.Blocks.{Names}
 use Rattle.key.specs.Places.{spanKey}
-use Rattle.key.proofs.Laws.{pow-least, span-named}
+use Rattle.key.proofs.Laws.{pow-least, size-le, block-lies, aligned-start, span-key, span-named}
 use Rattle.stretch.specs.Sets.{base, exponentIn, starts, between}
 use Rattle.stretch.specs.Fewest.{keyFrom, stretch}
 use Rattle.stretch.proofs.Bases.{base-le, base-own}
-use Rattle.stretch.proofs.Around.{exponent-le, exponent-fits, first, lies-first, first-among, first-in, starts-is, between-is, between-fits}
+use Rattle.stretch.proofs.Around.{exponent-le, exponent-fits, exponent-max, first, lies-first, first-among, first-in, starts-is, between-is, between-fits}
 use Rattle.stretch.proofs.Parts.{fewest-append, fewest-empty, fewest-head, Part, part-stretch}
 
 pub stretch-none : (m : ℕ) {a b : ℕ} → b ≤ a → stretch m a b ≡ []
@@ -73,3 +73,15 @@ module _ (m : ℕ) {a b : ℕ} (l : a < b) where
   -- it has this key
   pub next-named : b ≤ 4 ^ m → Names m (spanKey m e a) e a
   next-named h = span-named (exponent-le m P a) (base-own e a .0 next-aligned) (omega arith)
+
+-- a whole block is one: itself
+pub stretch-whole : {m key i s : ℕ} → Names m key i s → stretch m s (s + 4 ^ i) ≡ key ∷ []
+stretch-whole {m} {key} {i} {s} b =
+    let p = pow-least 3 i in
+    let own : base i s ≡ s = base-own i s .1 (aligned-start b) in
+    let l : s < s + 4 ^ i = omega arith in
+    let j : ℕ = exponentIn m (between s (s + 4 ^ i)) s in
+    let up : i ≤ j = exponent-max m (between s (s + 4 ^ i)) (block-lies b .small) (between-fits s (s + 4 ^ i) .1 (omega arith)) in
+    let down : j ≤ i = size-le j i .1 (omega (arith, next-room m l)) in
+    let e : j ≡ i = omega arith in
+    stretch-next m l ∙ rw (e, ← span-key b, stretch-none m {a = s + 4 ^ i} {b = s + 4 ^ i} (omega arith))

@@ -1,0 +1,3 @@
+pub mod Select
+pub mod Asked
+pub mod Promises

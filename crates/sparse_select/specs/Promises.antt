@@ -1,0 +1,23 @@
+-- The words in which it is promised that the gaps of a block are listed with the fewest blocks.
+-- Assumes nothing.
+use mathlib.Core.Bool.{Bool, _&&_}
+use mathlib.Core.List.{List}
+use Prim.Native.Nat.{ℕ}
+use lib.Dec.{eqb}
+use lib.ListN.{length}
+use Rattle.key.specs.Form.{formOf}
+use Rattle.map.specs.Spans.{start}
+use Rattle.map.specs.Records.{recordOf}
+use Rattle.stretch.specs.Sets.{between}
+
+-- place q is in no record
+unfoldable pub isFree : ℕ → List ℕ → ℕ → Bool
+isFree m keys q = eqb (recordOf m keys q) (length keys)
+
+-- place q is one from a up to b, and in no record
+unfoldable pub freeIn : ℕ → List ℕ → ℕ → ℕ → ℕ → Bool
+freeIn m keys a b q = between a b q && isFree m keys q
+
+-- the block of a key starts at a place in no record
+unfoldable pub bare : ℕ → List ℕ → ℕ → Bool
+bare m keys x = isFree m keys (start (formOf m x))
