@@ -1,16 +1,17 @@
-// Keys and sizes of blocks: E by a table, a pixel's key, a block's key, powers, and the alignment of a number.
+// Keys and sizes of blocks: E by a table, a pixel's key and its place, a block's key, powers, and the alignment of a number.
 // The crates above refuse m over 12 before they call, so functions here ask m ≤ 12, and all keys fit u32.
 ghost use mathlib.Core.Path.{_≡_};
 ghost use Prim.Native.Nat.{_^_, _<_, _≤_};
 ghost use lib.ListN.{getD};
-ghost use Rattle.key.specs.Spread.{E, spreads};
-ghost use Rattle.key.specs.Picture.{Pixel};
+ghost use Rattle.key.specs.Spread.{E, spread, spreads, fours};
+ghost use Rattle.key.specs.Picture.{Pixel, place};
 ghost use Rattle.key.specs.Key.{pixelKey, blockKey, ones};
 ghost use Rattle.key.specs.Alignment.{alignment};
 ghost use Rattle.key.specs.Power.{Power};
 
 mod tables;
 
+use tables::FOURS;
 use tables::SPREAD;
 
 // The table, to be lent to `pixel_key` and `block_key`: whoever makes many keys makes it once.
@@ -81,6 +82,39 @@ pub fn block_key(table: &[u32; 256], m: u32, i: u32, row: u16, col: u16) -> u32
     ensures { λ r. ⌜ r ≡ blockKey m i row col ⌝ }
 {
     pixel_key(table, m, (row >> i) << i, (col >> i) << i) - ones(table, i)
+}
+
+fn fours_table() -> [u8; 16]
+    ensures { λ r. ⌜ r ≡ fours ⌝ }
+{
+    FOURS
+}
+
+// Four bits, spread over the powers of 4.
+fn four_bits(table: &[u8; 16], x: u16) -> u32
+    requires { ⌜ (now table ≡ fours) × (x < 16) ⌝ }
+    ensures { λ r. ⌜ r ≡ spread 4 x ⌝ }
+{
+    table[x as usize] as u32
+}
+
+// So those of a row or a column, four at a time.
+fn bits_apart(table: &[u8; 16], x: u16) -> u32
+    requires { ⌜ (now table ≡ fours) × (x < 2 ^ 12) ⌝ }
+    ensures { λ r. ⌜ r ≡ spread 4 x ⌝ }
+{
+    four_bits(table, x % 16)
+        + 256 * four_bits(table, x / 16 % 16)
+        + 65536 * four_bits(table, x / 256)
+}
+
+// The place of a pixel in key order.
+pub fn place(row: u16, col: u16) -> u32
+    requires { ⌜ Pixel 12 row col ⌝ }
+    ensures { λ r. ⌜ r ≡ place row col ⌝ }
+{
+    let table = fours_table();
+    2 * bits_apart(&table, row) + bits_apart(&table, col)
 }
 
 pub fn alignment(m: u32, x: u16) -> u32

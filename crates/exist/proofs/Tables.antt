@@ -54,6 +54,10 @@ module _ (whole : Bool) (rule : ℕ → ℕ) (m : ℕ) (keys : List ℕ) (classe
   unfolding existIn existingBy
   exist-by-lengths = unless-answer existence.Refused (useRefusalsIn whole m keys classes W (length border)) border _
 
+pub existing-is : (rule : ℕ → ℕ) (W : Window) (class : ℕ) (border : List ℕ) → existingBy rule W class border ≡ after (presenceBy rule W class) (spent W border)
+unfolding existingBy
+existing-is rule W class border = refl
+
 -- each answer, by what is known of the class and of 255
 module _ (rule : ℕ → ℕ) (W : Window) (class : ℕ) (border : List ℕ) {left : List ℕ} where
   pub existing-yes : existsBy rule W class ≡ true → left ≡ spent W border → after existence.Yes left ≡ existingBy rule W class border

@@ -10,6 +10,6 @@ pub use Rattle.key.proofs.Along.{pixel-room, fits-start, first-stands, 
 pub use Rattle.key.proofs.Here.{begins-before, begins-over, begins-told, begin-top, begin-first, begin-stands}
 pub use Rattle.key.proofs.Zeros.{alignment-counted}
 pub use Rattle.key.proofs.Powers.{bit}
-pub use Rattle.key.proofs.Bits.{spread-lt, spread-power, spreads-short}
-pub use Rattle.key.proofs.Pixels.{larger}
+pub use Rattle.key.proofs.Bits.{spread-lt, spread-power, spreads-short, fours-listed, fours-entry, spread-thrice}
+pub use Rattle.key.proofs.Pixels.{larger, place-is}
 pub use Rattle.key.proofs.Squares.{Squaring, squaring-first, squaring-zero, squaring-digit, squaring-last}

@@ -65,6 +65,16 @@ ordered {i = i} {j = j} x y = go (blocks-stand x y)
     go (after p q) = (λ h. q, λ h. p)
     go (before p q) = (λ h. absurd (omega (arith, pow-least 3 i, pow-least 3 j)), λ h. absurd (omega (arith, pow-least 4 i, pow-least 4 j)))
 
+-- in the order of their keys blocks start in the order of their places
+pub starts-order : {m a i s b j t : ℕ} → Names m a i s → Names m b j t → a ≤ b → s ≤ t
+starts-order {a = a} {i} {s} {b} {j} {t} x y l = go (blocks-stand x y)
+  where
+    go : Stand a i s b j t → s ≤ t
+    go (within p q) = p .least
+    go (around k p g q) = absurd (omega arith)
+    go (after p q) = omega arith
+    go (before p q) = absurd (omega (arith, pow-least 4 j))
+
 -- the places of pixels are in the order of their keys
 pub key-order : {m r c y x : ℕ} → Pixel m r c → Pixel m y x → (place r c < place y x) ↔ (pixelKey m r c < pixelKey m y x)
 key-order {m} {r} {c} {y} {x} p q =

@@ -38,6 +38,10 @@ place-split : (i r c : ℕ) → place r c ≡ place (r / 2 ^ i) (c / 2 ^ i) * 4 
 unfolding place
 place-split i r c = rw (spread-split 4 i r, spread-split 4 i c) (sum-split _ _ (4 ^ i) _ _)
 
+pub place-is : (r c : ℕ) → place r c ≡ 2 * spread 4 r + spread 4 c
+unfolding place
+place-is r c = refl
+
 pub place-lt : {k r c : ℕ} → Pixel k r c → place r c < 4 ^ k
 unfolding place
 place-lt {k} {r} {c} p = omega (arith, spread-lt 3 k r (p .row), spread-lt 3 k c (p .col))

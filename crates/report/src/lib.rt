@@ -16,7 +16,7 @@ pub enum Reported {
 }
 
 // Writes the totals into the lent slice.
-fn put_totals(totals: &[u32; 256], out: &mut [u32])
+pub fn put_totals(totals: &[u32; 256], out: &mut [u32])
     requires { ⌜ (length (now totals) ≡ 256) × (256 ≤ length (now out)) ⌝ }
     ensures { λ r. ⌜ now (out .exit) ≡ overwrite (now (totals .entry)) (now (out .entry)) ⌝ }
 {

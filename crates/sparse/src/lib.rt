@@ -6,15 +6,15 @@ use report::Reported;
 use select::Selected;
 use window::Window;
 ghost use mathlib.Core.Path.{_≡_};
-ghost use mathlib.Core.Bool.{false};
+ghost use mathlib.Core.Bool.{false, cond};
 ghost use Prim.Native.Nat.{_≤_};
 ghost use lib.ListN.{length};
 ghost use Rattle.answers.specs.After.{after};
 ghost use Rattle.window.specs.Window.{Inside};
 ghost use Rattle.map.specs.Classes.{classOver};
 ghost use Rattle.used.specs.Used.{spent};
-ghost use Rattle.exist.specs.Exist.{presenceBy, existIn};
-ghost use Rattle.pieces.specs.Pieces.{Finds};
+ghost use Rattle.exist.specs.declared.Existence.the-variants.{Yes, No, CannotTell};
+ghost use Rattle.exist.specs.Exist.{existIn};
 ghost use Rattle.report.specs.Report.{reportIn};
 ghost use Rattle.select.specs.Select.{selectKeys};
 ghost use Rattle.sparse_select.specs.Select.{sparseSelection};
@@ -27,9 +27,9 @@ fn spend(window: Window, border: &mut [u16])
     step::fill(border, 0, window.w as usize, window.r0 + window.h);
 }
 
-// Yes, no, or it cannot tell. The rule of classes, the window and the class are there for the contract alone.
+// Yes, no, or it cannot tell.
 fn say(looked: Looked) -> Existence
-    ensures { λ r. ⌜ Says looked r ⌝ }
+    ensures { λ r. ⌜ r ≡ cond (looked .has) Yes (cond (looked .unseen) CannotTell No) ⌝ }
 {
     if looked.has {
         return Existence::Yes;
@@ -86,15 +86,7 @@ pub fn report(
     }
     let table = blocks::spread_table();
     let mut totals: [u32; 256] = [0; 256];
-    pieces::add_up_sparse(
-        &table,
-        m,
-        keys,
-        classes,
-        background,
-        window,
-        &mut totals,
-    );
+    pieces::add_up_sparse(&table, m, keys, classes, background, window, &mut totals);
     report::put_totals(&totals, out);
     Reported::Done {
         pixels: (window.h as u32) * (window.w as u32),
@@ -121,5 +113,15 @@ pub fn select(
     }
     spend(window, border);
     let table = blocks::spread_table();
-    sparse_select::list_sparse(&table, m, background, keys, classes, window, top, class, out)
+    sparse_select::list_sparse(
+        &table,
+        m,
+        background,
+        keys,
+        classes,
+        window,
+        top,
+        class,
+        out,
+    )
 }

@@ -6,16 +6,14 @@ use mathlib.Core.List.{List, [], _∷_}
 use Prim.Native.Nat.{ℕ, suc, _+_, _^_, _≤_, _<_}
 use native.Mathlib.Decide.{decLt, ℕ-discrete}
 use native.Mathlib.Omega.{arith}
-use lib.ListN.{length, getD, List·getD-eq-default}
+use lib.ListN.{length, getD}
 use Rattle.lists.specs.Lists.{upFrom, Ordered}
-use Rattle.lists.proofs.Laws.{getD-same}
 use Rattle.key.specs.Blocks.{Names, Among}
 use Rattle.key.proofs.Laws.{Covers, block-lies, pow-least}
 use Rattle.map.specs.Sound.{Spaced}
-use Rattle.map.specs.Records.{recordOf}
 use Rattle.map.specs.Runs.{runOf}
 use Rattle.map.specs.Classes.{classOver}
-use Rattle.map.proofs.Laws.{Record, Holder, Free, record-at, record-of, record-none, reach-least, reach-beyond}
+use Rattle.map.proofs.Laws.{Record, record-at, class-held, class-free, reach-least, reach-beyond}
 use Rattle.pick.specs.Picked.{pickedAround}
 use Rattle.pick.proofs.Laws.{around-has, around-not}
 use Rattle.select.specs.Select.{around}
@@ -32,14 +30,8 @@ HasClass m background keys classes class q = classOver background m keys classes
 module _ {m : ℕ} {keys : List ℕ} (F : Spaced m 0 keys) (background : ℕ) (classes : List ℕ) (same : length keys ≡ length classes) where
   -- ---- the class of a place
 
-  pub over-free : {q : ℕ} → Free m keys q → classOver background m keys classes q ≡ background
-  over-free {q} f = List·getD-eq-default classes background {n = recordOf m keys q} (omega (arith, record-none F f))
-
-  pub over-held : {q : ℕ} (H : Holder m keys q) → classOver background m keys classes q ≡ getD classes (H .index) 0
-  over-held {q} H = rw (record-of F H) (getD-same classes (H .index) background 0 (omega (arith, H .is .within)))
-
   over-record : {n i s q : ℕ} → Record m keys n i s → Among s (4 ^ i) q → classOver background m keys classes q ≡ getD classes n 0
-  over-record {n} {i} {s} R h = over-held (record { index = n; exponent = i; start = s; is = R; has = h })
+  over-record {n} {i} {s} R h = class-held F classes same background (record { index = n; exponent = i; start = s; is = R; has = h })
 
   -- ---- gaps and records, merged
 
@@ -51,8 +43,8 @@ module _ {m : ℕ} {keys : List ℕ} (F : Spaced m 0 keys) (background : ℕ) (c
     gap-made {a} {b} room G = go (ℕ-discrete class background)
       where
         go : Dec (class ≡ background) → Made m Has b a (blank m background keys classes class a b)
-        go (yes e) = rw (blank-own m background keys classes class a b e) (made-stretch a b room (λ q l h. over-free (G .free q l h) ∙ sym e))
-        go (no n) = rw (blank-other m background keys classes class a b n) (made-none {a = a} (λ q l h p. n (sym p ∙ over-free (G .free q l h))))
+        go (yes e) = rw (blank-own m background keys classes class a b e) (made-stretch a b room (λ q l h. class-free F classes same background (G .free q l h) ∙ sym e))
+        go (no n) = rw (blank-other m background keys classes class a b n) (made-none {a = a} (λ q l h p. n (sym p ∙ class-free F classes same background (G .free q l h))))
 
     record-made : {n i s : ℕ} → Record m keys n i s → Made m Has (s + 4 ^ i) s (pickedAround classes class (getD keys n 0) n)
     record-made {n} {i} {s} R = go (ℕ-discrete (getD classes n 0) class)

@@ -1,25 +1,30 @@
--- The laws of a window's pixels by their classes, under any rule that gives places classes.
+-- The laws of a window's pixels by their classes, under any rule that gives places classes: all 256 classes in one list, rules that agree, and the pixels block by block along the
+-- maximal blocks.
 -- Assumes nothing.
-use mathlib.Core.Path.{_≡_, refl, ap, _∙_}
+use mathlib.Core.Path.{_≡_, refl, sym, ap, _∙_}
 use mathlib.Core.Logic.{_↔_}
 use mathlib.Core.Bool.{true}
 use mathlib.Core.List.{List, map}
-use Prim.Native.Nat.{ℕ, _+_, _*_, _≤_, _<_}
+use Prim.Native.Nat.{ℕ, _+_, _*_, _^_, _≤_, _<_}
 use native.Mathlib.Omega.{arith}
 use lib.Dec.{eqb}
 use lib.ListN.{length, getD, length-map}
+use lib.Seq.{ext-getD}
 use borrow.Author.Tests.{eqb-true, eq-eqb}
 use Rattle.lists.specs.Promises.{sum}
 use Rattle.lists.specs.Lists.{upFrom, any, howMany}
-use Rattle.lists.proofs.Laws.{agree, up-in, up-length, up-distinct, table-entry, map-same, any-has, has-any, many-same, many-all, many-most, each-once}
+use Rattle.lists.proofs.Laws.{up-in, up-length, up-distinct, table-entry, map-same, any-has, has-any, any-same, many-same, many-all, many-most, each-once}
 use Rattle.key.specs.Picture.{place, Px}
+use Rattle.key.proofs.Laws.{place-lt}
 use Rattle.window.specs.declared.Window.{Window}
-use Rattle.window.specs.Window.{In}
-use Rattle.window.specs.Blocks.{pixels}
+use Rattle.window.specs.Window.{In, Inside}
+use Rattle.window.specs.Blocks.{exponent, pixels, maximal}
 use Rattle.window.specs.Rules.{ruled, existsBy, totalBy, totalsBy}
 use Rattle.window.specs.SharingPromises.{Union, Intersection, Parted}
+use Rattle.window.proofs.Keys.{pixel-in}
 use Rattle.window.proofs.Counts.{pixels-length, in-pixels}
 use Rattle.window.proofs.Parts.{counts-shared, counts-parted}
+use Rattle.window.proofs.Areas.{any-areas, many-areas}
 
 module _ (rule : ℕ → ℕ) (W : Window) where
   pub exists-by-means : (class : ℕ) → (existsBy rule W class ≡ true) ↔ ((p : Px) × In W p × (rule (place (p .0) (p .1)) ≡ class))
@@ -56,6 +61,10 @@ module _ (rule : ℕ → ℕ) (W : Window) where
       listed : (p : Px) → any (eqb (class p)) (upFrom 0 256) ≡ true
       listed p = has-any (eqb (class p)) (up-in 0 256 (class p) .1 (omega (arith, small (place (p .0) (p .1))))) (eq-eqb (class p) (class p) refl)
 
+  -- what has each class's total in its cell is the list
+  pub totals-by-are : {cells : List ℕ} → length cells ≡ 256 → ((k : ℕ) → k < 256 → getD cells k 0 ≡ totalBy rule W k) → cells ≡ totalsBy rule W
+  totals-by-are e h = ext-getD 0 _ _ (e ∙ sym totals-by-length) (λ k l. h k (omega (arith, e)) ∙ sym (totals-by-at k (omega (arith, e))))
+
 -- rules that give the window's pixels the same classes
 module _ (rule other : ℕ → ℕ) {W : Window} (same : (p : Px) → In W p → rule (place (p .0) (p .1)) ≡ other (place (p .0) (p .1))) where
   pub total-by-same : (class : ℕ) → totalBy rule W class ≡ totalBy other W class
@@ -67,13 +76,29 @@ module _ (rule other : ℕ → ℕ) {W : Window} (same : (p : Px) → In W p →
   totals-by-same = map-same (upFrom 0 256) (λ class l. total-by-same class)
 
   pub exists-by-same : (class : ℕ) → existsBy rule W class ≡ existsBy other W class
-  exists-by-same class =
-      let e = exists-by-means rule W class in
-      let d = exists-by-means other W class in
-      agree _ _ (
-        λ h. let t = e .0 h in d .1 (t .0, t .1, rw (← same (t .0) (t .1)) (t .2)),
-        λ h. let t = d .0 h in e .1 (t .0, t .1, same (t .0) (t .1) ∙ t .2),
-      )
+  unfolding existsBy
+  exists-by-same class = any-same (pixels W) (λ p l. ap (λ (k : ℕ). eqb k class) (same p (in-pixels W .0 l)))
+
+-- and rules that do so on the whole picture
+module _ {m : ℕ} {W : Window} (I : Inside m W) {rule other : ℕ → ℕ} (same : (q : ℕ) → q < 4 ^ m → rule q ≡ other q) where
+  pixels-same : (p : Px) → In W p → rule (place (p .0) (p .1)) ≡ other (place (p .0) (p .1))
+  pixels-same p v = same (place (p .0) (p .1)) (place-lt (pixel-in I v))
+
+  pub exists-same : (class : ℕ) → existsBy rule W class ≡ existsBy other W class
+  exists-same = exists-by-same rule other pixels-same
+
+  pub totals-same : totalsBy rule W ≡ totalsBy other W
+  totals-same = totals-by-same rule other pixels-same
+
+-- block by block
+module _ {m : ℕ} {W : Window} (I : Inside m W) {top : ℕ} (small : top ≤ m) (rule : ℕ → ℕ) (class : ℕ) where
+  pub exists-blocks : existsBy rule W class ≡ any (λ b. any (λ q. eqb (rule q) class) (upFrom (place (b .0) (b .1)) (4 ^ exponent W top b))) (maximal W top)
+  unfolding existsBy
+  exists-blocks = any-areas I small (λ q. eqb (rule q) class)
+
+  pub total-blocks : totalBy rule W class ≡ sum (map (λ b. howMany (λ q. eqb (rule q) class) (upFrom (place (b .0) (b .1)) (4 ^ exponent W top b))) (maximal W top))
+  unfolding totalBy
+  total-blocks = many-areas I small (λ q. eqb (rule q) class)
 
 -- windows that share pixels, and windows that part another
 module _ (rule : ℕ → ℕ) (class : ℕ) where

@@ -1,0 +1,6 @@
+-- The laws of pieces: all that the crates above know of them.
+-- Assumes nothing.
+pub use Rattle.pieces.proofs.Pieces.{over-held, over-free}
+pub use Rattle.pieces.proofs.Tallies.{places-none, places-append, places-most, places-alike, places-other}
+pub use Rattle.pieces.proofs.Sights.{seen-none, seen-append, seen-alike}
+pub use Rattle.pieces.proofs.Sparse.{one-record, one-pair, over-one, over-hidden, finds-same, exists-whole, totals-whole}

@@ -1,0 +1,3 @@
+pub mod Pair
+pub mod Cursors
+pub mod Pieces
