@@ -82,8 +82,9 @@ same-length-3 c = search needs
 returns-3 : tie.Need-returns-3
 returns-3 c =
     let spends = c .before .before .before .before .before .before .before .before .before .before .before .before .before .before in
-    let counted = c .before .before .before .before .before .before .before in
-    report-done _ _ _ _ _ _ _ _ (passed (spends .before .before)) (spends .spend .ensures) (omega (arith, c .before .before .before .before .before .before .before .before .before .before .before .if1 .left)) (counted .add-up-sparse .ensures) (c .before .before .before .before .put-totals .ensures)
+    report-done _ _ _ _ _ _ _ _ (passed (spends .before .before)) (spends .spend .ensures) (omega (arith, c .before .before .before .before .before .before .before .before .before .before .before .if1 .left))
+    (c .before .before .before .before .before .before .before .add-up-sparse .ensures)
+    (c .before .before .before .before .put-totals .ensures)
 
 pub report-spec : {M : Type 1} → statement M
 report-spec =
