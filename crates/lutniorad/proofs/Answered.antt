@@ -65,8 +65,8 @@ module _ (whole : Bool) (rule : ℕ → ℕ) (m : ℕ) (keys classes : List ℕ)
       ∙ answer-part ofExistence existence.Refused (useRefusalsIn whole m keys (length classes) W (length border)) _
 
   -- none of the three is a refusal
-  clear : sayExists rule W class .refusal ≡ 0
-  clear = rw (presence-is rule W class) (go (existsBy rule W class) (existsBy rule W notSeen))
+  pub exist-clear : sayExists rule W class .refusal ≡ 0
+  exist-clear = rw (presence-is rule W class) (go (existsBy rule W class) (existsBy rule W notSeen))
     where
       go : (a b : Bool) → ofExistence (cond a existence.Yes (cond b existence.CannotTell existence.No)) .refusal ≡ 0
       go true b = refl
@@ -74,16 +74,16 @@ module _ (whole : Bool) (rule : ℕ → ℕ) (m : ℕ) (keys classes : List ℕ)
       go false false = refl
 
   pub exist-numbered : r .refusal ≤ 7
-  exist-numbered = told-most four (sayExists rule W class) clear (numbered-use whole m keys (length classes) W (length border) (omega arith)) exist-says
+  exist-numbered = told-most four (sayExists rule W class) exist-clear (numbered-use whole m keys (length classes) W (length border) (omega arith)) exist-says
 
   pub exist-answered : (r .refusal ≡ 0) ↔ AnswerableIn whole m keys (length classes) W (length border)
   exist-answered =
-      told-when four (sayExists rule W class) clear (numbered-use whole m keys (length classes) W (length border) {most = 7} (omega arith)) exist-says
+      told-when four (sayExists rule W class) exist-clear (numbered-use whole m keys (length classes) W (length border) {most = 7} (omega arith)) exist-says
       (use-answerable whole m keys (length classes) W (length border))
 
   pub exist-kept : (r .refusal ≡ 0 → ⊥) → border′ ≡ border
   exist-kept =
-      told-kept four (sayExists rule W class) clear (numbered-use whole m keys (length classes) W (length border) {most = 7} (omega arith)) exist-says
+      told-kept four (sayExists rule W class) exist-clear (numbered-use whole m keys (length classes) W (length border) {most = 7} (omega arith)) exist-says
       (λ held. call .cells ∙ exist-untouched whole rule m keys (length classes) W class border held)
 
 -- ---- files

@@ -3,15 +3,21 @@
 use mathlib.Core.Path.{_≡_}
 use mathlib.Core.Bool.{false}
 use mathlib.Core.List.{List}
-use Prim.Native.Nat.{ℕ, _*_}
-use lib.ListN.{take}
+use Prim.Native.Nat.{ℕ, _*_, _≤_}
+use native.Mathlib.Omega.{arith}
+use lib.ListN.{length, take}
 use Rattle.window.specs.declared.Window.{Window}
+use Rattle.window.proofs.Laws.{key-block}
 use Rattle.border.specs.Promises.{openingsIn}
 use Rattle.border.proofs.Laws.{empty-is, empty-or-brings, fewest}
+use Rattle.used.specs.Promises.{AnswerableIn}
+use Rattle.sparse_select.specs.Select.{sparseSelection}
+use Rattle.sparse_select.proofs.Laws.{sparse-flat, sparse-one, sparse-once, sparse-inside, sparse-pixels, sparse-most, sparse-rising, sparse-least}
 use Rattle.lutniorad.specs.declared.Answer.{Answer}
-use Rattle.lutniorad.specs.Calls.{SparseOpen}
-use Rattle.lutniorad.specs.SparsePromises.{SparseOpenPromise}
+use Rattle.lutniorad.specs.Calls.{SparseOpen, SparseSelect}
+use Rattle.lutniorad.specs.SparsePromises.{SparseOpenPromise, SparseSelectPromise}
 use Rattle.lutniorad.proofs.Opening.{open-answered, open-stand, open-states}
+use Rattle.lutniorad.proofs.Selecting.{select-answered, select-leaves, select-stand}
 
 pub sparse-open-promise : (m top : ℕ) (keys classes : List ℕ) (W : Window) (border out : List ℕ) {r : Answer} {border′ out′ : List ℕ}
     → SparseOpen m top keys classes W border out r border′ out′ → r .refusal ≡ 0
@@ -27,3 +33,38 @@ sparse-open-promise m top keys classes W border out call z =
       some = rw stand (empty-or-brings F I (t .0));
       fewest = rw stand (fewest F I (t .0));
     }
+
+module _ (m top background : ℕ) (keys classes : List ℕ) (W : Window) (class : ℕ) (border out : List ℕ) {r : Answer} {border′ out′ : List ℕ}
+    (call : SparseSelect m top background keys classes W class border out r border′ out′) where
+  abbrev listed : List ℕ
+  listed = sparseSelection m top background keys classes W class
+
+  -- a cell for each pixel of the window is room enough
+  pub sparse-select-enough : top ≤ m → AnswerableIn false m keys (length classes) W (length border) → W .h * W .w ≤ length out → r .refusal ≡ 0
+  sparse-select-enough cap A l =
+      select-answered false listed m top keys classes W border out call .1
+      (cap, (A, omega (arith, sparse-most {top = top} (A .sound .records) (A .inside) cap background classes (A .sound .sizes .same) class)))
+
+  pub sparse-select-promise : r .refusal ≡ 0 → SparseSelectPromise m top background keys classes W class border out (take (r .first) out′) r border′ out′
+  sparse-select-promise z =
+      let t = select-answered false listed m top keys classes W border out call .0 z in
+      let cap = t .0 in
+      let I = t .1 .0 .inside in
+      let F = t .1 .0 .sound .records in
+      let n = t .1 .0 .sound .sizes .same in
+      let left = select-leaves false listed m top keys classes W border out call z in
+      rw (select-stand false listed m top keys classes W border out call z) (record {
+        states = record {
+          pixels = λ p v. sparse-pixels F I cap background classes n class v;
+          apart = λ q x y k l h j. sparse-one F I cap background classes n class q k l h j;
+          once = sparse-once F I cap background classes n class;
+          number = left .0;
+          cells = left .2;
+          border-after = left .1;
+        };
+        inside = λ p x v l h. sparse-inside F I cap background classes n class p v l h;
+        most = sparse-most F I cap background classes n class;
+        in-order = sparse-flat m top background keys classes W class;
+        rising = λ key l. sparse-rising F background classes n class (key-block I cap l .3);
+        fewest = λ own key i s l B others M. sparse-least F background classes n class own B M;
+      })

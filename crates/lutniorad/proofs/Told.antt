@@ -7,7 +7,7 @@ use Prim.Native.Nat.{ℕ, _≤_}
 use Rattle.answers.specs.declared.Verdict.the-variants.{Passed}
 use Rattle.answers.specs.Refusals.{Refusal, answer, verdict}
 use Rattle.answers.specs.After.{After, after, unless}
-use Rattle.answers.proofs.Laws.{Numbered, number-zero, number-most, on-passed, unless-answer, unless-kept}
+use Rattle.answers.proofs.Laws.{Without, without-said, Numbered, number-zero, number-most, on-passed, unless-answer, unless-kept}
 use Rattle.lutniorad.specs.declared.Answer.{Answer}
 use Rattle.lutniorad.specs.declared.Reason.{Reason}
 use Rattle.lutniorad.specs.Numbers.{refused, noReason}
@@ -42,6 +42,11 @@ module _ {N : Type 0} (s : Saying N) {most : ℕ} {rs : List Refusal} {r : N} (a
   -- where it is refused, what holds whenever the table has not passed
   pub told-kept : {Kept : Type 0} → ((verdict rs ≡ Passed → ⊥) → Kept) → (s .number r ≡ 0 → ⊥) → Kept
   told-kept kept held = kept (λ e. held (told-when (λ d. d, λ d. d) .1 e))
+
+-- a number that no refusal of the table has where it holds is not said
+pub told-without : {N : Type 0} (s : Saying N) {k : ℕ} {rs : List Refusal} {r : N} (a : N) → (s .number a ≡ k → ⊥) → Without k rs → r ≡ answer (s .refuse) rs a
+    → s .number r ≡ k → ⊥
+told-without s a other without says = rw says (without-said (s .refuse) (s .number) (s .tells) without other)
 
 -- ---- a call behind such a table, whose refusals leave every lent cell as it was
 

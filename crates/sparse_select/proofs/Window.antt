@@ -1,6 +1,6 @@
 -- What is listed of a window: no key twice, no place in two blocks, no more blocks than pixels, none of them outside the window, and together exactly its pixels of the class.
 -- Assumes nothing.
-use mathlib.Core.Path.{_≡_, subst}
+use mathlib.Core.Path.{_≡_, refl, subst, _∙_}
 use mathlib.Core.Logic.{_↔_, _≢_}
 use mathlib.Core.Bool.{true}
 use mathlib.Core.List.{List, flatMap, List·Memᴰ}
@@ -17,7 +17,7 @@ use Rattle.window.specs.declared.Window.{Window}
 use Rattle.window.specs.Window.{In, Inside}
 use Rattle.window.specs.Blocks.{exponent, maximal, pixels}
 use Rattle.window.specs.Promises.{Before}
-use Rattle.window.specs.Keys.{keyOf}
+use Rattle.window.specs.Keys.{keyOf, keysOf}
 use Rattle.window.proofs.Laws.{keys-of, key-named, pixel-in, listed-ordered, before-irrefl, block-of, fits-all, exponent-fits, pixels-length, pixels-most, in-pixels}
 use Rattle.map.specs.Spans.{holds}
 use Rattle.map.specs.Sound.{Spaced}
@@ -34,10 +34,14 @@ use Rattle.sparse_select.proofs.Block.{HasClass, block-made}
 abbrev pub listedOf : ℕ → ℕ → ℕ → List ℕ → List ℕ → Window → ℕ → Px → List ℕ
 listedOf m top background keys classes W class b = sparseSelected m background keys classes class (keyOf m top W b)
 
+pub sparse-flat : (m top background : ℕ) (keys classes : List ℕ) (W : Window) (class : ℕ)
+    → sparseSelection m top background keys classes W class ≡ flatMap (sparseSelected m background keys classes class) (keysOf m top W)
+unfolding sparseSelection
+sparse-flat m top background keys classes W class = refl
+
 pub sparse-is : (m top background : ℕ) (keys classes : List ℕ) (W : Window) (class : ℕ)
     → sparseSelection m top background keys classes W class ≡ flatMap (listedOf m top background keys classes W class) (maximal W top)
-unfolding sparseSelection
-sparse-is m top background keys classes W class = rw (keys-of m top W) (flat-map (sparseSelected m background keys classes class) (keyOf m top W) (maximal W top))
+sparse-is m top background keys classes W class = sparse-flat m top background keys classes W class ∙ rw (keys-of m top W) (flat-map (sparseSelected m background keys classes class) (keyOf m top W) (maximal W top))
 
 module _ {m top : ℕ} {keys : List ℕ} (F : Spaced m 0 keys) {W : Window} (I : Inside m W) (small : top ≤ m) (background : ℕ) (classes : List ℕ)
     (same : length keys ≡ length classes) (class : ℕ) where
