@@ -28,5 +28,12 @@ keys-west = 6 ∷ 7 ∷ 8 ∷ 9 ∷ 11 ∷ 12 ∷ 13 ∷ 14 ∷ 15 ∷ 20 ∷ []
 abbrev pub classes-west : List ℕ
 classes-west = 4 ∷ 1 ∷ 5 ∷ 6 ∷ 2 ∷ 2 ∷ 3 ∷ 1 ∷ 255 ∷ 2 ∷ []
 
+-- the map without its records of class 1
+abbrev pub keys-sparse : List ℕ
+keys-sparse = 11 ∷ 12 ∷ 13 ∷ 20 ∷ []
+
+abbrev pub classes-sparse : List ℕ
+classes-sparse = 2 ∷ 2 ∷ 3 ∷ 2 ∷ []
+
 abbrev pub old : ℕ → List ℕ
 old n = replicate n 99

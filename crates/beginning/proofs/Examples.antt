@@ -36,8 +36,8 @@ pub record Examples : Type 0 where
   pub in-length : fileIn file 3 ≡ []
 
 pub examples : Examples
-unfolding pictureRefusals countRefusals answer wrongCount sizeRefusalsIn from formOf spans.malformed spans.formExponent spans.start spans.end late refusalsFrom mapRefusalsIn digits digitsOf spaced lineOf
-    bytes number bytesOf numbers header fileOf layoutRefusals fileM fileQ readRefusalsIn fileKeys fileClasses mapText startRefusals startText announcedOf wholeOf
+unfolding pictureRefusals countRefusals answer wrongCount sizeRefusalsIn from formOf spans.malformed spans.formExponent spans.start spans.end late refusalsFrom mapRefusalsIn digits digitsOf spaced
+    lineOf bytes number bytesOf numbers header fileOf layoutRefusals fileM fileQ readRefusalsIn fileKeys fileClasses mapText startRefusals startText announcedOf wholeOf
 examples = record {
   p1-start = refl;
   p9-start = refl;

@@ -7,7 +7,7 @@ use mathlib.Core.List.{List, [], List·Memᴰ, Memᴰ·cast}
 use Prim.Native.Nat.{ℕ, _^_, _≤_, _<_}
 use native.Mathlib.Decide.{decLt}
 use native.Mathlib.Omega.{arith}
-use lib.ListN.{length, getD}
+use lib.ListN.{getD}
 use Rattle.lists.proofs.Laws.{never, refuted}
 use Rattle.key.specs.Picture.{place}
 use Rattle.key.specs.Form.{formOf}

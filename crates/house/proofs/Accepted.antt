@@ -56,8 +56,10 @@ module _ (whole : Bool) (file : List ℕ) (keys classes : ℕ) where
       from R =
           let room : ltb keys (fileQ file) || ltb classes (fileQ file) ≡ false = rw (le-ltb keys (fileQ file) (R .keys-room), le-ltb classes (fileQ file) (R .classes-room)) in
           let long : 20 ≤ length file = omega (arith, R .laid-out .full) in
-          passed-next (ltb (length file) 20) 9 0 _ .1
-          (le-ltb (length file) 20 long, passed-append (layoutRefusals whole (length file) (numbers 5 file)) _ .1 (laid whole _ _ .1 (R .laid-out), passed-next _ 8 (fileQ file) [] .1 (room, answer-none _ _)))
+          passed-next (ltb (length file) 20) 9 0 _ .1 (
+            le-ltb (length file) 20 long,
+            passed-append (layoutRefusals whole (length file) (numbers 5 file)) _ .1 (laid whole _ _ .1 (R .laid-out), passed-next _ 8 (fileQ file) [] .1 (room, answer-none _ _)),
+          )
 
 module _ (whole : Bool) (file keys classes : List ℕ) where
   -- of the slices only the lengths count

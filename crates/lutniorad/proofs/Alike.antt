@@ -100,7 +100,9 @@ module _ {m : ℕ} {keys classes keys′ classes′ : List ℕ} {W : Window} (S 
       → length border ≡ length other → length out ≡ length older
       → SelectTiled m top keys classes W class border out r border′ out′ → SelectTiled m top keys′ classes′ W class other older r′ other′ older′ → r ≡ r′
   select-alike top class border out other older e d call call′ =
-      select-says true (selection m top keys classes W class) m top keys classes W border out call ∙ tiled S S′ W top e d _ _ numbers ∙ sym (select-says true (selection m top keys′ classes′ W class) m top keys′ classes′ W other older call′)
+      select-says true (selection m top keys classes W class) m top keys classes W border out call
+      ∙ tiled S S′ W top e d _ _ numbers
+      ∙ sym (select-says true (selection m top keys′ classes′ W class) m top keys′ classes′ W other older call′)
     where
       ks : List ℕ
       ks = selection m top keys classes W class

@@ -2,17 +2,17 @@
 -- the list or are not. P1's window among others. Exist where it cannot tell. And a row of calls of a month.
 -- Assumes nothing.
 use mathlib.Core.Path.{_≡_, refl, sym}
-use mathlib.Core.Bool.{true}
-use mathlib.Core.List.{List, [], _∷_, _++_}
+use mathlib.Core.Bool.{true, false}
+use mathlib.Core.List.{List, [], _∷_, _++_, List·Memᴰ·head, List·Memᴰ·tail}
 use Prim.Native.Nat.{ℕ, _≤_}
 use native.Mathlib.Omega.{arith}
-use lib.ListN.{length}
+use lib.ListN.{length, take}
 use Rattle.lists.specs.Lists.{upFrom, any, keep, before, howMany, greatest}
 use Rattle.answers.specs.Refusals.{answer}
 use Rattle.answers.specs.Sizes.{wrongCount, sizeRefusalsIn, pictureRefusals, countRefusals, tileRefusals}
 use Rattle.answers.specs.Cells.{overwrite}
 use Rattle.answers.specs.After.{roomRefusals, roomFor}
-use Rattle.answers.proofs.P1.{keys, classes, glare, old}
+use Rattle.answers.proofs.P1.{keys, classes, glare, keys-sparse, classes-sparse, old}
 use Rattle.key.specs.Spread.{spreadTo, spread}
 use Rattle.key.specs.Picture.{place}
 use Rattle.key.specs.Key.{pixelKey, blockKey}
@@ -27,12 +27,13 @@ use Rattle.map.specs.Spans as spans
 use Rattle.map.specs.Spans.{within}
 use Rattle.map.specs.Check.{late, refusalsFrom, mapRefusalsIn}
 use Rattle.map.specs.Records.{recordOf, exponentOf}
-use Rattle.map.specs.Classes.{notSeen, classIn}
+use Rattle.map.specs.Classes.{notSeen, classOver, classIn}
 use Rattle.map.specs.Runs.{runOf}
 use Rattle.border.specs.Openings.{isHanded, Opening, made, opening, openFrom, openings, handedCount, cellsOf}
-use Rattle.border.specs.Promises.{openingsIn, HandedBy, SkippedFor, Enough}
+use Rattle.border.specs.Promises.{openingsIn, HandedBy, SkippedFor, bringing, Unmet, Enough}
 use Rattle.used.specs.Used.{useRefusalsIn, spent, usedIn, borderRefusals}
 use Rattle.open.specs.Open.{openIn}
+use Rattle.open.proofs.Examples as opens
 use Rattle.many.proofs.Examples.{drawn, below, pixel, lines}
 use Rattle.many.proofs.Examples as lists
 use Rattle.why.proofs.Examples as reasons
@@ -41,11 +42,12 @@ use Rattle.month.proofs.P1.{empty, first-day}
 use Rattle.month.proofs.Examples.{examples}
 use Rattle.exist.proofs.Examples as queries
 use Rattle.lutniorad.specs.Numbers.{values, refused, reason}
-use Rattle.lutniorad.specs.Calls.{Decompose, DecomposeTiled, Open, OpenTiled, Windows, WhyRecord, WhyBlock, Exist, MonthClear, MonthAdd}
-use Rattle.lutniorad.specs.Promises.{DecomposePromise, OpenPromise, SomePixel}
+use Rattle.lutniorad.specs.Calls.{Decompose, DecomposeTiled, Open, OpenTiled, Windows, WhyRecord, WhyBlock, Exist, MonthClear, MonthAdd, SparseOpen, SparseExist}
+use Rattle.lutniorad.specs.Promises.{DecomposePromise, OpenPromise, SomePixelBy, SomePixel}
 use Rattle.lutniorad.specs.ManyPromises.{WindowsPromise}
 use Rattle.lutniorad.specs.MonthPromises.{MonthRow, cleared, added}
 use Rattle.lutniorad.specs.MonthPromises as months
+use Rattle.lutniorad.specs.SparsePromises.{SparseOpenPromise}
 use Rattle.lutniorad.proofs.Crossing.{crossing}
 use Rattle.lutniorad.proofs.Decomposing.{decompose-promise}
 use Rattle.lutniorad.proofs.Opening.{open-promise}
@@ -53,6 +55,7 @@ use Rattle.lutniorad.proofs.Windows.{windows-promise}
 use Rattle.lutniorad.proofs.Reasons.{why-record-list, why-block-list}
 use Rattle.lutniorad.proofs.Asked.{exist-promise}
 use Rattle.lutniorad.proofs.Row.{month-table}
+use Rattle.lutniorad.proofs.Sparse.{sparse-open-promise}
 
 abbrev cells : List ℕ
 cells = 7 ∷ 0 ∷ 1 ∷ 10 ∷ 1 ∷ 4 ∷ 17 ∷ 5 ∷ 1 ∷ 21 ∷ 6 ∷ 1 ∷ []
@@ -142,3 +145,33 @@ month-row =
 -- so the table is that of the one map
 month-is : first-day ++ 99 ∷ [] ≡ overwrite (monthOf 2 W ((keys, classes) ∷ [])) (old 1031)
 month-is = month-table month-row
+
+-- ---- P1's map without its records of class 1
+
+abbrev gapped-cells : List ℕ
+gapped-cells = 7 ∷ 0 ∷ 0 ∷ 10 ∷ 0 ∷ 3 ∷ 9 ∷ 0 ∷ 0 ∷ 17 ∷ 0 ∷ 0 ∷ 21 ∷ 3 ∷ 1 ∷ 99 ∷ []
+
+abbrev gapped-list : List Opening
+gapped-list = made 7 0 0 ∷ made 10 0 3 ∷ made 9 0 0 ∷ made 17 0 0 ∷ made 21 3 1 ∷ []
+
+gapped-call : SparseOpen 2 2 keys-sparse classes-sparse W (take 4 opens.old) (old 16) (values 5 4) (3 ∷ 3 ∷ 3 ∷ 93 ∷ []) gapped-cells
+gapped-call = crossing refl refl (sym (opens.gaps .done))
+
+gapped-promise : SparseOpenPromise 2 2 keys-sparse W (take 4 opens.old) (old 16) gapped-list (values 5 4) (3 ∷ 3 ∷ 3 ∷ 93 ∷ []) gapped-cells
+unfolding openingsIn
+gapped-promise = sparse-open-promise 2 2 keys-sparse classes-sparse W (take 4 opens.old) (old 16) gapped-call refl
+
+-- no record overlaps block 9, and no choice of fewer than two blocks brings all the records
+gapped-9 : Unmet 2 keys-sparse 9
+gapped-9 = gapped-promise .empty 9 .0 (List·Memᴰ·tail (List·Memᴰ·tail (List·Memᴰ·head refl))) .1
+
+gapped-two : (s : List ℕ) → Enough 2 2 keys-sparse W s → 2 ≤ length s
+unfolding bringing keep
+gapped-two s = gapped-promise .fewest s
+
+-- over a background of 255 the gaps were not seen
+unseen-call : SparseExist 2 255 keys-sparse classes-sparse W 4 (old 3) (values 2 0) (3 ∷ 3 ∷ 3 ∷ [])
+unseen-call = crossing refl refl (sym (queries.gaps .unseen))
+
+gaps-unseen : SomePixelBy (classOver 255 2 keys-sparse classes-sparse) W notSeen
+gaps-unseen = exist-promise false (classOver 255 2 keys-sparse classes-sparse) 2 keys-sparse classes-sparse W 4 (old 3) unseen-call refl .cannot-tell .0 refl .1

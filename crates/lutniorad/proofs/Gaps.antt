@@ -39,7 +39,8 @@ module _ (m : ℕ) (keys classes : List ℕ) where
     module _ (out : List ℕ) {r : Answer} {border′ out′ : List ℕ} where
       pub sparse-report-5 : (background : ℕ) → SparseReport m background keys classes W border out r border′ out′ → r .refusal ≡ 5 → ⊥
       sparse-report-5 background call =
-          told-without four _ (λ e. omega (arith, e)) (without-append before (without-room _ _ (λ e. omega (arith, e)))) (report-says false (classOver background m keys classes) m keys classes W border out call)
+          told-without four _ (λ e. omega (arith, e)) (without-append before (without-room _ _ (λ e. omega (arith, e))))
+          (report-says false (classOver background m keys classes) m keys classes W border out call)
 
       pub sparse-open-5 : (tile : ℕ) → SparseOpen m tile keys classes W border out r border′ out′ → r .refusal ≡ 5 → ⊥
       sparse-open-5 tile call =

@@ -95,10 +95,6 @@ pub record ExistPromiseBy (rule : ℕ → ℕ) (W : Window) (class : ℕ) (borde
   pub certain : class ≡ notSeen → r ≡ values 2 0 → ⊥
   pub border-after : border′ ≡ spent W border
 
--- on a whole map
-abbrev pub ExistPromise : ℕ → List ℕ → List ℕ → Window → ℕ → List ℕ → Answer → List ℕ → Type 0
-ExistPromise m keys classes = ExistPromiseBy (classIn m keys classes)
-
 -- report
 pub record ReportPromiseBy (rule : ℕ → ℕ) (W : Window) (border out : List ℕ) (r : Answer) (border′ out′ : List ℕ) : Type 0 where
   pub number : r ≡ values (W .h * W .w) 0

@@ -42,6 +42,9 @@ pub record Examples : Type 0 where
   -- a map with gaps passes unless it is to be whole
   pub gaps : verdict (refusalsFrom false 2 0 0 gapped) ≡ Passed
   pub not-whole : verdict (refusalsFrom true 2 0 0 gapped) ≡ refusal.Refused 5 0
+  pub spaced : checkIn false 2 gapped 2 ≡ Sound 2
+  pub none : checkIn false 2 [] 0 ≡ Sound 0
+  pub none-differ : checkIn false 2 [] 1 ≡ Refused 2 0
   pub nothing : verdict (refusalsFrom false 2 0 0 []) ≡ Passed
   pub back : verdict (refusalsFrom false 2 0 0 (20 ∷ 11 ∷ [])) ≡ refusal.Refused 4 1
   -- there block 7 meets no record, and its pixel is a tile of its own; block 10 meets one that does not contain it, and block 22 one that does
@@ -71,6 +74,9 @@ examples = record {
   run-0 = refl;
   gaps = refl;
   not-whole = refl;
+  spaced = refl;
+  none = refl;
+  none-differ = refl;
   nothing = refl;
   back = refl;
   run-none = refl;

@@ -1,12 +1,11 @@
--- The classes of a map: of a record, of a place, and of a pixel.
+-- The classes of a map: of a record, and of a place.
 -- Assumes nothing.
 use mathlib.Core.Bool.{Bool}
 use mathlib.Core.List.{List}
 use Prim.Native.Nat.{ℕ}
 use lib.Dec.{eqb}
 use lib.ListN.{getD}
-use Rattle.key.specs.Picture.{Px}
-use Rattle.map.specs.Records.{recordOf, pixelRecord}
+use Rattle.map.specs.Records.{recordOf}
 
 -- record n has the class
 abbrev pub classed : List ℕ → ℕ → ℕ → Bool
@@ -19,10 +18,6 @@ classOver background m keys classes q = getD classes (recordOf m keys q) backgro
 -- in a whole map no place has that of the background
 abbrev pub classIn : ℕ → List ℕ → List ℕ → ℕ → ℕ
 classIn = classOver 0
-
--- a pixel has the class of its record
-abbrev pub hasClass : ℕ → List ℕ → List ℕ → ℕ → Px → Bool
-hasClass m keys classes class p = classed classes class (pixelRecord m keys (p .0) (p .1))
 
 -- the class of what was not seen
 abbrev pub notSeen : ℕ

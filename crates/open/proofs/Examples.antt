@@ -1,7 +1,7 @@
 -- Opening, in examples: on the map and the window of P1.
 -- Assumes nothing.
 use mathlib.Core.Path.{_≡_, refl}
-use mathlib.Core.Bool.{true}
+use mathlib.Core.Bool.{true, false}
 use mathlib.Core.List.{List, [], _∷_}
 use Prim.Native.Nat.{ℕ}
 use native.Mathlib.Omega.{arith}
@@ -11,7 +11,8 @@ use Rattle.answers.specs.Refusals.{answer}
 use Rattle.answers.specs.Sizes.{wrongCount, sizeRefusalsIn, pictureRefusals, countRefusals, tileRefusals}
 use Rattle.answers.specs.Cells.{overwrite}
 use Rattle.answers.specs.After.{after, roomRefusals, roomFor}
-use Rattle.answers.proofs.P1.{keys, keys-cut, keys-west}
+use Rattle.answers.proofs.P1.{keys, keys-cut, keys-west, keys-sparse}
+use Rattle.answers.proofs.P1.{old as cells}
 use Rattle.key.specs.Spread.{spreadTo, spread}
 use Rattle.key.specs.Picture.{place}
 use Rattle.key.specs.Key.{pixelKey, blockKey}
@@ -56,6 +57,18 @@ pub record Examples : Type 0 where
   pub east-of-other : openOf 2 keys-west 10 columns (take 3 old) (take 6 old) ≡ after (Done 2 5) (3 ∷ 3 ∷ 92 ∷ [], 10 ∷ 4 ∷ 4 ∷ 21 ∷ 9 ∷ 1 ∷ [])
   pub east-of-cut : openOf 2 keys-cut 10 columns (take 2 old) (take 9 old) ≡ after (Done 3 6) (3 ∷ 3 ∷ [], 10 ∷ 1 ∷ 4 ∷ 21 ∷ 6 ∷ 1 ∷ 22 ∷ 7 ∷ 1 ∷ [])
 
+-- on the map without its records of class 1
+pub record Gapped : Type 0 where
+  -- blocks 7, 9 and 17 overlap no record: they are opened with first index 0 and count 0, and counted
+  pub done : openIn false 2 2 keys-sparse 4 W (take 4 old) (cells 16)
+      ≡ after (Done 5 4) (3 ∷ 3 ∷ 3 ∷ 93 ∷ [], 7 ∷ 0 ∷ 0 ∷ 10 ∷ 0 ∷ 3 ∷ 9 ∷ 0 ∷ 0 ∷ 17 ∷ 0 ∷ 0 ∷ 21 ∷ 3 ∷ 1 ∷ 99 ∷ [])
+  pub short : openIn false 2 2 keys-sparse 4 W (take 3 old) (cells 14) ≡ after (Refused 8 15) (3 ∷ 3 ∷ 3 ∷ [], cells 14)
+  -- without records each maximal block is opened
+  pub none : openIn false 2 2 [] 0 (window 0 0 4 4) (take 4 old) (take 3 old) ≡ after (Done 1 0) (4 ∷ 4 ∷ 4 ∷ 4 ∷ [], 0 ∷ 0 ∷ 0 ∷ [])
+  -- where the map is to be whole, both are refused
+  pub whole : openOf 2 keys-sparse 4 W (take 4 old) (take 7 old) ≡ after (Refused 5 0) (take 4 old, take 7 old)
+  pub empty : openOf 2 [] 0 W (take 4 old) (take 3 old) ≡ after (Refused 2 0) (take 4 old, take 3 old)
+
 pub examples : Examples
 unfolding pictureRefusals countRefusals borderRefusals roomRefusals roomFor answer wrongCount sizeRefusalsIn overwrite upFrom spreadTo spread place
     pixelKey blockKey from formOf beyond outside windowRefusals keep floor lies fits greatest exponent corner across rows isCorner maximal keyOf
@@ -77,3 +90,10 @@ examples = record {
   east-of-other = refl;
   east-of-cut = refl;
 }
+
+pub gaps : Gapped
+unfolding pictureRefusals countRefusals borderRefusals roomRefusals roomFor answer wrongCount sizeRefusalsIn overwrite upFrom spreadTo spread place
+    pixelKey blockKey from formOf beyond outside windowRefusals keep floor lies fits greatest exponent corner across rows isCorner maximal keyOf
+    keysOf spans.malformed spans.formExponent spans.start spans.end spans.holds spans.overlap late refusalsFrom mapRefusalsIn before howMany recordOf
+    exponentOf runOf any within isHanded opening openFrom openings handedCount cellsOf useRefusalsIn spent usedIn tileRefusals openIn
+gaps = record { done = refl; short = refl; none = refl; whole = refl; empty = refl }

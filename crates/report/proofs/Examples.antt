@@ -1,6 +1,7 @@
 -- Report, in examples: on the map and the window of P1, and on parts of that window.
 -- Assumes nothing.
 use mathlib.Core.Path.{_≡_, refl}
+use mathlib.Core.Bool.{false}
 use mathlib.Core.List.{List, [], _∷_}
 use Prim.Native.Nat.{ℕ}
 use lib.ListN.{take, replicate}
@@ -9,7 +10,7 @@ use Rattle.answers.specs.Refusals.{answer}
 use Rattle.answers.specs.Sizes.{wrongCount, sizeRefusalsIn, pictureRefusals, countRefusals}
 use Rattle.answers.specs.Cells.{overwrite}
 use Rattle.answers.specs.After.{after, roomRefusals, roomFor}
-use Rattle.answers.proofs.P1.{keys, classes, old}
+use Rattle.answers.proofs.P1.{keys, classes, old, keys-sparse, classes-sparse}
 use Rattle.key.specs.Spread.{spreadTo, spread}
 use Rattle.key.specs.Picture.{place}
 use Rattle.key.specs.Form.{from, formOf}
@@ -18,6 +19,7 @@ use Rattle.window.specs.Blocks.{across, rows}
 use Rattle.window.specs.Rules.{totalBy, totalsBy}
 use Rattle.window.proofs.P1.{W, column, columns, row, lower, first-two, middle, pixel, north-west, south-east}
 use Rattle.map.specs.Spans as spans
+use Rattle.map.specs.Classes.{classOver}
 use Rattle.map.specs.Check.{late, refusalsFrom, mapRefusalsIn}
 use Rattle.map.specs.Records.{recordOf}
 use Rattle.used.specs.Used.{useRefusalsIn, spent, usedIn, borderRefusals}
@@ -37,6 +39,10 @@ pub record Examples : Type 0 where
   -- 7 comes before 8 and writes nothing, 6 before 7
   pub narrow : reportOf 2 keys classes W (old 2) [] ≡ after (Refused 7 3) (old 2, [])
   pub whole : reportOf 2 keys classes W (old 3) (old 256) ≡ after (Done 9) (3 ∷ 3 ∷ 3 ∷ [], counts 4 4 1)
+  -- the map without its records of class 1, over a background of class 1; and over one of class 0
+  pub gapped : reportIn false (classOver 1 2 keys-sparse classes-sparse) 2 keys-sparse 4 W (old 3) (old 256) ≡ after (Done 9) (3 ∷ 3 ∷ 3 ∷ [], counts 4 4 1)
+  pub other-gaps : reportIn false (classOver 0 2 keys-sparse classes-sparse) 2 keys-sparse 4 W (old 3) (old 256)
+      ≡ after (Done 9) (3 ∷ 3 ∷ 3 ∷ [], 4 ∷ 0 ∷ 4 ∷ 1 ∷ replicate 252 0)
   -- parts of that window
   pub in-column : reportOf 2 keys classes column (old 3) (old 256) ≡ after (Done 3) (3 ∷ 99 ∷ 99 ∷ [], counts 3 0 0)
   pub in-columns : reportOf 2 keys classes columns (old 3) (old 256) ≡ after (Done 6) (3 ∷ 3 ∷ 99 ∷ [], counts 1 4 1)
@@ -57,6 +63,8 @@ examples = record {
   report-short = refl;
   narrow = refl;
   whole = refl;
+  gapped = refl;
+  other-gaps = refl;
   in-column = refl;
   in-columns = refl;
   in-row = refl;

@@ -41,8 +41,8 @@ module _ (m : ℕ) (keys classes : List ℕ) (W : Window) (border out : List ℕ
       → verdict (useRefusals m keys (length classes) W (length border)) ≡ verdict-of.Refused n p
   unfolding reportIn
   uncounted {n} {p} room e =
-      let t = used-roomy true Refused (Done (W .h * W .w)) (totals m keys classes W) m keys (length classes) W border out (λ n p. reported-apart n p) (omega (arith, totals-length m keys classes W)) e in
-      go t
+      let fits : length (totals m keys classes W) ≤ length out = omega (arith, totals-length m keys classes W) in
+      go (used-roomy true Refused (Done (W .h * W .w)) (totals m keys classes W) m keys (length classes) W border out (λ n p. reported-apart n p) fits e)
     where
       go : (n′ : ℕ) × (p′ : ℕ) × (verdict (useRefusals m keys (length classes) W (length border)) ≡ verdict-of.Refused n′ p′) × (Refused n′ p′ ≡ Refused n p)
           → verdict (useRefusals m keys (length classes) W (length border)) ≡ verdict-of.Refused n p

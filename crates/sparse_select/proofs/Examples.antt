@@ -4,6 +4,7 @@ use mathlib.Core.Path.{_≡_, refl}
 use mathlib.Core.List.{List, [], _∷_, flatMap}
 use Prim.Native.Nat.{ℕ}
 use Rattle.lists.specs.Lists.{upFrom, any, keep, before, howMany, greatest}
+use Rattle.answers.proofs.P1.{keys-sparse, classes-sparse}
 use Rattle.key.specs.Spread.{spreadTo, spread}
 use Rattle.key.specs.Key.{pixelKey, blockKey, ones}
 use Rattle.key.specs.Form.{from, formOf}
@@ -40,6 +41,8 @@ pub record Examples : Type 0 where
   pub around : sparseSelected 2 0 keys classes 2 11 ≡ 11 ∷ []
   -- with another background a gap counts for that one
   pub background : sparseSelected 2 5 keys classes 5 20 ≡ 21 ∷ 22 ∷ 24 ∷ []
+  -- of P1's map without its records of class 1 the same is selected as of the map that has them
+  pub as-whole : sparseSelection 2 2 1 keys-sparse classes-sparse W 1 ≡ 7 ∷ 14 ∷ 9 ∷ 17 ∷ []
   -- without records each maximal block is the background's
   pub empty : sparseSelection 2 2 0 [] [] W 0 ≡ 7 ∷ 10 ∷ 9 ∷ 17 ∷ 21 ∷ 22 ∷ []
 
@@ -48,4 +51,4 @@ unfolding flatMap upFrom any keep before howMany greatest spreadTo spread pixelK
     floor lies fits exponent corner across rows isCorner maximal keyOf keysOf spans.formExponent spans.start spans.end spans.holds spans.within spans.overlap
     recordOf exponentOf runOf pickedAround base full fitsIn exponentIn starts between maximalIn keyFrom fewest stretch
     opening select.around blank merged sparseSelected sparseSelection
-examples = record { gaps = refl; other = refl; absent = refl; own = refl; hidden = refl; around = refl; background = refl; empty = refl }
+examples = record { gaps = refl; other = refl; absent = refl; own = refl; hidden = refl; around = refl; background = refl; as-whole = refl; empty = refl }

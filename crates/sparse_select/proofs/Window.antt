@@ -41,7 +41,9 @@ sparse-flat m top background keys classes W class = refl
 
 pub sparse-is : (m top background : ℕ) (keys classes : List ℕ) (W : Window) (class : ℕ)
     → sparseSelection m top background keys classes W class ≡ flatMap (listedOf m top background keys classes W class) (maximal W top)
-sparse-is m top background keys classes W class = sparse-flat m top background keys classes W class ∙ rw (keys-of m top W) (flat-map (sparseSelected m background keys classes class) (keyOf m top W) (maximal W top))
+sparse-is m top background keys classes W class =
+    sparse-flat m top background keys classes W class
+    ∙ rw (keys-of m top W) (flat-map (sparseSelected m background keys classes class) (keyOf m top W) (maximal W top))
 
 module _ {m top : ℕ} {keys : List ℕ} (F : Spaced m 0 keys) {W : Window} (I : Inside m W) (small : top ≤ m) (background : ℕ) (classes : List ℕ)
     (same : length keys ≡ length classes) (class : ℕ) where

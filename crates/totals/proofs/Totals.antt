@@ -8,13 +8,13 @@ use mathlib.Core.List.{List, [], _∷_, _++_, append-assoc, map, List·Memᴰ}
 use Prim.Native.Nat.{ℕ, _+_, _*_, _≤_, _<_}
 use native.Mathlib.Omega.{arith}
 use lib.Dec.{eqb}
-use lib.ListN.{length, getD, replicate, length-map, length-set, length-replicate, getD-replicate}
+use lib.ListN.{length, getD, replicate, length-set, length-replicate, getD-replicate}
 use lib.Seq.{getD-set-same, getD-set-other, ext-getD}
 use borrow.Author.Tests.{eqb-true, eqb-false, eq-eqb}
 use Rattle.lists.specs.Promises.{sum}
-use Rattle.lists.specs.Lists.{upFrom, any, keep, Ordered, howMany}
-use Rattle.lists.proofs.Laws.{agree, ordered-part, up-in, up-length, up-distinct, table-entry, keep-empty, keep-taken, keep-passed, keep-true}
-use Rattle.lists.proofs.Laws.{in-keep, ordered-keep, any-has, has-any, many-same, many-all, many-most, sum-none, sum-next, each-once}
+use Rattle.lists.specs.Lists.{any, keep, Ordered, howMany}
+use Rattle.lists.proofs.Laws.{agree, ordered-part, keep-empty, keep-taken, keep-passed, keep-true}
+use Rattle.lists.proofs.Laws.{in-keep, ordered-keep, any-has, has-any, many-same, many-most, sum-none, sum-next, each-once}
 use Rattle.key.specs.Picture.{Px}
 use Rattle.window.specs.declared.Window.{Window}
 use Rattle.window.specs.Window.{In, Inside}

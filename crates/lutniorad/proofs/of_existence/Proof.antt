@@ -43,4 +43,6 @@ returns-4 : tie.Need-returns-4
 returns-4 c = c .refused .ensures ∙ ap ofExistence (sym (c .before .before .existence .given .1))
 
 pub of-existence-spec : {M : Type 1} → statement M
-of-existence-spec = tie.close (tie.spec enum-told values-requires enum-told-2 values-requires-2 enum-told-3 values-requires-3 enum-known-existence refused-requires returns returns-2 returns-3 returns-4)
+of-existence-spec =
+    tie.close
+    (tie.spec enum-told values-requires enum-told-2 values-requires-2 enum-told-3 values-requires-3 enum-known-existence refused-requires returns returns-2 returns-3 returns-4)

@@ -92,7 +92,8 @@ returns-3 : tie.Need-returns-3
 returns-3 c =
     let counted = c .before .before .before .before .before .before .before .before .before in
     let left = roomy (counted .before .before) in
-    report-done _ _ _ _ _ _ _ _ (passed (left .before)) (counted .count .ensures .1) (omega (arith, left .if1 .left)) (counted .count .ensures .0) (c .before .before .before .before .put-totals .ensures)
+    report-done _ _ _ _ _ _ _ _ (passed (left .before)) (counted .count .ensures .1) (omega (arith, left .if1 .left)) (counted .count .ensures .0)
+    (c .before .before .before .before .put-totals .ensures)
 
 pub report-spec : {M : Type 1} → statement M
 report-spec =

@@ -46,7 +46,8 @@ same-length c = search needs
 returns-2 : tie.Need-returns-2
 returns-2 c =
     let spends = c .before .before .before in
-    report-short _ _ _ _ _ _ _ _ (passed (spends .before .before)) (spends .spend .ensures) (omega (arith, c .if1 .taken))
+    report-short _ _ _ _ _ _ _ _ (passed (spends .before .before)) (spends .spend .ensures)
+    (omega (arith, c .if1 .taken))
 
 spread-table-requires : tie.Need-spread-table-requires
 spread-table-requires c κs = search needs
@@ -82,7 +83,8 @@ same-length-3 c = search needs
 returns-3 : tie.Need-returns-3
 returns-3 c =
     let spends = c .before .before .before .before .before .before .before .before .before .before .before .before .before .before in
-    report-done _ _ _ _ _ _ _ _ (passed (spends .before .before)) (spends .spend .ensures) (omega (arith, c .before .before .before .before .before .before .before .before .before .before .before .if1 .left))
+    report-done _ _ _ _ _ _ _ _ (passed (spends .before .before)) (spends .spend .ensures)
+    (omega (arith, c .before .before .before .before .before .before .before .before .before .before .before .if1 .left))
     (c .before .before .before .before .before .before .before .add-up-sparse .ensures)
     (c .before .before .before .before .put-totals .ensures)
 

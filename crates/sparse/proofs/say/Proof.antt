@@ -1,7 +1,5 @@
 -- `sparse::say` meets its contract, case by case.
 -- Assumes nothing.
-use mathlib.Core.Path.{sym, _∙_}
-use borrow.Author.Needs.{needs}
 use Rattle.sparse.proofs.say.Statement.{statement}
 use Rattle.sparse.proofs.say.Tie as tie
 
