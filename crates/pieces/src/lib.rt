@@ -182,12 +182,12 @@ pub fn next_piece(
     keys: &[u32],
     classes: &[u8],
     base: &[u32],
-    base_classes: &[u8],
+    beneath: &[u8],
     stand: Stand,
     stop: u32,
 ) -> Piece
-    requires { ⌜ Pair m (now keys) (length (now classes)) (now base) (length (now «base_classes»)) × StandsAt m (now keys) (now base) stand × (stand .place < stop) × (stop ≤ 4 ^ m) ⌝ }
-    ensures { λ r. ⌜ Uniform (classOverMap m (now (keys .entry)) (now (classes .entry)) (now (base .entry)) (now («base_classes» .entry))) (stand .place) stop r × (r .end ≤ stand .today .end) × (r .end ≤ stand .under .end) ⌝ }
+    requires { ⌜ Pair m (now keys) (length (now classes)) (now base) (length (now beneath)) × StandsAt m (now keys) (now base) stand × (stand .place < stop) × (stop ≤ 4 ^ m) ⌝ }
+    ensures { λ r. ⌜ Uniform (classOverMap m (now (keys .entry)) (now (classes .entry)) (now (base .entry)) (now (beneath .entry))) (stand .place) stop r × (r .end ≤ stand .today .end) × (r .end ≤ stand .under .end) ⌝ }
 {
     let today = stand.today;
     let under = stand.under;
@@ -196,7 +196,7 @@ pub fn next_piece(
         let n = under.next;
         let end = least(today.start, near);
         return Piece {
-            class: base_classes[n],
+            class: beneath[n],
             end,
         };
     }
@@ -214,17 +214,17 @@ pub fn tally(
     keys: &[u32],
     classes: &[u8],
     base: &[u32],
-    base_classes: &[u8],
+    beneath: &[u8],
     first: Stand,
     end: u32,
     totals: &mut [u32; 256],
 )
-    requires { ⌜ Pair m (now keys) (length (now classes)) (now base) (length (now «base_classes»)) × StandsAt m (now keys) (now base) first × (first .place ≤ end) × (end ≤ 4 ^ m) × (length (now totals) ≡ 256) × Room (now totals) (end - first .place) ⌝ }
-    ensures { λ r. ⌜ Tallied (classOverMap m (now (keys .entry)) (now (classes .entry)) (now (base .entry)) (now («base_classes» .entry))) (first .place) end (now (totals .entry)) (now (totals .exit)) ⌝ }
+    requires { ⌜ Pair m (now keys) (length (now classes)) (now base) (length (now beneath)) × StandsAt m (now keys) (now base) first × (first .place ≤ end) × (end ≤ 4 ^ m) × (length (now totals) ≡ 256) × Room (now totals) (end - first .place) ⌝ }
+    ensures { λ r. ⌜ Tallied (classOverMap m (now (keys .entry)) (now (classes .entry)) (now (base .entry)) (now (beneath .entry))) (first .place) end (now (totals .entry)) (now (totals .exit)) ⌝ }
 {
     let mut stand = first;
     while stand.place < end {
-        let piece = next_piece(m, keys, classes, base, base_classes, stand, end);
+        let piece = next_piece(m, keys, classes, base, beneath, stand, end);
         let class = piece.class as usize;
         totals[class] += piece.end - stand.place;
         stand = go_on(m, keys, base, stand, piece.end);
@@ -237,18 +237,18 @@ pub fn look(
     keys: &[u32],
     classes: &[u8],
     base: &[u32],
-    base_classes: &[u8],
+    beneath: &[u8],
     first: Stand,
     end: u32,
     class: u8,
 ) -> Looked
-    requires { ⌜ Pair m (now keys) (length (now classes)) (now base) (length (now «base_classes»)) × StandsAt m (now keys) (now base) first × (first .place ≤ end) × (end ≤ 4 ^ m) ⌝ }
-    ensures { λ r. ⌜ Looks (classOverMap m (now (keys .entry)) (now (classes .entry)) (now (base .entry)) (now («base_classes» .entry))) (first .place) end class r ⌝ }
+    requires { ⌜ Pair m (now keys) (length (now classes)) (now base) (length (now beneath)) × StandsAt m (now keys) (now base) first × (first .place ≤ end) × (end ≤ 4 ^ m) ⌝ }
+    ensures { λ r. ⌜ Looks (classOverMap m (now (keys .entry)) (now (classes .entry)) (now (base .entry)) (now (beneath .entry))) (first .place) end class r ⌝ }
 {
     let mut stand = first;
     let mut unseen = false;
     while stand.place < end {
-        let piece = next_piece(m, keys, classes, base, base_classes, stand, end);
+        let piece = next_piece(m, keys, classes, base, beneath, stand, end);
         if piece.class == class {
             return Looked { has: true, unseen };
         }
@@ -286,12 +286,12 @@ pub fn add_up(
     keys: &[u32],
     classes: &[u8],
     base: &[u32],
-    base_classes: &[u8],
+    beneath: &[u8],
     window: Window,
     totals: &mut [u32; 256],
 )
-    requires { ⌜ (now table ≡ spreads) × Pair m (now keys) (length (now classes)) (now base) (length (now «base_classes»)) × Inside m window × (now totals ≡ replicate 256 0) ⌝ }
-    ensures { λ r. ⌜ now (totals .exit) ≡ totalsBy (classOverMap m (now (keys .entry)) (now (classes .entry)) (now (base .entry)) (now («base_classes» .entry))) window ⌝ }
+    requires { ⌜ (now table ≡ spreads) × Pair m (now keys) (length (now classes)) (now base) (length (now beneath)) × Inside m window × (now totals ≡ replicate 256 0) ⌝ }
+    ensures { λ r. ⌜ now (totals .exit) ≡ totalsBy (classOverMap m (now (keys .entry)) (now (classes .entry)) (now (base .entry)) (now (beneath .entry))) window ⌝ }
 {
     let mut at = first_stand(m, keys, base);
     let mut r = window.r0;
@@ -309,7 +309,7 @@ pub fn add_up(
         };
         let ahead = block_ahead(table, m, keys, base, at, exponent, row, col);
         at = ahead.stand;
-        tally(m, keys, classes, base, base_classes, at, ahead.end, totals);
+        tally(m, keys, classes, base, beneath, at, ahead.end, totals);
         r = row;
         c = after;
     }
@@ -322,12 +322,12 @@ pub fn find(
     keys: &[u32],
     classes: &[u8],
     base: &[u32],
-    base_classes: &[u8],
+    beneath: &[u8],
     window: Window,
     class: u8,
 ) -> Looked
-    requires { ⌜ (now table ≡ spreads) × Pair m (now keys) (length (now classes)) (now base) (length (now «base_classes»)) × Inside m window ⌝ }
-    ensures { λ r. ⌜ Finds (classOverMap m (now (keys .entry)) (now (classes .entry)) (now (base .entry)) (now («base_classes» .entry))) window class r ⌝ }
+    requires { ⌜ (now table ≡ spreads) × Pair m (now keys) (length (now classes)) (now base) (length (now beneath)) × Inside m window ⌝ }
+    ensures { λ r. ⌜ Finds (classOverMap m (now (keys .entry)) (now (classes .entry)) (now (base .entry)) (now (beneath .entry))) window class r ⌝ }
 {
     let mut at = first_stand(m, keys, base);
     let mut r = window.r0;
@@ -346,7 +346,7 @@ pub fn find(
         };
         let ahead = block_ahead(table, m, keys, base, at, exponent, row, col);
         at = ahead.stand;
-        let looked = look(m, keys, classes, base, base_classes, at, ahead.end, class);
+        let looked = look(m, keys, classes, base, beneath, at, ahead.end, class);
         if looked.has {
             return looked;
         }

@@ -15,11 +15,11 @@ use Rattle.pieces.proofs.add_up.Statement.{statement}
 use Rattle.pieces.proofs.add_up.Tie as tie
 
 abbrev Inv-loop : tie.InvT-loop
-Inv-loop table m keys classes base base-classes window totals₀ stand₀ r₀ c₀ totals stand r c =
-    Reporting (classOverMap m keys classes base base-classes) window m totals (r, c) × StandsAt m keys base stand
+Inv-loop table m keys classes base beneath window totals₀ stand₀ r₀ c₀ totals stand r c =
+    Reporting (classOverMap m keys classes base beneath) window m totals (r, c) × StandsAt m keys base stand
 
 abbrev μ-loop : tie.MeasureT-loop
-μ-loop table m keys classes base base-classes window totals₀ stand₀ r₀ c₀ totals stand r c = length (blocksFrom window m (r, c))
+μ-loop table m keys classes base beneath window totals₀ stand₀ r₀ c₀ totals stand r c = length (blocksFrom window m (r, c))
 
 first-stand-requires : tie.Need-first-stand-requires Inv-loop μ-loop
 first-stand-requires c κs = let p = c .before .before .before .before .pre .1 in (p .small, p .today, spaced (p .under))

@@ -14,11 +14,11 @@ use Rattle.pieces.proofs.find.Statement.{statement}
 use Rattle.pieces.proofs.find.Tie as tie
 
 abbrev Inv-loop : tie.InvT-loop
-Inv-loop table m keys classes base base-classes window class stand₀ r₀ c₀ unseen₀ stand r c unseen =
-    Finding (classOverMap m keys classes base base-classes) class m window (r, c) unseen × StandsAt m keys base stand
+Inv-loop table m keys classes base beneath window class stand₀ r₀ c₀ unseen₀ stand r c unseen =
+    Finding (classOverMap m keys classes base beneath) class m window (r, c) unseen × StandsAt m keys base stand
 
 abbrev μ-loop : tie.MeasureT-loop
-μ-loop table m keys classes base base-classes window class stand₀ r₀ c₀ unseen₀ stand r c unseen = length (blocksFrom window m (r, c))
+μ-loop table m keys classes base beneath window class stand₀ r₀ c₀ unseen₀ stand r c unseen = length (blocksFrom window m (r, c))
 
 first-stand-requires : tie.Need-first-stand-requires Inv-loop μ-loop
 first-stand-requires c κs = let p = c .before .before .before .before .pre .1 in (p .small, p .today, spaced (p .under))

@@ -9,11 +9,11 @@ use Rattle.pieces.proofs.look.Statement.{statement}
 use Rattle.pieces.proofs.look.Tie as tie
 
 abbrev Inv-loop : tie.InvT-loop
-Inv-loop m keys classes base base-classes end class stand₀ unseen₀ stand unseen =
-    Looking (classOverMap m keys classes base base-classes) class m keys base (stand₀ .place) end stand unseen
+Inv-loop m keys classes base beneath end class stand₀ unseen₀ stand unseen =
+    Looking (classOverMap m keys classes base beneath) class m keys base (stand₀ .place) end stand unseen
 
 abbrev μ-loop : tie.MeasureT-loop
-μ-loop m keys classes base base-classes end class stand₀ unseen₀ stand unseen = end - stand .place
+μ-loop m keys classes base beneath end class stand₀ unseen₀ stand unseen = end - stand .place
 
 loop-holds : tie.Need-loop-holds Inv-loop μ-loop
 loop-holds c = let p = c .before .before .before .before .pre in looking-first (p .2) (p .1)

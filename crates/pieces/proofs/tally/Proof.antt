@@ -10,11 +10,11 @@ use Rattle.pieces.proofs.tally.Statement.{statement}
 use Rattle.pieces.proofs.tally.Tie as tie
 
 abbrev Inv-loop : tie.InvT-loop
-Inv-loop m keys classes base base-classes end totals₀ stand₀ totals stand =
-    Tallying (classOverMap m keys classes base base-classes) m keys base (stand₀ .place) end totals₀ totals stand
+Inv-loop m keys classes base beneath end totals₀ stand₀ totals stand =
+    Tallying (classOverMap m keys classes base beneath) m keys base (stand₀ .place) end totals₀ totals stand
 
 abbrev μ-loop : tie.MeasureT-loop
-μ-loop m keys classes base base-classes end totals₀ stand₀ totals stand = end - stand .place
+μ-loop m keys classes base beneath end totals₀ stand₀ totals stand = end - stand .place
 
 loop-holds : tie.Need-loop-holds Inv-loop μ-loop
 loop-holds c = let p = c .before .before .before .before .pre in tallying-first _ (p .2) (p .1)
