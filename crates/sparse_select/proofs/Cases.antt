@@ -8,13 +8,13 @@ use native.Mathlib.Omega.{arith}
 use lib.ListN.{length, getD}
 use Rattle.lists.specs.Lists.{upFrom}
 use Rattle.answers.specs.Cells.{Listed}
-use Rattle.key.specs.Blocks.{Names}
+use Rattle.key.specs.Blocks.{Names, Among}
 use Rattle.key.proofs.Laws.{Covers, one-key, nested}
 use Rattle.map.specs.declared.Run.{Run}
 use Rattle.map.specs.Runs as runs
-use Rattle.map.specs.Runs.{runOf, BlockOf}
+use Rattle.map.specs.Runs.{runOf, BlockOf, Splits}
 use Rattle.map.specs.Sound.{Spaced}
-use Rattle.map.proofs.Laws.{Record, record-at, found-around, reach-least, reach-beyond}
+use Rattle.map.proofs.Laws.{Record, record-at, found-around, block-records, reach-least, reach-within, reach-beyond}
 use Rattle.pick.specs.Picked.{pickedAround}
 use Rattle.pick.proofs.Laws.{around-has, around-not}
 use Rattle.stretch.proofs.Laws.{stretch-whole}
@@ -81,7 +81,12 @@ module _ {m : ℕ} {keys : List ℕ} (F : Spaced m 0 keys) (background : ℕ) (c
           block-merged (omega (arith, reach-least F B))
           ∙ rw none (merged-last m background keys classes class (s + 4 ^ i) s (run .first) ∙ blank-own m background keys classes class s (s + 4 ^ i) d ∙ stretch-whole B)
 
--- what is asked, with a block's exponent
+-- what is asked, of the run that was found
+pub asked-run : {m : ℕ} {keys classes : List ℕ} {class key n : ℕ} {run : Run} → Asked m keys classes class key (runOf m keys key) n → run ≡ runOf m keys key
+    → Asked m keys classes class key run n
+asked-run A e = record { small = A .small; few = A .few; same = A .same; spaced = A .spaced; is = e; room = A .room }
+
+-- and with a block's exponent
 module _ {m : ℕ} {keys classes : List ℕ} {class key n : ℕ} {run : Run} (A : Asked m keys classes class key run n) {i : ℕ} (B : BlockOf m key i) where
   module _ (l : i < run .reach) where
     beyond : i < runOf m keys key .reach
@@ -94,8 +99,24 @@ module _ {m : ℕ} {keys classes : List ℕ} {class key n : ℕ} {run : Run} (A 
         → Listed n (sparseSelected m class keys classes class key) out k out′
     asked-around L = rw (block-around (A .spaced) class classes (A .same) class (B .names) beyond, ← A .is) L
 
+  -- where none lies in the block and none reaches further, there is none
+  pub asked-none : {a : ℕ} → Splits keys key a → Splits keys (key + 5 ^ i) a → run .reach ≤ i → run .count ≡ 0
+  asked-none {a} below over short = rw (A .is) (go (decLt 0 (runOf m keys key .count)))
+    where
+      first : ℕ
+      first = runOf m keys key .first
+
+      clash : Dec (first < a) → first < length keys → Among key (5 ^ i) (getD keys first 0) → ⊥
+      clash (yes l) w h = omega (arith, below .below first l, h)
+      clash (no l) w h = omega (arith, over .over first (omega arith) w, h)
+
+      go : Dec (0 < runOf m keys key .count) → runOf m keys key .count ≡ 0
+      go (no l) = omega (arith, l)
+      go (yes l) =
+          let same : runOf m keys key .reach ≡ i = omega (arith, reach-least (A .spaced) (B .names), ap (λ (r : Run). r .reach) (A .is)) in
+          let R = record-at (A .spaced) first (omega (arith, block-records (A .spaced) (B .names) .room)) in
+          let in-block = nested (B .names) (R .is .names) .0 (reach-within (A .spaced) (B .names) same (omega arith) (R .is)) in
+          absurd (clash (decLt first a) (R .is .within) in-block)
+
   pub asked-blank : run .count ≡ 0 → sparseSelected m class keys classes class key ≡ key ∷ []
   asked-blank e = block-blank (A .spaced) class classes (A .same) class (B .names) (rw (A .is) at e) refl
-
-  pub asked-short : run .reach ≤ i → BlockOf m key (run .reach)
-  asked-short l = let e : run .reach ≡ i = rw (A .is) (omega (arith, reach-least (A .spaced) (B .names), ap (λ (r : Run). r .reach) (A .is))) in rw e B

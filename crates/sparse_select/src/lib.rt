@@ -12,7 +12,7 @@ ghost use Rattle.answers.specs.After.{after};
 ghost use Rattle.key.specs.Spread.{spreads};
 ghost use Rattle.key.specs.Along.{onesTable};
 ghost use Rattle.key.specs.Blocks.{Names};
-ghost use Rattle.map.specs.Runs.{BlockOf};
+ghost use Rattle.map.specs.Runs.{runOf, BlockOf};
 ghost use Rattle.used.specs.Used.{Usable};
 ghost use Rattle.select.specs.Select.{keysInto};
 ghost use Rattle.sparse_select.specs.Select.{sparseSelected, sparseSelection};
@@ -71,29 +71,33 @@ fn put_run(
     stretch::put_stretch(ones, m, spot, end, out, k)
 }
 
-// The same of any block, of its key and exponent. A record that reaches further contains it; and a block without records is one gap, which it makes up itself.
+// The same of any block, of its key and exponent: with the records inside it; where there is none, its own key if a record of the class is around it, or no record at all.
 fn put_block(
     ones: &[u32; 13],
+    table: &[u32; 256],
     m: u32,
     keys: &[u32],
     classes: &[u8],
     class: u8,
     key: u32,
     exponent: u32,
-    run: Run,
     out: &mut [u32],
     n: u32,
 ) -> u32
-    requires { ⌜ (now ones ≡ onesTable) × Asked m (now keys) (now classes) class key run n × BlockOf m key exponent ⌝ }
+    requires { ⌜ (now ones ≡ onesTable) × (now table ≡ spreads) × Asked m (now keys) (now classes) class key (runOf m (now keys) key) n × BlockOf m key exponent ⌝ }
     ensures { λ r. ⌜ Listed n (sparseSelected m class (now (keys .entry)) (now (classes .entry)) class key) (now (out .entry)) r (now (out .exit)) ⌝ }
 {
-    if exponent < run.reach {
-        return pick::pick_around(classes, class, key, run.first as usize, out, n);
-    }
-    if run.count == 0 {
+    let first = runs::keys_below(keys, key, 0);
+    let count = runs::records_inside(table, m, keys, key, exponent, first);
+    if count == 0 {
+        let run = runs::record_around(table, m, keys, key, exponent, first);
+        if exponent < run.reach {
+            return pick::pick_around(classes, class, key, run.first as usize, out, n);
+        }
         answers::put(out, n, key);
         return n + 1;
     }
+    let run = runs::inside(first, count, exponent);
     put_run(ones, m, keys, classes, class, key, run, out, n)
 }
 
@@ -129,8 +133,7 @@ fn put_all(
         r = row;
         c = after;
         let key = blocks::block_key(table, m, exponent, row, col);
-        let run = runs::records_of(table, m, keys, key, exponent);
-        n = put_block(ones, m, keys, classes, class, key, exponent, run, out, n);
+        n = put_block(ones, table, m, keys, classes, class, key, exponent, out, n);
     }
 }
 

@@ -1,5 +1,6 @@
 -- `sparse_select::put_all` meets its contract. The invariant is `Walking`, the measure the number of blocks left.
 -- Assumes nothing.
+use mathlib.Core.Path.{refl}
 use native.Mathlib.Omega.{arith}
 use lib.ListN.{length}
 use borrow.Author.Needs.{needs}
@@ -56,23 +57,20 @@ module _ (c : tie.After-block-key Inv-loop μ-loop) where
   block : BlockOf (start .args .m) (c .block-key .result) (c .before .before .next .given .0 .1 .1 .0)
   block = walking-block (turn .loop .inv) (start .pre .2) (start .pre .3) (c .before .before .next .given .1) on (c .block-key .ensures)
 
-records-of-requires : tie.Need-records-of-requires Inv-loop μ-loop
-records-of-requires c κs = let p = start c .pre in (p .1, p .2 .small, p .2 .few, p .2 .spaced, block c)
-
 put-block-requires : tie.Need-put-block-requires Inv-loop μ-loop
 put-block-requires c κs =
-    let b = c .before .before in
+    let b = c .before in
     let p = start b .pre in
-    (p .0, walking-asked (turn b .loop .inv) (p .2) (p .3) (b .before .before .next .given .1) (on b) (b .block-key .ensures) (c .before .records-of .ensures), block b)
+    (p .0, p .1, walking-asked (turn b .loop .inv) (p .2) (p .3) (b .before .before .next .given .1) (on b) (b .block-key .ensures) refl, block b)
 
 loop-less : tie.Need-loop-less Inv-loop μ-loop
 loop-less c =
-    let b = c .before .before .before .before .before in
+    let b = c .before .before .before .before in
     goes-less (walking-goes (turn b .loop .inv) (start b .pre .2) (start b .pre .3) (b .before .before .next .given .1) (on b))
 
 loop-again : tie.Need-loop-again Inv-loop μ-loop
 loop-again c =
-    let b = c .before .before .before .before .before in
+    let b = c .before .before .before .before in
     let p = start b .pre in
     walking-next (turn b .loop .inv) (p .2) (p .3) (b .before .before .next .given .1) (on b) (b .block-key .ensures) (c .before .before .put-block .ensures)
 
@@ -89,7 +87,6 @@ put-all-spec =
     same-length
     returns
     block-key-requires
-    records-of-requires
     put-block-requires
     loop-less
     loop-again)
