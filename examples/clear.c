@@ -7,18 +7,6 @@
 static picture lake;
 static uint16_t border[LUTNIORAD_MOST_SIDE]; /* no picture has more columns */
 
-static const char *said(uint32_t existence)
-{
-    switch (existence) {
-    case LUTNIORAD_YES:
-        return "yes";
-    case LUTNIORAD_NO:
-        return "no";
-    default: /* LUTNIORAD_CANNOT_TELL */
-        return "can't tell";
-    }
-}
-
 int main(int argc, char **argv)
 {
     unsigned long of_class;
@@ -37,6 +25,6 @@ int main(int argc, char **argv)
         say_refusal(stdout, a);
         return end_with("clear", 1);
     }
-    puts(said(a.first));
+    puts(existence(a.first));
     return end_with("clear", 0);
 }

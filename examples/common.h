@@ -1,6 +1,6 @@
 /*
- * What the examples have in common: a house file by its name, numbers from the command line, how a refusal is said, and
- * the end of a program.
+ * What the examples have in common: a house file by its name, numbers from the command line, how a refusal and what
+ * exists are said, and the end of a program.
  */
 #ifndef COMMON_H
 #define COMMON_H
@@ -71,6 +71,19 @@ static inline int take_window(char **texts, window *at)
 static inline void say_refusal(FILE *to, lutniorad_answer a)
 {
     fprintf(to, "refused %u at %u: %s\n", (unsigned)a.refusal, (unsigned)a.place, lutniorad_sentence(a.refusal));
+}
+
+/* What lutniorad_exist answers, in words. */
+static inline const char *existence(uint32_t answered)
+{
+    switch (answered) {
+    case LUTNIORAD_YES:
+        return "yes";
+    case LUTNIORAD_NO:
+        return "no";
+    default: /* LUTNIORAD_CANNOT_TELL */
+        return "can't tell";
+    }
 }
 
 /* Did all come out that was printed? If not, as on a full disk, that is said on standard error. */

@@ -24,10 +24,11 @@
  * corner, then by its column, and there are always fewer than 4(w + h). At m = 2 the window r0 = 0, c0 = 1, h = 3,
  * w = 3 has six: 7, 10, 9, 17, 21, 22.
  *
- * A TILE is a block of side 2^c, c from 0 to m. Calls with `_tiled` in their names take c as `tile` and use no larger
- * block: one that lies in the window is then maximal when no larger one of a side up to 2^c that lies in the window
- * contains it. There are fewer than 4(w + h) plus the whole part of wh/4^c. With c = 0 the same window has nine, which
- * are its pixels: 7, 11, 12, 9, 13, 14, 17, 21, 22. With c = m a call does what it does without a tile.
+ * A TILE is a block of side 2^c, c from 0 to m. Calls with `_tiled` in their names, and some for sparse maps, take c as
+ * `tile` and use no larger block: one that lies in the window is then maximal when no larger one of a side up to 2^c
+ * that lies in the window contains it. There are fewer than 4(w + h) plus the whole part of wh/4^c. With c = 0 the same
+ * window has nine, which are its pixels: 7, 11, 12, 9, 13, 14, 17, 21, 22. With c = m a call does what it does without
+ * a tile.
  *
  * An OPENING is a maximal block at which records are handed out. Go through the maximal blocks in their order. A block
  * is skipped when it lies in a record already handed out. Otherwise it is opened, and the records that overlap it are
@@ -73,6 +74,24 @@
  *     20          4Q     the keys
  *     20 + 4Q     Q      the classes
  *
+ * A SPARSE MAP leaves out records of one class, the background, where most of a picture is of that class: so it is
+ * short, and so is its file. Its records are in the order of their keys and do not overlap: each starts where the last
+ * one ended, or later. What lies between is a gap. There may be gaps anywhere, and no record at all: Q is from 0 to
+ * 65,536. Calls with `sparse_` in their names take such a map. Those that ask for classes take the background too: each
+ * pixel in no record has that class. A record may have it as well, and need not.
+ *
+ * The openings of a sparse map are those of any other, and besides each maximal block without a pixel of a record is an
+ * EMPTY opening: its key, 0 and 0. Where a block has pixels of records and of gaps, it hands out the records, which may
+ * be a single one inside it. So a block is skipped only when it lies in a record already handed out. The openings with
+ * records are as few as can be; together with the empty ones there are never more than there are maximal blocks. In the
+ * border a column has then been handed out as far as it lies in records handed out and in blocks opened.
+ *
+ * The house file of a sparse map is laid out as above, with Q = 0 in 20 bytes. It does not say that the map is sparse,
+ * nor of which class the background is: whoever sends it agrees on that with whoever reads it. For calls without
+ * `sparse_` a map with gaps is not sound, and they refuse it by 5, or by 2 where it has no record. On a map that is
+ * sound for these, and wherever they refuse by anything else, a call with `sparse_` answers, refuses and writes the
+ * same as the one without, or as that with `_tiled` where it takes a tile, whatever the background is.
+ *
  * WHAT THE CALLER KEEPS. A slice is a pointer and its length in cells (elements of 8, 16, 32 or 64 bits, not bytes).
  * For each slice of a call:
  *   - the pointer is valid for that many cells, and aligned for their type;
@@ -87,9 +106,9 @@
  *
  * WHAT THE LIBRARY KEEPS. It takes no heap and remembers nothing from one call to the next. Every call ends. A call
  * that refuses writes nothing, but for one: a refusal by 8 from lutniorad_report, or from lutniorad_open or
- * lutniorad_select with a tile or without, leaves the border as an answer would. A call that answers writes the cells
- * named with it below, and all others keep their content. What stands at entry in a slice that is written never
- * matters, but for the table of a month, to which lutniorad_month_add adds.
+ * lutniorad_select with a tile or without, or from one of these on a sparse map, leaves the border as an answer would.
+ * A call that answers writes the cells named with it below, and all others keep their content. What stands at entry in
+ * a slice that is written never matters, but for the table of a month, to which lutniorad_month_add adds.
  *
  * THREADS AND SIGNALS. Calls on different memory may run at the same time, in any number of threads, and in a signal
  * handler. No call takes a lock, sets errno or waits. The archive asks for memset and memcpy, and for nothing else.
@@ -99,10 +118,10 @@
  * one call takes what the loader needs besides: up to 6,504 bytes together were seen, and elsewhere it may be more.
  * Link with `-static`, or with `-Wl,-z,now`, where stacks are small, as for a signal handler or a thread.
  *
- * WHAT A CALL COSTS. Each call that takes a map, but for lutniorad_write, checks the whole of it first, whatever was
- * checked before: some 21 instructions for each record, 1.4 million for the longest map, which take a fraction of a
- * millisecond. Behind that it goes by the records and blocks of the window and not by its pixels; but with tiles of one
- * pixel each of these is a block. lutniorad_windows checks the map once for up to 256 windows.
+ * WHAT A CALL COSTS. Each call that takes a map, but for those that write a file, checks the whole of it first,
+ * whatever was checked before: some 21 instructions for each record, 1.4 million for the longest map, which take a
+ * fraction of a millisecond. Behind that it goes by the records and blocks of the window and not by its pixels; but
+ * with tiles of one pixel each of these is a block. lutniorad_windows checks the map once for up to 256 windows.
  *
  * CLASSES are numbers of the caller's own. Which of them is scum the library does not know; 255 alone has a meaning.
  *
@@ -116,9 +135,9 @@
 
 /* The version of this header and of the library that belongs to it, as numbers and as text. */
 #define LUTNIORAD_VERSION_MAJOR 1 /* rises when a program made for the last one may have to be changed */
-#define LUTNIORAD_VERSION_MINOR 3 /* rises when there are more calls */
+#define LUTNIORAD_VERSION_MINOR 4 /* rises when there are more calls */
 #define LUTNIORAD_VERSION_PATCH 0
-#define LUTNIORAD_VERSION "1.3.0"
+#define LUTNIORAD_VERSION "1.4.0"
 
 /* The limits. */
 #define LUTNIORAD_MOST_M 12
@@ -557,6 +576,136 @@ lutniorad_answer lutniorad_write(uint32_t m,
                                  const uint32_t *keys, size_t n_keys,
                                  const uint8_t *classes, size_t n_classes,
                                  uint8_t *out, size_t n_out);
+
+/*
+ * Is this sparse map sound?
+ *
+ * Answers `first` = Q, `second` = 0 when it is. Writes nothing. The classes' content does not matter.
+ *
+ * Refuses by 1; 2 when `n_keys` and `n_classes` differ or are over 65,536; then record by record 3, 4. There is no 5,
+ * and no 2 for Q = 0.
+ */
+lutniorad_answer lutniorad_sparse_check(uint32_t m,
+                                        const uint32_t *keys, size_t n_keys,
+                                        const uint8_t *classes, size_t n_classes);
+
+/*
+ * Which records of a sparse map does this window need, and at which blocks are they handed out?
+ *
+ * The maximal blocks that are opened or skipped are those of a side up to 2^tile; for the largest, let `tile` be m.
+ * Answers `first` = the number of openings, the empty ones among them, `second` = the number of records that the others
+ * hand out together. The first 3 * `first` cells of `out` are then the openings, one after another, in the order of
+ * their blocks: key, first record, number of records; of an empty one key, 0, 0. The first w cells of `border` are then
+ * r0 + h. There are fewer than 4(w + h) plus h * w / 4^tile openings, so an `out` of
+ * LUTNIORAD_OPEN_TILED_CELLS(tile, h, w) cells is always long enough. The classes' content does not matter.
+ *
+ * On the map of the keys 11, 12, 13, 20 at m = 2, the window r0 = 0, c0 = 1, h = 3, w = 3 with `tile` = 2 has five
+ * openings that hand out all four records: 7 0 0, 10 0 3, 9 0 0, 17 0 0, 21 3 1. Block 22 lies in record 3, which was
+ * handed out at block 21.
+ *
+ * Refuses by 1; 17 when `tile` is over m; 2, 3, 4 as lutniorad_sparse_check does; 6; 7, with place w, when `border` is
+ * shorter than that; and 8, with three times the number of openings as place, when `out` is shorter than that. On 8 the
+ * first w cells of `border` are r0 + h, and nothing else was written.
+ */
+lutniorad_answer lutniorad_sparse_open(uint32_t m, uint32_t tile,
+                                       const uint32_t *keys, size_t n_keys,
+                                       const uint8_t *classes, size_t n_classes,
+                                       uint16_t r0, uint16_t c0, uint16_t h, uint16_t w,
+                                       uint16_t *border, size_t n_border,
+                                       uint32_t *out, size_t n_out);
+
+/*
+ * Has this window of a sparse map a pixel of this class?
+ *
+ * Answers `first` = LUTNIORAD_NO, LUTNIORAD_YES or LUTNIORAD_CANNOT_TELL, as lutniorad_exist does, `second` = 0, where
+ * each pixel in no record is of class `background`. So with the background 255 what lies in gaps was not seen. The
+ * first w cells of `border` are then r0 + h.
+ *
+ * Refuses by 1; 2, 3, 4 as lutniorad_sparse_check does; 6; and 7 as lutniorad_sparse_open does.
+ */
+lutniorad_answer lutniorad_sparse_exist(uint32_t m, uint8_t background,
+                                        const uint32_t *keys, size_t n_keys,
+                                        const uint8_t *classes, size_t n_classes,
+                                        uint16_t r0, uint16_t c0, uint16_t h, uint16_t w,
+                                        uint8_t of_class,
+                                        uint16_t *border, size_t n_border);
+
+/*
+ * How many pixels of each class has this window of a sparse map?
+ *
+ * Answers `first` = h * w, the pixels of the window, `second` = 0. The first 256 cells of `totals` are then the numbers
+ * of its pixels of class 0, of class 1, and so on to class 255, where each pixel in no record is of class `background`;
+ * they add up to h * w. The first w cells of `border` are then r0 + h.
+ *
+ * On the map and the window of lutniorad_sparse_open's example, with the classes 2, 2, 3, 2 and the background 1, there
+ * are 4 pixels of class 1, 4 of class 2, 1 of class 3, and none of any other.
+ *
+ * Refuses by 1; 2, 3, 4 as lutniorad_sparse_check does; 6; 7; and 8, with place 256, when `totals` has fewer cells than
+ * that. On 8 the first w cells of `border` are r0 + h, and nothing else was written.
+ */
+lutniorad_answer lutniorad_sparse_report(uint32_t m, uint8_t background,
+                                         const uint32_t *keys, size_t n_keys,
+                                         const uint8_t *classes, size_t n_classes,
+                                         uint16_t r0, uint16_t c0, uint16_t h, uint16_t w,
+                                         uint16_t *border, size_t n_border,
+                                         uint32_t *totals, size_t n_totals);
+
+/*
+ * Which blocks of this window of a sparse map are of this class?
+ *
+ * Goes through the maximal blocks of a side up to 2^tile in their order. For each it lists the block's own key, if the
+ * block lies in a record of the class, or if it has no pixel of a record and the class is the background; otherwise the
+ * keys of those records inside the block that have the class, and for the background also the fewest blocks that make
+ * up each gap inside the block, all in the order of their keys. A record of the background's class is listed as it is,
+ * and is not joined with the gaps beside it. So each key is that of a block inside the window, no larger than a tile,
+ * and each pixel of the window that has the class lies in just one of these blocks.
+ *
+ * Answers `first` = the number of keys, `second` = 0. The first so many cells of `out` are then the keys, and the first
+ * w cells of `border` are r0 + h. For a class other than the background, an `out` of
+ * LUTNIORAD_SELECT_TILED_CELLS(tile, Q, h, w) cells is always long enough. For the background that may be too short:
+ * gaps may be listed pixel by pixel, up to h * w keys. So many cells are always long enough, for any class; where that
+ * is too much, ask with no cells, and then with as many as the refusal by 8 says.
+ *
+ * On the map and the window of the example above, with `tile` = 2, class 1 has the keys 7, 14, 9, 17, of which none is
+ * a record's, and class 2 has 11, 12, 21, 22.
+ *
+ * Refuses by 1; 17 when `tile` is over m; 2, 3, 4 as lutniorad_sparse_check does; 6; 7; and 8, with the number of keys
+ * as place, when `out` is shorter than that. On 8 the first w cells of `border` are r0 + h, and nothing else was
+ * written.
+ */
+lutniorad_answer lutniorad_sparse_select(uint32_t m, uint32_t tile, uint8_t background,
+                                         const uint32_t *keys, size_t n_keys,
+                                         const uint8_t *classes, size_t n_classes,
+                                         uint16_t r0, uint16_t c0, uint16_t h, uint16_t w,
+                                         uint8_t of_class,
+                                         uint16_t *border, size_t n_border,
+                                         uint32_t *out, size_t n_out);
+
+/*
+ * Reads the house file of a sparse map, as lutniorad_read does that of any other; but Q may be 0.
+ *
+ * Answers `first` = m, `second` = Q. The first Q cells of `keys` and of `classes` are then the file's.
+ *
+ * Refuses by 9 at 0 when there are fewer than 20 bytes or the length field is not `n`; 1 by the field m; 2 by the
+ * field Q when it is over 65,536; 9 at 8 when the length is not 20 + 5Q; 9 at 12 and 9 at 16 when the offset there is
+ * not as above; and 8, with place Q, when `keys` or `classes` has fewer than Q cells.
+ */
+lutniorad_answer lutniorad_sparse_read(const uint8_t *file, size_t n,
+                                       uint32_t *keys, size_t n_keys,
+                                       uint8_t *classes, size_t n_classes);
+
+/*
+ * Writes a sparse map as a house file, as lutniorad_write does any other; but Q may be 0.
+ *
+ * Answers `first` = 20 + 5Q, `second` = 0. The first 20 + 5Q bytes of `out` are then the file.
+ *
+ * Refuses by 1; 2 when `n_keys` and `n_classes` differ or are over 65,536; and 8, with place 20 + 5Q, when `out` is
+ * shorter than that.
+ */
+lutniorad_answer lutniorad_sparse_write(uint32_t m,
+                                        const uint32_t *keys, size_t n_keys,
+                                        const uint8_t *classes, size_t n_classes,
+                                        uint8_t *out, size_t n_out);
 
 #ifdef __cplusplus
 }

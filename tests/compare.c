@@ -15,6 +15,7 @@
 #include "months.h"
 #include "pairs.h"
 #include "queries.h"
+#include "sparse.h"
 #include "tiles.h"
 #include "views.h"
 #include "why.h"
@@ -28,35 +29,54 @@
 static map sound, damaged, read_map;
 static uint8_t file[ROOM_FOR_FILE];
 
-/* A map that is taken for sound has each pixel in just one block. Larger pictures would take too long to paint. */
-static void require_painted(const map *a, size_t q)
+/*
+ * A map that is taken for sound has each pixel in just one block, and a sparse one in no more than one. Larger pictures
+ * would take too long to paint.
+ */
+static void require_painted(const map *a, size_t q, bool sparse)
 {
     enum { MOST_PAINTED = 6 };
     static uint32_t raster[1 << 2 * MOST_PAINTED];
     if (a->m <= MOST_PAINTED)
-        require(reference_raster(a->m, a->keys, q, whole_picture(a->m), raster),
-                "a sound map does not paint every pixel once");
+        require((sparse ? reference_sparse_raster : reference_raster)(a->m, a->keys, q, whole_picture(a->m), raster),
+                "a sound map does not paint every pixel once, or a sparse one paints some twice");
+}
+
+/*
+ * A call, and the same for a sparse map: that does the same, but where the first is refused for a gap or for the number
+ * of records. Returns the first one's answer.
+ */
+static lutniorad_answer compare_both(call c, const operation *sparse)
+{
+    lutniorad_answer answer = compare(c);
+    if (answer.refusal != LUTNIORAD_GAP && answer.refusal != LUTNIORAD_BAD_COUNT) {
+        compare_with(sparse, answer);
+        return answer;
+    }
+    c.operation = sparse;
+    compare(c);
+    return answer;
 }
 
 static lutniorad_answer compare_check(const map *a, size_t n_keys, size_t n_classes)
 {
     call c = {&CHECK, a->m, NO_TILE, NO_WINDOW, NO_CLASS, {{a->keys, n_keys}, {a->classes, n_classes}}};
-    lutniorad_answer answer = compare(c);
-    if (answer.refusal == 0)
-        require_painted(a, n_keys);
+    lutniorad_answer answer = compare_both(c, &SPARSE_CHECK);
+    if (reference_sparse_check(a->m, a->keys, n_keys, a->classes, n_classes).refusal == 0)
+        require_painted(a, n_keys, answer.refusal != 0);
     return answer;
 }
 
 static lutniorad_answer compare_read(size_t n, size_t n_keys, size_t n_classes)
 {
     call c = {&READ, 0, NO_TILE, NO_WINDOW, NO_CLASS, {{file, n}, {NULL, n_keys}, {NULL, n_classes}}};
-    return compare(c);
+    return compare_both(c, &SPARSE_READ);
 }
 
 static lutniorad_answer compare_write(const map *a, size_t n_keys, size_t n_classes, size_t n_out)
 {
     call c = {&WRITE, a->m, NO_TILE, NO_WINDOW, NO_CLASS, {{a->keys, n_keys}, {a->classes, n_classes}, {NULL, n_out}}};
-    lutniorad_answer answer = compare(c);
+    lutniorad_answer answer = compare_both(c, &SPARSE_WRITE);
     if (answer.refusal == 0)
         require(answer.first == length_of_file(n_keys), "the file has another length than the header says");
     return answer;
@@ -606,6 +626,15 @@ static const group groups[] = {
     {"random parts", group_random_parts, true},
     {"small views", group_small_views, false},
     {"random views", group_random_views, true},
+    {"sparse maps written out", group_sparse_written_out, false},
+    {"small sparse maps", group_small_sparse_maps, false},
+    {"lengths on sparse maps", group_sparse_lengths, false},
+    {"refusals of sparse maps", group_sparse_refusals, false},
+    {"damaged sparse maps", group_damaged_sparse_maps, false},
+    {"sparse files", group_sparse_files, false},
+    {"vast sparse slices", group_vast_sparse, false},
+    {"large sparse maps", group_large_sparse_maps, true},
+    {"random sparse maps", group_random_sparse_maps, true},
 };
 
 int main(int argc, char **argv)

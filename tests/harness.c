@@ -73,20 +73,55 @@ typedef struct {
     lutniorad_answer (*windows)(uint32_t, const uint32_t *, size_t, const uint8_t *, size_t, const uint16_t *, size_t,
                                 uint16_t *, size_t, uint32_t *, size_t);
     explanation *why_record, *why_block;
+    lutniorad_answer (*sparse_check)(uint32_t, const uint32_t *, size_t, const uint8_t *, size_t);
+    lutniorad_answer (*sparse_open)(uint32_t, uint32_t, const uint32_t *, size_t, const uint8_t *, size_t, uint16_t,
+                                    uint16_t, uint16_t, uint16_t, uint16_t *, size_t, uint32_t *, size_t);
+    lutniorad_answer (*sparse_exist)(uint32_t, uint8_t, const uint32_t *, size_t, const uint8_t *, size_t, uint16_t,
+                                     uint16_t, uint16_t, uint16_t, uint8_t, uint16_t *, size_t);
+    lutniorad_answer (*sparse_report)(uint32_t, uint8_t, const uint32_t *, size_t, const uint8_t *, size_t, uint16_t,
+                                      uint16_t, uint16_t, uint16_t, uint16_t *, size_t, uint32_t *, size_t);
+    lutniorad_answer (*sparse_select)(uint32_t, uint32_t, uint8_t, const uint32_t *, size_t, const uint8_t *, size_t,
+                                      uint16_t, uint16_t, uint16_t, uint16_t, uint8_t, uint16_t *, size_t, uint32_t *,
+                                      size_t);
+    lutniorad_answer (*sparse_read)(const uint8_t *, size_t, uint32_t *, size_t, uint8_t *, size_t);
+    lutniorad_answer (*sparse_write)(uint32_t, const uint32_t *, size_t, const uint8_t *, size_t, uint8_t *, size_t);
 } program;
 
 static const program library = {
-    lutniorad_check,           lutniorad_decompose,   lutniorad_open,         lutniorad_exist,   lutniorad_report,
-    lutniorad_select,          lutniorad_month_clear, lutniorad_month_add,    lutniorad_read,    lutniorad_write,
-    lutniorad_decompose_tiled, lutniorad_open_tiled,  lutniorad_select_tiled, lutniorad_windows, lutniorad_why_record,
-    lutniorad_why_block,
+    lutniorad_check,        lutniorad_decompose,       lutniorad_open,
+    lutniorad_exist,        lutniorad_report,          lutniorad_select,
+    lutniorad_month_clear,  lutniorad_month_add,       lutniorad_read,
+    lutniorad_write,        lutniorad_decompose_tiled, lutniorad_open_tiled,
+    lutniorad_select_tiled, lutniorad_windows,         lutniorad_why_record,
+    lutniorad_why_block,    lutniorad_sparse_check,    lutniorad_sparse_open,
+    lutniorad_sparse_exist, lutniorad_sparse_report,   lutniorad_sparse_select,
+    lutniorad_sparse_read,  lutniorad_sparse_write,
 };
 static const program reference = {
-    reference_check,           reference_decompose,   reference_open,         reference_exist,   reference_report,
-    reference_select,          reference_month_clear, reference_month_add,    reference_read,    reference_write,
-    reference_decompose_tiled, reference_open_tiled,  reference_select_tiled, reference_windows, reference_why_record,
-    reference_why_block,
+    reference_check,        reference_decompose,       reference_open,
+    reference_exist,        reference_report,          reference_select,
+    reference_month_clear,  reference_month_add,       reference_read,
+    reference_write,        reference_decompose_tiled, reference_open_tiled,
+    reference_select_tiled, reference_windows,         reference_why_record,
+    reference_why_block,    reference_sparse_check,    reference_sparse_open,
+    reference_sparse_exist, reference_sparse_report,   reference_sparse_select,
+    reference_sparse_read,  reference_sparse_write,
 };
+
+uint32_t over(uint8_t background, uint8_t of_class)
+{
+    return 256u * background + of_class;
+}
+
+uint8_t background_of(uint32_t about)
+{
+    return (uint8_t)(about / 256);
+}
+
+uint8_t class_of(uint32_t about)
+{
+    return (uint8_t)about;
+}
 
 static lutniorad_answer run_check(const program *p, const call *c, const slice *s)
 {
@@ -107,7 +142,7 @@ static lutniorad_answer run_open(const program *p, const call *c, const slice *s
 static lutniorad_answer run_exist(const program *p, const call *c, const slice *s)
 {
     return p->exist(c->m, s[0].cells, s[0].length, s[1].cells, s[1].length, c->at.r0, c->at.c0, c->at.h, c->at.w,
-                    (uint8_t)c->about, s[2].cells, s[2].length);
+                    class_of(c->about), s[2].cells, s[2].length);
 }
 
 static lutniorad_answer run_report(const program *p, const call *c, const slice *s)
@@ -119,7 +154,7 @@ static lutniorad_answer run_report(const program *p, const call *c, const slice 
 static lutniorad_answer run_select(const program *p, const call *c, const slice *s)
 {
     return p->select(c->m, s[0].cells, s[0].length, s[1].cells, s[1].length, c->at.r0, c->at.c0, c->at.h, c->at.w,
-                     (uint8_t)c->about, s[2].cells, s[2].length, s[3].cells, s[3].length);
+                     class_of(c->about), s[2].cells, s[2].length, s[3].cells, s[3].length);
 }
 
 static lutniorad_answer run_month_clear(const program *p, const call *c, const slice *s)
@@ -158,13 +193,54 @@ static lutniorad_answer run_open_tiled(const program *p, const call *c, const sl
 static lutniorad_answer run_select_tiled(const program *p, const call *c, const slice *s)
 {
     return p->select_tiled(c->m, c->tile, s[0].cells, s[0].length, s[1].cells, s[1].length, c->at.r0, c->at.c0, c->at.h,
-                           c->at.w, (uint8_t)c->about, s[2].cells, s[2].length, s[3].cells, s[3].length);
+                           c->at.w, class_of(c->about), s[2].cells, s[2].length, s[3].cells, s[3].length);
 }
 
 static lutniorad_answer run_windows(const program *p, const call *c, const slice *s)
 {
     return p->windows(c->m, s[0].cells, s[0].length, s[1].cells, s[1].length, s[2].cells, s[2].length, s[3].cells,
                       s[3].length, s[4].cells, s[4].length);
+}
+
+static lutniorad_answer run_sparse_check(const program *p, const call *c, const slice *s)
+{
+    return p->sparse_check(c->m, s[0].cells, s[0].length, s[1].cells, s[1].length);
+}
+
+static lutniorad_answer run_sparse_open(const program *p, const call *c, const slice *s)
+{
+    return p->sparse_open(c->m, c->tile, s[0].cells, s[0].length, s[1].cells, s[1].length, c->at.r0, c->at.c0, c->at.h,
+                          c->at.w, s[2].cells, s[2].length, s[3].cells, s[3].length);
+}
+
+static lutniorad_answer run_sparse_exist(const program *p, const call *c, const slice *s)
+{
+    return p->sparse_exist(c->m, background_of(c->about), s[0].cells, s[0].length, s[1].cells, s[1].length, c->at.r0,
+                           c->at.c0, c->at.h, c->at.w, class_of(c->about), s[2].cells, s[2].length);
+}
+
+static lutniorad_answer run_sparse_report(const program *p, const call *c, const slice *s)
+{
+    return p->sparse_report(c->m, background_of(c->about), s[0].cells, s[0].length, s[1].cells, s[1].length, c->at.r0,
+                            c->at.c0, c->at.h, c->at.w, s[2].cells, s[2].length, s[3].cells, s[3].length);
+}
+
+static lutniorad_answer run_sparse_select(const program *p, const call *c, const slice *s)
+{
+    return p->sparse_select(c->m, c->tile, background_of(c->about), s[0].cells, s[0].length, s[1].cells, s[1].length,
+                            c->at.r0, c->at.c0, c->at.h, c->at.w, class_of(c->about), s[2].cells, s[2].length,
+                            s[3].cells, s[3].length);
+}
+
+static lutniorad_answer run_sparse_read(const program *p, const call *c, const slice *s)
+{
+    (void)c; /* the file has m */
+    return p->sparse_read(s[0].cells, s[0].length, s[1].cells, s[1].length, s[2].cells, s[2].length);
+}
+
+static lutniorad_answer run_sparse_write(const program *p, const call *c, const slice *s)
+{
+    return p->sparse_write(c->m, s[0].cells, s[0].length, s[1].cells, s[1].length, s[2].cells, s[2].length);
 }
 
 static lutniorad_reason explain(const program *p, const call *c, const slice *s)
@@ -180,7 +256,7 @@ typedef struct {
 } parameter;
 
 /* What an operation takes beside its slices. */
-enum { M = 1, TILE = 2, WINDOW = 4, CLASS = 8, RECORD = 16, KEY = 32 };
+enum { M = 1, TILE = 2, WINDOW = 4, CLASS = 8, RECORD = 16, KEY = 32, BACKGROUND = 64 };
 
 struct operation {
     const char *name;
@@ -215,10 +291,29 @@ const operation WINDOWS = {
     "windows", run_windows, M, 5, {{"keys", 4}, {"classes", 1}, {"windows", 2}, {"border", 2}, {"out", 4}}};
 const operation WHY_RECORD = {"why_record", NULL, M | WINDOW | RECORD, 3, {{"keys", 4}, {"classes", 1}, {"border", 2}}};
 const operation WHY_BLOCK = {"why_block", NULL, M | WINDOW | KEY, 3, {{"keys", 4}, {"classes", 1}, {"border", 2}}};
+const operation SPARSE_CHECK = {"sparse_check", run_sparse_check, M, 2, {{"keys", 4}, {"classes", 1}}};
+const operation SPARSE_OPEN = {
+    "sparse_open", run_sparse_open, M | TILE | WINDOW, 4, {{"keys", 4}, {"classes", 1}, {"border", 2}, {"out", 4}}};
+const operation SPARSE_EXIST = {
+    "sparse_exist", run_sparse_exist, M | BACKGROUND | WINDOW | CLASS, 3, {{"keys", 4}, {"classes", 1}, {"border", 2}}};
+const operation SPARSE_REPORT = {"sparse_report",
+                                 run_sparse_report,
+                                 M | BACKGROUND | WINDOW,
+                                 4,
+                                 {{"keys", 4}, {"classes", 1}, {"border", 2}, {"totals", 4}}};
+const operation SPARSE_SELECT = {"sparse_select",
+                                 run_sparse_select,
+                                 M | TILE | BACKGROUND | WINDOW | CLASS,
+                                 4,
+                                 {{"keys", 4}, {"classes", 1}, {"border", 2}, {"out", 4}}};
+const operation SPARSE_READ = {"sparse_read", run_sparse_read, 0, 3, {{"file", 1}, {"keys", 4}, {"classes", 1}}};
+const operation SPARSE_WRITE = {"sparse_write", run_sparse_write, M, 3, {{"keys", 4}, {"classes", 1}, {"out", 1}}};
 
 static const operation *const operations[] = {
-    &CHECK, &DECOMPOSE,       &OPEN,       &EXIST,        &REPORT,  &SELECT,     &MONTH_CLEAR, &MONTH_ADD, &READ,
-    &WRITE, &DECOMPOSE_TILED, &OPEN_TILED, &SELECT_TILED, &WINDOWS, &WHY_RECORD, &WHY_BLOCK};
+    &CHECK,        &DECOMPOSE,     &OPEN,          &EXIST,       &REPORT,          &SELECT,
+    &MONTH_CLEAR,  &MONTH_ADD,     &READ,          &WRITE,       &DECOMPOSE_TILED, &OPEN_TILED,
+    &SELECT_TILED, &WINDOWS,       &WHY_RECORD,    &WHY_BLOCK,   &SPARSE_CHECK,    &SPARSE_OPEN,
+    &SPARSE_EXIST, &SPARSE_REPORT, &SPARSE_SELECT, &SPARSE_READ, &SPARSE_WRITE};
 
 /* What a call returned, number by number: the four of an answer, or the five of a reason. */
 enum { NUMBERS_OF_ANSWER = 4, NUMBERS_OF_REASON = 5 };
@@ -288,10 +383,12 @@ static void print_call(const call *c)
         printf(", m %" PRIu32, c->m);
     if ((c->operation->takes & TILE) != 0)
         printf(", tile %" PRIu32, c->tile);
+    if ((c->operation->takes & BACKGROUND) != 0)
+        printf(", background %d", background_of(c->about));
     if ((c->operation->takes & WINDOW) != 0)
         printf(", r0 %d, c0 %d, h %d, w %d", c->at.r0, c->at.c0, c->at.h, c->at.w);
     if ((c->operation->takes & CLASS) != 0)
-        printf(", class %" PRIu32, c->about);
+        printf(", class %d", class_of(c->about));
     if ((c->operation->takes & RECORD) != 0)
         printf(", record %" PRIu32, c->about);
     if ((c->operation->takes & KEY) != 0)

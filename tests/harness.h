@@ -6,9 +6,9 @@
  *   - one pair of function pointers: a member of `program`, and its function in `library` and in `reference`;
  *   - one run_ function, which hands the numbers and slices of a call to that member in the order of its parameters;
  *     of those that return a reason, `explain` does that, and their rows have NULL;
- *   - one row: the operation's name, its run_ function, what of m, a tile, a window, a class, a record and a key it
- *     takes, how many slices, and for each its name and the bytes in a cell, 1, 2, 4 or 8; and the row's place in
- *     `operations`.
+ *   - one row: the operation's name, its run_ function, what of m, a tile, a background, a window, a class, a record
+ *     and a key it takes, how many slices, and for each its name and the bytes in a cell, 1, 2, 4 or 8; and the row's
+ *     place in `operations`.
  * Declare the row below with the others. MOST_SLICES is as many slices as any of them has. A case then fills in a
  * `call` of the operation and hands it to `compare`.
  *
@@ -42,6 +42,7 @@ typedef struct operation operation;
 
 extern const operation CHECK, DECOMPOSE, OPEN, EXIST, REPORT, SELECT, MONTH_CLEAR, MONTH_ADD, READ, WRITE;
 extern const operation DECOMPOSE_TILED, OPEN_TILED, SELECT_TILED, WINDOWS, WHY_RECORD, WHY_BLOCK;
+extern const operation SPARSE_CHECK, SPARSE_OPEN, SPARSE_EXIST, SPARSE_REPORT, SPARSE_SELECT, SPARSE_READ, SPARSE_WRITE;
 
 enum { MOST_SLICES = 5 };
 
@@ -65,9 +66,14 @@ typedef struct {
     const operation *operation;
     uint32_t m, tile;
     window at;
-    uint32_t about; /* the class, the index of the record or the key of the block that is asked about */
+    uint32_t about; /* the class, the index of the record or the key of the block that is asked about; or `over` */
     given slices[MOST_SLICES];
 } call;
+
+/* A class that is asked about, and the background over which that is done, as one number; and what of it is which. */
+uint32_t over(uint8_t background, uint8_t of_class);
+uint8_t background_of(uint32_t about);
+uint8_t class_of(uint32_t about); /* also where there is no background */
 
 /*
  * One call, once with each garbage. Of every slice, written by the call or not, all cells and guards are compared. Of a

@@ -443,7 +443,7 @@ size_t length_of_file(size_t q)
 
 size_t make_file(uint8_t file[ROOM_FOR_FILE], const map *a)
 {
-    size_t n = reference_write(a->m, a->keys, a->q, a->classes, a->q, file, ROOM_FOR_FILE).first;
+    size_t n = reference_sparse_write(a->m, a->keys, a->q, a->classes, a->q, file, ROOM_FOR_FILE).first;
     memset(file + n, 0, 16);
     return n;
 }

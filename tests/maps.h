@@ -143,7 +143,7 @@ enum { HEADER = 20, ROOM_FOR_FILE = LUTNIORAD_FILE_BYTES(ROOM_FOR_RECORDS) };
 
 size_t length_of_file(size_t q);
 
-/* The file of a map, and zeros after it for the slices that are longer. Returns the length of the file. */
+/* The file of a map, sparse or not, and zeros after it for the slices that are longer. Returns its length. */
 size_t make_file(uint8_t file[ROOM_FOR_FILE], const map *a);
 
 enum { FIELDS = 5 }; /* of the header, numbered from 0 */

@@ -73,6 +73,23 @@ static lutniorad_answer select_tiled(void)
                                   totals, n_totals);
 }
 
+static lutniorad_answer sparse_report(void)
+{
+    return lutniorad_sparse_report(m, 0, keys, n_keys, classes, n_classes, r0, 1, 3, WIDTH, border, n_border, totals,
+                                   n_totals);
+}
+
+static lutniorad_answer sparse_open(void)
+{
+    return lutniorad_sparse_open(m, tile, keys, n_keys, classes, n_classes, r0, 1, 3, WIDTH, border, n_border, totals,
+                                 n_totals);
+}
+
+static lutniorad_answer sparse_read(void)
+{
+    return lutniorad_sparse_read(file, sizeof file, keys, n_keys, classes, n_classes);
+}
+
 static lutniorad_answer many(void)
 {
     return lutniorad_windows(m, keys, n_keys, classes, n_classes, list, n_list, border, n_border, totals, n_totals);
@@ -129,6 +146,11 @@ static void block_twice(void)
 static void last_removed(void)
 {
     n_keys = n_classes = Q - 1;
+}
+
+static void all_removed(void)
+{
+    n_keys = n_classes = 0;
 }
 
 static void sticks_out(void)
@@ -207,6 +229,16 @@ static const struct {
     {LUTNIORAD_NOT_MAXIMAL, 0, block_around_window, why_block},
     {LUTNIORAD_BAD_WINDOW_LIST, 0, list_cut_short, many},
     {LUTNIORAD_BAD_TABLE, 0, sum_of_no_map, add},
+    {LUTNIORAD_BAD_COUNT, 0, all_removed, report},
+    {LUTNIORAD_BAD_M, 0, no_such_m, sparse_report},
+    {LUTNIORAD_BAD_COUNT, 0, fewer_classes, sparse_report},
+    {LUTNIORAD_BAD_KEY, 1, key_of_no_block, sparse_report},
+    {LUTNIORAD_OVERLAP, 2, block_twice, sparse_report},
+    {LUTNIORAD_BAD_WINDOW, 0, sticks_out, sparse_report},
+    {LUTNIORAD_SHORT_BORDER, WIDTH, short_border, sparse_report},
+    {LUTNIORAD_SHORT_ROOM, LUTNIORAD_CLASSES, short_totals, sparse_report},
+    {LUTNIORAD_BAD_LAYOUT, 12, keys_elsewhere, sparse_read},
+    {LUTNIORAD_BAD_TILE, 0, tile_beyond_picture, sparse_open},
 };
 
 #define NAMED(name, number, sentence) {#name, number, sentence},
@@ -262,6 +294,18 @@ static void hold_refusals(void)
              "a number without a name has a sentence of its own, or one with a name has none");
 }
 
+/* A map with a gap, or without a record, is refused as that and taken as a sparse one. */
+static void hold_sparse(void)
+{
+    static void (*const removed[])(void) = {last_removed, all_removed};
+    for (size_t i = 0; i < COUNT(removed); i++) {
+        begin();
+        removed[i]();
+        hold(report().refusal != LUTNIORAD_ANSWERED, "LUTNIORAD_GAP", "a map that is not complete is taken");
+        hold_answer(sparse_report(), 0, 0, 3 * WIDTH, "a sparse map");
+    }
+}
+
 /* ---- What is said ---- */
 
 /* On the map as it is begun: of records, and at last of blocks, for windows of one row. */
@@ -291,13 +335,18 @@ static void hold_said(void)
 
 /* ---- Limits ---- */
 
-static even_map a;
+static even_map a, b;
 static uint16_t wide[LUTNIORAD_MOST_SIDE];
 static uint8_t bytes[LUTNIORAD_MOST_FILE_BYTES + 1];
 
 static lutniorad_answer check(uint32_t of_m, size_t q)
 {
     return lutniorad_check(of_m, a.keys, q, a.classes, q);
+}
+
+static lutniorad_answer sparse_check(size_t q)
+{
+    return lutniorad_sparse_check(a.m, a.keys, q, a.classes, q);
 }
 
 static lutniorad_answer decompose(uint16_t h, uint16_t w)
@@ -332,6 +381,8 @@ static void hold_longest(void)
     make_even_map(&a, 8, 8, 1);
     hold_answer(check(a.m, q), 0, 0, q, "LUTNIORAD_MOST_RECORDS");
     hold_answer(check(a.m, (size_t)q + 1), LUTNIORAD_BAD_COUNT, 0, 0, "LUTNIORAD_MOST_RECORDS");
+    hold_answer(sparse_check(q), 0, 0, q, "LUTNIORAD_MOST_RECORDS");
+    hold_answer(sparse_check((size_t)q + 1), LUTNIORAD_BAD_COUNT, 0, 0, "LUTNIORAD_MOST_RECORDS");
     hold_answer(lutniorad_write(a.m, a.keys, q, a.classes, q, bytes, sizeof bytes), 0, 0, n,
                 "LUTNIORAD_MOST_FILE_BYTES");
     hold_answer(lutniorad_read(bytes, n, a.keys, q, a.classes, q), 0, 0, a.m, "LUTNIORAD_MOST_FILE_BYTES");
@@ -456,10 +507,46 @@ static void hold_tiled_room(uint32_t c, uint16_t row, uint16_t col, uint16_t h, 
     hold(listed.refusal == 0 && listed.first < a.q + most, "LUTNIORAD_SELECT_TILED_CELLS", "it is not enough");
 }
 
+/* Leaves every second record out, so that no gap is joined with another. Those left have the background's class. */
+static void make_gaps(void)
+{
+    b.m = a.m;
+    b.q = 0;
+    for (size_t i = 0; i < a.q; i += 2, b.q++) {
+        b.keys[b.q] = a.keys[i];
+        b.classes[b.q] = a.classes[i];
+    }
+}
+
+/*
+ * On the map with gaps, and on one without records, on which each maximal block is an opening. Where records and gaps
+ * are pixels, each pixel of the window is listed.
+ */
+static void hold_sparse_room(uint32_t c, uint16_t row, uint16_t col, uint16_t h, uint16_t w)
+{
+    const uint32_t pixels = (uint32_t)h * w;
+    const size_t most = LUTNIORAD_OPEN_TILED_CELLS(c, h, w);
+    lutniorad_answer cut = lutniorad_decompose_tiled(b.m, c, row, col, h, w, tiled_blocks, COUNT(tiled_blocks));
+    lutniorad_answer opened =
+        lutniorad_sparse_open(b.m, c, b.keys, b.q, b.classes, b.q, row, col, h, w, wide, w, tiled_openings, most);
+    lutniorad_answer empty =
+        lutniorad_sparse_open(b.m, c, b.keys, 0, b.classes, 0, row, col, h, w, wide, w, tiled_openings, most);
+    lutniorad_answer listed = lutniorad_sparse_select(b.m, c, 1, b.keys, b.q, b.classes, b.q, row, col, h, w, 1, wide,
+                                                      w, tiled_selected, pixels);
+    lutniorad_answer others = lutniorad_sparse_select(b.m, c, 2, b.keys, b.q, b.classes, b.q, row, col, h, w, 1, wide,
+                                                      w, tiled_selected, LUTNIORAD_SELECT_TILED_CELLS(c, b.q, h, w));
+    hold(opened.refusal == 0 && 3 * opened.first < most, "LUTNIORAD_OPEN_TILED_CELLS", "with gaps it is not enough");
+    hold_answer(empty, 0, 0, cut.first, "LUTNIORAD_OPEN_TILED_CELLS");
+    hold(listed.refusal == 0 && listed.first <= pixels, "a cell for each pixel", "that is not enough");
+    hold(a.q < (size_t)1 << 2 * a.m || listed.first == pixels, "pixels that are records and gaps", "some are joined");
+    hold(others.refusal == 0, "LUTNIORAD_SELECT_TILED_CELLS", "it is not enough for a class that is not in gaps");
+}
+
 static void hold_room_of_every_window(uint32_t of_m, uint32_t level)
 {
     uint16_t side = (uint16_t)(1 << of_m);
     make_even_map(&a, of_m, level, 1);
+    make_gaps();
     hold_answer(lutniorad_write(a.m, a.keys, a.q, a.classes, a.q, bytes, LUTNIORAD_FILE_BYTES(a.q)), 0, 0,
                 (uint32_t)LUTNIORAD_FILE_BYTES(a.q), "LUTNIORAD_FILE_BYTES");
     for (uint16_t row = 0; row < side; row++)
@@ -467,8 +554,10 @@ static void hold_room_of_every_window(uint32_t of_m, uint32_t level)
             for (uint16_t h = 1; row + h <= side; h++)
                 for (uint16_t w = 1; col + w <= side; w++) {
                     hold_room(row, col, h, w);
-                    for (uint32_t c = 0; c <= of_m; c++)
+                    for (uint32_t c = 0; c <= of_m; c++) {
                         hold_tiled_room(c, row, col, h, w);
+                        hold_sparse_room(c, row, col, h, w);
+                    }
                 }
 }
 
@@ -504,6 +593,7 @@ static void hold_most_blocks(void)
 int main(void)
 {
     hold_refusals();
+    hold_sparse();
     hold_said();
     hold_sizes();
     hold_longest();

@@ -4,6 +4,15 @@
 
 static uint32_t raster[MOST_PIXELS];
 
+/* The raster of the window's records. */
+static void paint_map(const map *a, bool sparse, window at)
+{
+    if (sparse)
+        require(reference_sparse_raster(a->m, a->keys, a->q, at, raster), "a sparse map paints a pixel twice");
+    else
+        require(reference_raster(a->m, a->keys, a->q, at, raster), "a sound map does not paint every pixel once");
+}
+
 /* Two fewer than 4(w + h) + wh/4^tile: so without a tile, where wh/4^m is at most 1, fewer than 4(w + h). */
 static size_t most_blocks(uint32_t tile, window at)
 {
@@ -37,7 +46,6 @@ static size_t mark_handed_out(size_t q, const uint32_t *openings, size_t n, bool
         handed_out[i] = false;
     for (size_t i = 0; i < n; i++) {
         size_t first = openings[3 * i + 1], count = openings[3 * i + 2];
-        require(count >= 1, "an opening hands out no record");
         require(first + count <= q, "an opening hands out records that the map does not have");
         for (size_t k = first; k < first + count; k++) {
             require(!handed_out[k], "a record is handed out twice");
@@ -55,9 +63,47 @@ static void require_just_these(size_t q, window at, const bool *handed_out)
     for (size_t i = 0; i < q; i++)
         has_a_pixel[i] = false;
     for (size_t p = 0; p < (size_t)at.h * at.w; p++)
-        has_a_pixel[raster[p]] = true;
+        if (raster[p] != NO_RECORD)
+            has_a_pixel[raster[p]] = true;
     for (size_t i = 0; i < q; i++)
         require(has_a_pixel[i] == handed_out[i], "another record is handed out than those with a pixel in the window");
+}
+
+/* ---- Empty openings ---- */
+
+/* The maximal blocks of the window at hand, as many as the independent program lists; and where each pixel lies. */
+static uint32_t maximal[LUTNIORAD_DECOMPOSE_TILED_CELLS(4, LUTNIORAD_MOST_SIDE, LUTNIORAD_MOST_SIDE)];
+static uint32_t block_raster[MOST_PIXELS];
+
+static size_t list_maximal(uint32_t m, uint32_t tile, window at)
+{
+    size_t n = reference_decompose_tiled(m, tile, at.r0, at.c0, at.h, at.w, maximal, COUNT(maximal)).first;
+    require(reference_raster(m, maximal, n, at, block_raster), "the maximal blocks do not have each pixel once");
+    return n;
+}
+
+/* With the raster of the window's records. Returns how many openings are empty. */
+static size_t require_empty(uint32_t m, uint32_t tile, window at, const uint32_t *openings, size_t n)
+{
+    static bool has_record[COUNT(maximal)];
+    size_t blocks = list_maximal(m, tile, at), k = 0, empty = 0;
+    for (size_t i = 0; i < blocks; i++)
+        has_record[i] = false;
+    for (size_t p = 0; p < (size_t)at.h * at.w; p++)
+        if (raster[p] != NO_RECORD)
+            has_record[block_raster[p]] = true;
+    for (size_t i = 0; i < blocks; i++) {
+        const bool opened = k < n && openings[3 * k] == maximal[i];
+        require(opened || has_record[i], "a maximal block without a record is not opened");
+        if (opened) {
+            require(has_record[i] == (openings[3 * k + 2] > 0), "a block is opened as empty, and it is not");
+            require(has_record[i] || openings[3 * k + 1] == 0, "an empty opening has a first record");
+            empty += !has_record[i];
+            k++;
+        }
+    }
+    require(k == n, "the openings are not in the order of the maximal blocks");
+    return empty;
 }
 
 /* ---- The fewest blocks ---- */
@@ -79,14 +125,14 @@ static int size_of(choice blocks)
 /* With the raster of the window's records: for each record that has a pixel in the window, the blocks that bring it. */
 static size_t blocks_that_bring(const map *a, window at, const uint32_t *blocks, size_t n, choice *bring)
 {
-    static uint32_t block_raster[FEW_PIXELS];
     static choice of_record[MOST_RECORDS];
     size_t n_bring = 0;
     require(reference_raster(a->m, blocks, n, at, block_raster), "the maximal blocks do not have each pixel once");
     for (size_t i = 0; i < a->q; i++)
         of_record[i] = 0;
     for (size_t p = 0; p < (size_t)at.h * at.w; p++)
-        of_record[raster[p]] |= (choice)(1 << block_raster[p]);
+        if (raster[p] != NO_RECORD)
+            of_record[raster[p]] |= (choice)(1 << block_raster[p]);
     for (size_t i = 0; i < a->q; i++) {
         bool is_new = of_record[i] != 0;
         for (size_t k = 0; k < n_bring; k++)
@@ -120,15 +166,28 @@ static void require_fewest(const map *a, uint32_t tile, window at, size_t openin
             require(!brings_all((choice)k, bring, n_bring), "fewer maximal blocks would bring all records");
 }
 
-void require_opened(const map *a, uint32_t tile, window at, lutniorad_answer answer, const uint32_t *openings)
+/* Each brings a record. */
+static void require_records(const uint32_t *openings, size_t n)
+{
+    for (size_t i = 0; i < n; i++)
+        require(openings[3 * i + 2] >= 1, "an opening hands out no record");
+}
+
+void require_opened(const map *a, bool sparse, uint32_t tile, window at, lutniorad_answer answer,
+                    const uint32_t *openings)
 {
     static bool handed_out[MOST_RECORDS];
-    require_maximal(a->m, tile, at, openings, 3, answer.first);
-    size_t records = mark_handed_out(a->q, openings, answer.first, handed_out);
+    size_t n = answer.first;
+    require_maximal(a->m, tile, at, openings, 3, n);
+    size_t records = mark_handed_out(a->q, openings, n, handed_out);
     require(records == answer.second, "the openings hand out another number of records than the answer says");
-    require(reference_raster(a->m, a->keys, a->q, at, raster), "a sound map does not paint every pixel once");
+    paint_map(a, sparse, at);
     require_just_these(a->q, at, handed_out);
-    require_fewest(a, tile, at, answer.first);
+    if (sparse)
+        n -= require_empty(a->m, tile, at, openings, n);
+    else
+        require_records(openings, n);
+    require_fewest(a, tile, at, n);
 }
 
 /* ---- Reasons ---- */
@@ -240,13 +299,100 @@ void require_reported(window at, lutniorad_answer answer, const uint32_t *totals
     require(sum == answer.first, "the totals do not add up to what the answer says");
 }
 
+/* Each of a block inside the window, and no larger than a tile. */
+static void require_inside(uint32_t m, uint32_t tile, window at, const uint32_t *keys, size_t n)
+{
+    for (size_t i = 0; i < n; i++) {
+        require(reference_lies_in(m, keys[i], at), "there is a key of no block inside the window");
+        require(side_of_block(m, keys[i]) <= side_of(tile), "there is a key of a block that is larger than a tile");
+    }
+}
+
 void require_selected(const map *a, uint32_t tile, window at, const uint32_t *keys, size_t n)
 {
     require(n <= a->q + most_blocks(tile, at), "there are more keys than Q + 4(w + h) + wh/4^tile - 2");
-    for (size_t i = 0; i < n; i++) {
-        require(reference_lies_in(a->m, keys[i], at), "there is a key of no block inside the window");
-        require(side_of_block(a->m, keys[i]) <= side_of(tile), "there is a key of a block that is larger than a tile");
+    require_inside(a->m, tile, at, keys, n);
+}
+
+/* With the raster of the window's records: the class of a pixel, over this background. */
+static bool has_class(const map *a, size_t pixel, uint32_t about)
+{
+    uint8_t is = raster[pixel] == NO_RECORD ? background_of(about) : a->classes[raster[pixel]];
+    return is == class_of(about);
+}
+
+/* Of a block that begins at this pixel, the one at a place in the order of keys: two bits of that for each halving. */
+static size_t pixel_at(window at, size_t first, size_t place)
+{
+    size_t row = 0, col = 0;
+    for (size_t side = 1; place > 0; place /= 4, side *= 2) {
+        row += place / 2 % 2 * side;
+        col += place % 2 * side;
     }
+    return first + row * at.w + col;
+}
+
+/*
+ * With the raster of the window's records, the fewest blocks that make up the gaps of a block of so many places, which
+ * begins at this pixel. From each place in a gap, a block of 4^i places that begins at a multiple of so many, and then
+ * the fewest from there on, if all that is in the gap: each i is tried.
+ */
+static size_t fewest_of_gaps(window at, size_t first, size_t places)
+{
+    static size_t fewest[FEW_PIXELS + 1], ends[FEW_PIXELS + 1];
+    size_t sum = 0;
+    fewest[places] = ends[places] = 0;
+    for (size_t place = places; place-- > 0;) {
+        const bool in_gap = raster[pixel_at(at, first, place)] == NO_RECORD, goes_on = ends[place + 1] > 0;
+        const bool begins = in_gap && (place == 0 || raster[pixel_at(at, first, place - 1)] != NO_RECORD);
+        fewest[place] = in_gap ? SIZE_MAX : 0;
+        ends[place] = !in_gap ? 0 : goes_on ? ends[place + 1] : place + 1;
+        for (size_t n = 1; in_gap && place % n == 0 && place + n <= ends[place]; n *= 4)
+            if (1 + fewest[place + n] < fewest[place])
+                fewest[place] = 1 + fewest[place + n];
+        sum += begins ? fewest[place] : 0;
+    }
+    return sum;
+}
+
+/* With the raster of the window's records, in a small window: as many keys as a maximal block must have selected. */
+static size_t keys_of_block(const map *a, window at, size_t first, size_t places, uint32_t about)
+{
+    size_t n = class_of(about) == background_of(about) ? fewest_of_gaps(at, first, places) : 0;
+    uint32_t last = NO_RECORD; /* the pixels of a record follow one another in the order of keys */
+    for (size_t place = 0; place < places; place++) {
+        size_t pixel = pixel_at(at, first, place);
+        n += raster[pixel] != NO_RECORD && raster[pixel] != last && has_class(a, pixel, about);
+        last = raster[pixel];
+    }
+    return n;
+}
+
+static size_t keys_of_window(const map *a, uint32_t tile, window at, uint32_t about)
+{
+    size_t blocks = list_maximal(a->m, tile, at), met = 0, sum = 0;
+    for (size_t p = 0; p < (size_t)at.h * at.w; p++)
+        if (block_raster[p] == met) { /* its first pixel: blocks come by the row and column of their corners */
+            size_t side = side_of_block(a->m, maximal[met++]);
+            sum += keys_of_block(a, at, p, side * side, about);
+        }
+    require(met == blocks, "the maximal blocks are not in their order");
+    return sum;
+}
+
+void require_sparse_selected(const map *a, uint32_t tile, window at, uint32_t about, const uint32_t *keys, size_t n)
+{
+    const size_t pixels = (size_t)at.h * at.w;
+    static uint32_t selected[MOST_PIXELS];
+    require(n <= pixels, "there are more keys than pixels");
+    require_inside(a->m, tile, at, keys, n);
+    require(reference_sparse_raster(a->m, keys, n, at, selected), "a pixel is selected twice");
+    paint_map(a, true, at);
+    for (size_t p = 0; p < pixels; p++)
+        require((selected[p] != NO_RECORD) == has_class(a, p, about),
+                "a pixel of the class is not selected, or one of another is");
+    if (pixels <= FEW_PIXELS)
+        require(n == keys_of_window(a, tile, at, about), "there are other than the fewest blocks of each gap");
 }
 
 void require_agreement(uint32_t existence, uint8_t of_class, const uint32_t *totals)

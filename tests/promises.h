@@ -22,9 +22,11 @@ void require_decomposed(uint32_t m, uint32_t tile, window at, const uint32_t *ke
 /*
  * The openings of a window on a sound map: fewer than 4(w + h) + wh/4^tile of them, each at a maximal block and with a
  * record of its own; each record with a pixel in the window handed out once, and no other; as many as the answer says;
- * and no fewer blocks bring them all.
+ * and no fewer blocks bring them all. On a sparse map that is so of the openings with records; and just the maximal
+ * blocks without a pixel of a record are empty openings, which have 0 for the first record and 0 records.
  */
-void require_opened(const map *a, uint32_t tile, window at, lutniorad_answer answer, const uint32_t *openings);
+void require_opened(const map *a, bool sparse, uint32_t tile, window at, lutniorad_answer answer,
+                    const uint32_t *openings);
 
 /*
  * What is said of a record, or of a block, is so of the lists that the library itself gives for the window on this map,
@@ -43,6 +45,14 @@ void require_reported(window at, lutniorad_answer answer, const uint32_t *totals
  * fewer than Q + 4(w + h) + wh/4^tile.
  */
 void require_selected(const map *a, uint32_t tile, window at, const uint32_t *keys, size_t n);
+
+/*
+ * n keys, selected from a window on a sparse map by a class over a background: each of a block inside the window that
+ * is no larger than a tile; no pixel in two of them, and in one just the pixels of the class. In small windows: as many
+ * as there are, in each maximal block, records with a pixel there that have the class, and for the background blocks
+ * in each gap if they are the fewest.
+ */
+void require_sparse_selected(const map *a, uint32_t tile, window at, uint32_t about, const uint32_t *keys, size_t n);
 
 /*
  * What exist answered about a class of a window, against the totals that were reported of the same window: yes exactly

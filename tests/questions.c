@@ -36,17 +36,23 @@ lutniorad_answer compare_decompose_tiled(uint32_t m, uint32_t tile, window at, s
 
 /* ---- One question ---- */
 
-const operation *const questions[] = {&OPEN,       &EXIST,        &REPORT,     &SELECT,
-                                      &OPEN_TILED, &SELECT_TILED, &WHY_RECORD, &WHY_BLOCK};
+const operation *const questions[] = {&OPEN,          &EXIST,         &REPORT,      &SELECT,
+                                      &OPEN_TILED,    &SELECT_TILED,  &SPARSE_OPEN, &SPARSE_EXIST,
+                                      &SPARSE_REPORT, &SPARSE_SELECT, &WHY_RECORD,  &WHY_BLOCK};
 
 bool opens(const operation *o)
 {
-    return o == &OPEN || o == &OPEN_TILED;
+    return o == &OPEN || o == &OPEN_TILED || o == &SPARSE_OPEN;
+}
+
+static bool reports(const operation *o)
+{
+    return o == &REPORT || o == &SPARSE_REPORT;
 }
 
 static bool selects(const operation *o)
 {
-    return o == &SELECT || o == &SELECT_TILED;
+    return o == &SELECT || o == &SELECT_TILED || o == &SPARSE_SELECT;
 }
 
 /* The same question without a tile, or NULL where it has none. */
@@ -55,27 +61,94 @@ static const operation *without_tile(const operation *o)
     return o == &OPEN_TILED ? &OPEN : o == &SELECT_TILED ? &SELECT : NULL;
 }
 
+/* The same question on a complete map, or NULL where it is that. */
+static const operation *without_gaps(const operation *o)
+{
+    return o == &SPARSE_OPEN     ? &OPEN_TILED
+           : o == &SPARSE_EXIST  ? &EXIST
+           : o == &SPARSE_REPORT ? &REPORT
+           : o == &SPARSE_SELECT ? &SELECT_TILED
+                                 : NULL;
+}
+
+static bool takes_tile(const operation *o)
+{
+    return o == &SPARSE_OPEN || o == &SPARSE_SELECT || without_tile(o) != NULL;
+}
+
+/* What is promised of an answer to the last question. */
+static void require_promises(question q, lutniorad_answer answer)
+{
+    const uint32_t tile = takes_tile(q.operation) ? q.tile : q.map->m;
+    if (opens(q.operation))
+        require_opened(q.map, q.operation == &SPARSE_OPEN, tile, q.at, answer, left(3));
+    if (reports(q.operation))
+        require_reported(q.at, answer, left(3));
+    if (q.operation == &SPARSE_SELECT)
+        require_sparse_selected(q.map, tile, q.at, q.about, left(3), answer.first);
+    else if (selects(q.operation))
+        require_selected(q.map, tile, q.at, left(3), answer.first);
+}
+
+/* For the header's macros, which take no larger one. A larger one is refused, whatever room there is. */
+static uint32_t tile_of_some_picture(uint32_t tile)
+{
+    return tile < LUTNIORAD_MOST_M ? tile : LUTNIORAD_MOST_M;
+}
+
+/* What the header calls enough besides enough_for, of opening and of any class but the background. */
+static void require_more_room(question q, lutniorad_answer answer, size_t n_out)
+{
+    if (q.operation == &OPEN_TILED)
+        require_room(answer, n_out, 3 * q.map->q);
+    if (q.operation == &SPARSE_SELECT && class_of(q.about) != background_of(q.about))
+        require_room(answer, n_out,
+                     LUTNIORAD_SELECT_TILED_CELLS(tile_of_some_picture(q.tile), q.map->q, q.at.h, q.at.w));
+}
+
+/* Is the map refused neither for a gap nor for having no record? Then a sparse one is refused as a complete one is. */
+static bool may_be_complete(uint32_t m, given keys, given classes)
+{
+    if (keys.length == 0 && classes.length == 0)
+        return false;
+    return reference_check(m, keys.content, keys.length, classes.content, classes.length).refusal != LUTNIORAD_GAP;
+}
+
+/* The last question once more, as it is asked without a tile, or on a complete map, where that must be the same. */
+static void ask_without(question q, given keys, given classes, lutniorad_answer answer)
+{
+    const operation *tileless = without_tile(q.operation), *gapless = without_gaps(q.operation);
+    if (tileless != NULL && q.tile == q.map->m)
+        compare_with(tileless, answer);
+    if (gapless != NULL && may_be_complete(q.map->m, keys, classes))
+        compare_with(gapless, answer);
+}
+
+/* The first n records of a map, which are all that it was asked of: a sparse one may be answered so. */
+static const map *records_asked(const map *a, size_t n)
+{
+    static map part;
+    if (n == a->q)
+        return a;
+    copy_records(&part, a->m, n, a->keys, a->classes);
+    return &part;
+}
+
 static lutniorad_answer compare_question(question q, given keys, given classes, given border, given out)
 {
     call c = {q.operation, q.map->m, q.tile, q.at, q.about, {keys, classes, border, out}};
-    const operation *without = without_tile(q.operation);
-    uint32_t tile = without != NULL ? q.tile : q.map->m;
     lutniorad_answer answer = compare(c);
+    if (answer.refusal == 0)
+        q.map = records_asked(q.map, keys.length);
     require_room(answer, out.length, enough_for(q));
-    if (q.operation == &OPEN_TILED)
-        require_room(answer, out.length, 3 * q.map->q);
-    if (answer.refusal == 0 && opens(q.operation))
-        require_opened(q.map, tile, q.at, answer, left(3));
-    if (answer.refusal == 0 && q.operation == &REPORT)
-        require_reported(q.at, answer, left(3));
-    if (answer.refusal == 0 && selects(q.operation))
-        require_selected(q.map, tile, q.at, left(3), answer.first);
+    require_more_room(q, answer, out.length);
+    if (answer.refusal == 0)
+        require_promises(q, answer);
     if (q.operation == &WHY_RECORD)
         require_said_of_record(q.map, q.at, q.about, last_reason());
     if (q.operation == &WHY_BLOCK)
         require_said_of_block(q.map, q.at, q.about, last_reason());
-    if (without != NULL && q.tile == q.map->m)
-        compare_with(without, answer);
+    ask_without(q, keys, classes, answer);
     return answer;
 }
 
@@ -96,26 +169,28 @@ size_t enough(window at)
     return LUTNIORAD_DECOMPOSE_CELLS(at.h, at.w);
 }
 
-/* For the header's macros, which take no larger one. A larger one is refused, whatever room there is. */
-static uint32_t tile_of_some_picture(uint32_t tile)
-{
-    return tile < LUTNIORAD_MOST_M ? tile : LUTNIORAD_MOST_M;
-}
-
 size_t enough_tiled(uint32_t tile, window at)
 {
     return LUTNIORAD_DECOMPOSE_TILED_CELLS(tile_of_some_picture(tile), at.h, at.w);
 }
 
+/* A cell for each pixel, as the header has it; but no case has a larger window with more keys than this. */
+static size_t enough_for_sparse(window at)
+{
+    const size_t pixels = (size_t)at.h * at.w, most = (size_t)1 << 16;
+    return pixels < most ? pixels : most;
+}
+
 size_t enough_for(question q)
 {
     const uint32_t tile = tile_of_some_picture(q.tile);
-    return q.operation == &OPEN           ? LUTNIORAD_OPEN_CELLS(q.at.h, q.at.w)
-           : q.operation == &REPORT       ? LUTNIORAD_CLASSES
-           : q.operation == &SELECT       ? LUTNIORAD_SELECT_CELLS(q.map->q, q.at.h, q.at.w)
-           : q.operation == &OPEN_TILED   ? LUTNIORAD_OPEN_TILED_CELLS(tile, q.at.h, q.at.w)
-           : q.operation == &SELECT_TILED ? LUTNIORAD_SELECT_TILED_CELLS(tile, q.map->q, q.at.h, q.at.w)
-                                          : 0;
+    return q.operation == &OPEN            ? LUTNIORAD_OPEN_CELLS(q.at.h, q.at.w)
+           : reports(q.operation)          ? LUTNIORAD_CLASSES
+           : q.operation == &SELECT        ? LUTNIORAD_SELECT_CELLS(q.map->q, q.at.h, q.at.w)
+           : opens(q.operation)            ? LUTNIORAD_OPEN_TILED_CELLS(tile, q.at.h, q.at.w)
+           : q.operation == &SELECT_TILED  ? LUTNIORAD_SELECT_TILED_CELLS(tile, q.map->q, q.at.h, q.at.w)
+           : q.operation == &SPARSE_SELECT ? enough_for_sparse(q.at)
+                                           : 0;
 }
 
 static lutniorad_answer answer_in_full(question q)
@@ -125,11 +200,11 @@ static lutniorad_answer answer_in_full(question q)
 
 static size_t cells_of(question q, lutniorad_answer answer)
 {
-    return answer.refusal != 0      ? 0
-           : opens(q.operation)     ? 3 * (size_t)answer.first
-           : q.operation == &REPORT ? CLASSES
-           : selects(q.operation)   ? answer.first
-                                    : 0;
+    return answer.refusal != 0    ? 0
+           : opens(q.operation)   ? 3 * (size_t)answer.first
+           : reports(q.operation) ? CLASSES
+           : selects(q.operation) ? answer.first
+                                  : 0;
 }
 
 size_t ask_in_full(question q)
@@ -231,12 +306,37 @@ static uint32_t something_to_explain(const operation *o, const map *a, window at
     return kind == 1 ? block + 1 : kind == 2 ? a->keys[record] : block;
 }
 
+uint32_t some_class_over(const map *a)
+{
+    const uint8_t background = some_class(a);
+    return over(background, below(3) == 0 ? background : some_class(a));
+}
+
 question some_question(const operation *o, const map *a, window at)
 {
     const bool explains = o == &WHY_RECORD || o == &WHY_BLOCK;
-    uint32_t about = explains ? something_to_explain(o, a, at) : some_class(a);
+    uint32_t about = explains                  ? something_to_explain(o, a, at)
+                     : without_gaps(o) != NULL ? some_class_over(a)
+                                               : some_class(a);
     question q = {o, a, some_tile(a->m, at), at, about};
     return q;
+}
+
+void ask_over_old_contents(const map *a, window at, const operation *const *asked, size_t n)
+{
+    const int olds[] = {0, at.r0, at.r0 + 1, at.r0 + at.h - 1, at.r0 + at.h, at.r0 + at.h + 1, UINT16_MAX};
+    for (size_t i = 0; i < n * COUNT(olds); i++)
+        ask_over(some_question(asked[i % n], a, at), (uint16_t)olds[i / n]);
+}
+
+void ask_inside_and_outside(const operation *o, const map *a)
+{
+    const window windows[] = {whole_picture(a->m), {0, 0, 1, 1}, {0, 0, 0, 1}, {65535, 0, 1, 1}};
+    for (size_t i = 0; i < COUNT(windows); i++) {
+        question q = some_question(o, a, windows[i]);
+        ask_in_full(q);
+        ask(q, 0, 0);
+    }
 }
 
 /* ---- Reasons together ---- */
@@ -285,27 +385,31 @@ void ask_with_reasons_together(window at, const need *needs, size_t n)
 
 /* ---- Questions together ---- */
 
-lutniorad_answer take_totals(const map *a, window at, uint32_t totals[CLASSES])
+/* These three on a complete map or on a sparse one, and the last with a tile or without. */
+static lutniorad_answer ask_report(question q, uint32_t totals[CLASSES])
 {
-    question report = {&REPORT, a, NO_TILE, at, NO_CLASS};
-    lutniorad_answer answer = answer_in_full(report);
+    lutniorad_answer answer = answer_in_full(q);
     if (answer.refusal == 0)
         memcpy(totals, left(3), CLASSES * sizeof *totals);
     return answer;
 }
 
-static void ask_exist(const map *a, window at, uint8_t of_class, const uint32_t totals[CLASSES])
+static void ask_exist(question q, const uint32_t totals[CLASSES])
 {
-    question exist = {&EXIST, a, NO_TILE, at, of_class};
-    require_agreement(answer_in_full(exist).first, of_class, totals);
+    require_agreement(answer_in_full(q).first, class_of(q.about), totals);
 }
 
-/* With a tile or without. */
 static void ask_select(question q, const uint32_t totals[CLASSES])
 {
     lutniorad_answer answer = answer_in_full(q);
     if (answer.refusal == 0)
-        require_as_reported(q.map->m, left(3), answer.first, totals[q.about]);
+        require_as_reported(q.map->m, left(3), answer.first, totals[class_of(q.about)]);
+}
+
+lutniorad_answer take_totals(const map *a, window at, uint32_t totals[CLASSES])
+{
+    question report = {&REPORT, a, NO_TILE, at, NO_CLASS};
+    return ask_report(report, totals);
 }
 
 void try_exist(const map *a, window at, const uint8_t *asked, size_t n)
@@ -313,8 +417,10 @@ void try_exist(const map *a, window at, const uint8_t *asked, size_t n)
     uint32_t totals[CLASSES];
     if (take_totals(a, at, totals).refusal != 0)
         return;
-    for (size_t i = 0; i < n; i++)
-        ask_exist(a, at, asked[i], totals);
+    for (size_t i = 0; i < n; i++) {
+        question exist = {&EXIST, a, NO_TILE, at, asked[i]};
+        ask_exist(exist, totals);
+    }
 }
 
 void try_queries(const map *a, window at, const uint8_t *asked, size_t n)
@@ -323,8 +429,8 @@ void try_queries(const map *a, window at, const uint8_t *asked, size_t n)
     if (take_totals(a, at, totals).refusal != 0)
         return;
     for (size_t i = 0; i < n; i++) {
-        question select = {&SELECT, a, NO_TILE, at, asked[i]};
-        ask_exist(a, at, asked[i], totals);
+        question exist = {&EXIST, a, NO_TILE, at, asked[i]}, select = {&SELECT, a, NO_TILE, at, asked[i]};
+        ask_exist(exist, totals);
         ask_select(select, totals);
     }
 }
@@ -341,6 +447,22 @@ void try_tile(const map *a, uint32_t tile, window at, const uint8_t *asked, size
         question select = {&SELECT_TILED, a, tile, at, asked[i]};
         ask_select(select, totals);
     }
+}
+
+lutniorad_answer try_sparse(const map *a, uint32_t tile, window at, uint8_t background, const uint8_t *asked, size_t n,
+                            uint32_t totals[CLASSES])
+{
+    question open = {&SPARSE_OPEN, a, tile, at, NO_CLASS};
+    question report = {&SPARSE_REPORT, a, NO_TILE, at, over(background, NO_CLASS)};
+    ask_in_full(open);
+    lutniorad_answer answer = ask_report(report, totals);
+    for (size_t i = 0; answer.refusal == 0 && i < n; i++) {
+        question exist = {&SPARSE_EXIST, a, NO_TILE, at, over(background, asked[i])};
+        question select = {&SPARSE_SELECT, a, tile, at, over(background, asked[i])};
+        ask_exist(exist, totals);
+        ask_select(select, totals);
+    }
+    return answer;
 }
 
 void try_window(const map *a, window at, uint8_t of_class)

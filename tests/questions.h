@@ -1,7 +1,8 @@
 /*
  * Calls about windows: decomposing one, and the questions that are asked about one on a map, which are OPEN, EXIST,
- * REPORT and SELECT, two of them with a tile, and WHY_RECORD and WHY_BLOCK. Each call is compared, and what it answers
- * is held against what is promised of it; and one with the tile m against the call without a tile.
+ * REPORT and SELECT, two of them with a tile, all of them on a sparse map, and WHY_RECORD and WHY_BLOCK. Each call is
+ * compared, and what it answers is held against what is promised of it; one with the tile m against the call without a
+ * tile; and one on a sparse map that is complete against the call for such.
  */
 #ifndef QUESTIONS_H
 #define QUESTIONS_H
@@ -13,21 +14,24 @@ lutniorad_answer compare_decompose(uint32_t m, window at, size_t n_out);
 lutniorad_answer compare_decompose_tiled(uint32_t m, uint32_t tile, window at, size_t n_out);
 
 /* To the last two the answer is a reason. */
-enum { QUESTIONS = 8, ANSWERS = QUESTIONS - 2 };
+enum { QUESTIONS = 12, ANSWERS = QUESTIONS - 2 };
 extern const operation *const questions[QUESTIONS];
 
-bool opens(const operation *o); /* with a tile or without */
+bool opens(const operation *o); /* with a tile or without, and on a sparse map too */
 
 typedef struct {
     const operation *operation;
     const map *map;
     uint32_t tile; /* for those that take one */
     window at;
-    uint32_t about; /* for those that take one: the class, the record or the block */
+    uint32_t about; /* for those that take one: the class, over a background or not, the record or the block */
 } question;
 
 /* With some tile, and about something: mostly a class or a record of the map, or a maximal block of the window. */
 question some_question(const operation *o, const map *a, window at);
+
+/* A background and a class, mostly those of records, and often the same. */
+uint32_t some_class_over(const map *a);
 
 lutniorad_answer ask(question q, size_t n_border, size_t n_out);
 
@@ -47,6 +51,12 @@ size_t ask_too_short(question q);
 
 /* Asks about a small window, on slices a little longer than that, with this in each cell of border and answer slice. */
 void ask_over(question q, uint16_t old);
+
+/* Asks n questions so, each over the border as it is before the work, on its way and in the end, or elsewhere. */
+void ask_over_old_contents(const map *a, window at, const operation *const *asked, size_t n);
+
+/* Asks about windows inside and outside, on a border and an answer slice that are long enough, and on empty ones. */
+void ask_inside_and_outside(const operation *o, const map *a);
 
 /* A length that is too short by one, or 0 if it would be less. */
 size_t too_short(size_t length);
@@ -87,6 +97,13 @@ void try_queries(const map *a, window at, const uint8_t *asked, size_t n);
 
 /* With a tile: decomposing, open, and select about n classes, which must fit what is reported. */
 void try_tile(const map *a, uint32_t tile, window at, const uint8_t *asked, size_t n);
+
+/*
+ * On a sparse map, over a background: open, report, and exist and select about n classes, which must fit what is
+ * reported. Where that is answered, the totals are kept.
+ */
+lutniorad_answer try_sparse(const map *a, uint32_t tile, window at, uint8_t background, const uint8_t *asked, size_t n,
+                            uint32_t totals[CLASSES]);
 
 /* For the answers written out: the reference map, with another m if it is not 2; at m = 0 the map of one pixel. */
 void make_stated_map(map *a, uint32_t m);

@@ -92,40 +92,81 @@ static square block_of(const uint64_t digits[MOST_DIGITS], uint64_t m)
 
 /* ---- Maps ---- */
 
-/* m is from 0 to 12; keys and classes have the same length Q, from 1 to 65,536. Refusal 0 where both hold. */
-static lutniorad_answer size_of_map(uint64_t m, uint64_t n_keys, uint64_t n_classes)
+/* The records of a complete map have every pixel. A sparse one may have pixels in no record, and no record at all. */
+typedef enum { COMPLETE, SPARSE } map_kind;
+
+/* A map as it is lent, and the class of a pixel in no record. */
+typedef struct {
+    map_kind kind;
+    uint32_t m;
+    const uint32_t *keys;
+    size_t n_keys;
+    const uint8_t *classes;
+    size_t n_classes;
+    uint8_t background;
+} lent_map;
+
+static lent_map complete_map(uint32_t m, const uint32_t *keys, size_t n_keys, const uint8_t *classes, size_t n_classes)
+{
+    lent_map on = {COMPLETE, m, keys, n_keys, classes, n_classes, 0 /* of no pixel */};
+    return on;
+}
+
+static lent_map sparse_map(uint32_t m, const uint32_t *keys, size_t n_keys, const uint8_t *classes, size_t n_classes,
+                           uint8_t background)
+{
+    lent_map on = {SPARSE, m, keys, n_keys, classes, n_classes, background};
+    return on;
+}
+
+/*
+ * m is from 0 to 12; keys and classes have the same length Q, from 1 to 65,536, or from 0 where the map is sparse.
+ * Refusal 0 where both hold.
+ */
+static lutniorad_answer size_of_map(map_kind kind, uint64_t m, uint64_t n_keys, uint64_t n_classes)
 {
     if (m > MOST_DIGITS)
         return refused(1, 0);
-    if (n_keys != n_classes || n_keys == 0 || n_keys > MOST_RECORDS)
+    if (n_keys != n_classes || n_keys > MOST_RECORDS || (n_keys == 0 && kind == COMPLETE))
         return refused(2, 0);
     return answered(0, 0);
+}
+
+static lutniorad_answer check_map(lent_map on)
+{
+    lutniorad_answer size = size_of_map(on.kind, on.m, on.n_keys, on.n_classes);
+    if (size.refusal != 0)
+        return size;
+
+    uint64_t ended = 0; /* where the last span ended; the first record of a complete map must start at pixel 0 */
+    for (uint64_t i = 0; i < on.n_keys; i++) {
+        uint64_t digits[MOST_DIGITS];
+        if (!digits_of(on.keys[i], on.m, digits) || !has_the_form(digits, on.m))
+            return refused(3, i);
+        uint64_t start = pixel_in_block(digits, on.m, 1);
+        if (start < ended)
+            return refused(4, i);
+        if (start > ended && on.kind == COMPLETE)
+            return refused(5, i);
+        ended = pixel_in_block(digits, on.m, 4) + 1;
+    }
+    if (ended != side_of_picture(on.m) * side_of_picture(on.m) && on.kind == COMPLETE)
+        return refused(5, on.n_keys); /* the last must end with the picture */
+    return answered(on.n_keys, 0);
 }
 
 lutniorad_answer reference_check(uint32_t m,
                                  const uint32_t *keys, size_t n_keys,
                                  const uint8_t *classes, size_t n_classes)
 {
-    lutniorad_answer size = size_of_map(m, n_keys, n_classes);
-    (void)classes; /* any byte is a class */
-    if (size.refusal != 0)
-        return size;
+    return check_map(complete_map(m, keys, n_keys, classes, n_classes));
+}
 
-    uint64_t ended = 0; /* where the last span ended; the first record must start at pixel 0 */
-    for (uint64_t i = 0; i < n_keys; i++) {
-        uint64_t digits[MOST_DIGITS];
-        if (!digits_of(keys[i], m, digits) || !has_the_form(digits, m))
-            return refused(3, i);
-        uint64_t start = pixel_in_block(digits, m, 1);
-        if (start < ended)
-            return refused(4, i);
-        if (start > ended)
-            return refused(5, i);
-        ended = pixel_in_block(digits, m, 4) + 1;
-    }
-    if (ended != side_of_picture(m) * side_of_picture(m)) /* the last must end with the picture */
-        return refused(5, n_keys);
-    return answered(n_keys, 0);
+lutniorad_answer reference_sparse_check(uint32_t m,
+                                        const uint32_t *keys, size_t n_keys,
+                                        const uint8_t *classes, size_t n_classes)
+{
+    return check_map(sparse_map(m, keys, n_keys, classes, n_classes, 0));
 }
 
 /* ---- Windows ---- */
@@ -275,9 +316,6 @@ lutniorad_answer reference_decompose(uint32_t m,
 
 /* ---- Rasters ---- */
 
-/* No block of a window and no record of a map has this index. */
-enum { NO_RECORD = MOST_PIXELS };
-
 static uint64_t greater(uint64_t a, uint64_t b)
 {
     return a > b ? a : b;
@@ -308,7 +346,7 @@ static bool paint_block(square block, window at, uint32_t record, uint32_t *rast
     return true;
 }
 
-bool reference_raster(uint32_t m, const uint32_t *keys, size_t q, window at, uint32_t *raster)
+bool reference_sparse_raster(uint32_t m, const uint32_t *keys, size_t q, window at, uint32_t *raster)
 {
     uint64_t pixels = (uint64_t)at.h * at.w;
     for (uint64_t i = 0; i < pixels; i++)
@@ -320,6 +358,14 @@ bool reference_raster(uint32_t m, const uint32_t *keys, size_t q, window at, uin
         if (!paint_block(block_of(digits, m), at, (uint32_t)i, raster))
             return false;
     }
+    return true;
+}
+
+bool reference_raster(uint32_t m, const uint32_t *keys, size_t q, window at, uint32_t *raster)
+{
+    uint64_t pixels = (uint64_t)at.h * at.w;
+    if (!reference_sparse_raster(m, keys, q, at, raster))
+        return false;
     for (uint64_t i = 0; i < pixels; i++)
         if (raster[i] == NO_RECORD)
             return false;
@@ -328,30 +374,32 @@ bool reference_raster(uint32_t m, const uint32_t *keys, size_t q, window at, uin
 
 /* ---- A window on a map ---- */
 
-/* The raster of the window at hand: for each pixel the record that it lies in. */
+/* The raster of the window at hand: for each pixel the record that it lies in, or NO_RECORD. */
 static uint32_t records[MOST_PIXELS];
 
 /* Paints the records of a sound map. As with the maximal blocks, what was painted last is kept. */
-static void paint_records(uint32_t m, const uint32_t *keys, uint64_t q, window at)
+static void paint_records(lent_map on, window at)
 {
+    static bool is_kept;
     static uint32_t kept_m, kept_keys[MOST_RECORDS];
-    static uint64_t kept_q; /* 0: there is none yet */
+    static uint64_t kept_q;
     static window kept_at;
-    bool same = m == kept_m && q == kept_q && same_window(at, kept_at);
-    if (same && memcmp(keys, kept_keys, q * sizeof *keys) == 0)
+    bool same = is_kept && on.m == kept_m && on.n_keys == kept_q && same_window(at, kept_at);
+    if (same && memcmp(on.keys, kept_keys, on.n_keys * sizeof *on.keys) == 0)
         return;
-    if (!reference_raster(m, keys, q, at, records))
+    if (!(on.kind == COMPLETE ? reference_raster : reference_sparse_raster)(on.m, on.keys, on.n_keys, at, records))
         abort();
-    kept_m = m;
-    kept_q = q;
+    is_kept = true;
+    kept_m = on.m;
+    kept_q = on.n_keys;
     kept_at = at;
-    memcpy(kept_keys, keys, q * sizeof *keys);
+    memcpy(kept_keys, on.keys, on.n_keys * sizeof *on.keys);
 }
 
 /* What every answer about a window on a sound map has: the records painted, and the border as it is in the end. */
-static void begin_answer(uint32_t m, const uint32_t *keys, uint64_t q, window at, uint16_t *border)
+static void begin_answer(lent_map on, window at, uint16_t *border)
 {
-    paint_records(m, keys, q, at);
+    paint_records(on, at);
     for (uint64_t i = 0; i < at.w; i++)
         border[i] = (uint16_t)(at.r0 + at.h);
 }
@@ -360,18 +408,15 @@ static void begin_answer(uint32_t m, const uint32_t *keys, uint64_t q, window at
  * What every question about a window on a map may be refused by: 1 and 17, and those from 2 to 7, or refusal 0. A
  * question without a tile is one with c = m.
  */
-static lutniorad_answer check_question(uint32_t m, uint32_t tile,
-                                       const uint32_t *keys, size_t n_keys,
-                                       const uint8_t *classes, size_t n_classes,
-                                       window at, size_t n_border)
+static lutniorad_answer check_question(lent_map on, uint32_t tile, window at, size_t n_border)
 {
-    lutniorad_answer size = size_of_tile(m, tile);
+    lutniorad_answer size = size_of_tile(on.m, tile);
     if (size.refusal != 0)
         return size;
-    lutniorad_answer check = reference_check(m, keys, n_keys, classes, n_classes);
+    lutniorad_answer check = check_map(on);
     if (check.refusal != 0)
         return check;
-    if (!is_inside(at, side_of_picture(m)))
+    if (!is_inside(at, side_of_picture(on.m)))
         return refused(6, 0);
     if (n_border < at.w)
         return refused(7, at.w);
@@ -379,19 +424,15 @@ static lutniorad_answer check_question(uint32_t m, uint32_t tile,
 }
 
 /* The same, and with refusal 0 the answer is begun, whatever comes of the slice for it. */
-static lutniorad_answer begin_question(uint32_t m, uint32_t tile,
-                                       const uint32_t *keys, size_t n_keys,
-                                       const uint8_t *classes, size_t n_classes,
-                                       window at,
-                                       uint16_t *border, size_t n_border)
+static lutniorad_answer begin_question(lent_map on, uint32_t tile, window at, uint16_t *border, size_t n_border)
 {
-    lutniorad_answer check = check_question(m, tile, keys, n_keys, classes, n_classes, at, n_border);
+    lutniorad_answer check = check_question(on, tile, at, n_border);
     if (check.refusal == 0)
-        begin_answer(m, keys, n_keys, at, border);
+        begin_answer(on, at, border);
     return check;
 }
 
-/* The record that has all pixels of the block, or NO_RECORD where these lie in more than one. */
+/* The record that has all pixels of the block, or NO_RECORD where no single one has. */
 static uint32_t record_around(square block, window at)
 {
     uint32_t record = records[place_in_raster(at, block.row, block.col)];
@@ -422,18 +463,22 @@ typedef struct {
 
 static opening openings[MOST_BLOCKS]; /* of the window at hand */
 
-/* Hands out every record that has a pixel in the block. */
+/* Hands out every record that has a pixel in the block. Where there is none, the first is said to be 0. */
 static opening open_block(square block, window at, uint64_t side_of_all, uint64_t number)
 {
     opening made = {key_of(block, side_of_all), NO_RECORD, 0};
     for (uint64_t row = block.row; row < block.row + block.side; row++)
         for (uint64_t col = block.col; col < block.col + block.side; col++) {
             uint32_t record = records[place_in_raster(at, row, col)];
+            if (record == NO_RECORD)
+                continue;
             if (handed_out_by[record] != number)
                 made.count++;
             handed_out_by[record] = number;
             made.first = lesser(made.first, record);
         }
+    if (made.count == 0)
+        made.first = 0;
     return made;
 }
 
@@ -452,18 +497,13 @@ static uint64_t make_openings(uint32_t m, uint32_t tile, uint64_t q, window at)
     return n;
 }
 
-lutniorad_answer reference_open_tiled(uint32_t m, uint32_t tile,
-                                      const uint32_t *keys, size_t n_keys,
-                                      const uint8_t *classes, size_t n_classes,
-                                      uint16_t r0, uint16_t c0, uint16_t h, uint16_t w,
-                                      uint16_t *border, size_t n_border,
-                                      uint32_t *out, size_t n_out)
+static lutniorad_answer open_window(lent_map on, uint32_t tile, window at, uint16_t *border, size_t n_border,
+                                    uint32_t *out, size_t n_out)
 {
-    window at = {r0, c0, h, w};
-    lutniorad_answer begun = begin_question(m, tile, keys, n_keys, classes, n_classes, at, border, n_border);
+    lutniorad_answer begun = begin_question(on, tile, at, border, n_border);
     if (begun.refusal != 0)
         return begun;
-    uint64_t n = make_openings(m, tile, n_keys, at);
+    uint64_t n = make_openings(on.m, tile, on.n_keys, at);
     if (n_out < 3 * n)
         return refused(8, 3 * n);
     uint64_t handed_out = 0;
@@ -474,6 +514,28 @@ lutniorad_answer reference_open_tiled(uint32_t m, uint32_t tile,
         handed_out += openings[i].count;
     }
     return answered(n, handed_out);
+}
+
+lutniorad_answer reference_open_tiled(uint32_t m, uint32_t tile,
+                                      const uint32_t *keys, size_t n_keys,
+                                      const uint8_t *classes, size_t n_classes,
+                                      uint16_t r0, uint16_t c0, uint16_t h, uint16_t w,
+                                      uint16_t *border, size_t n_border,
+                                      uint32_t *out, size_t n_out)
+{
+    window at = {r0, c0, h, w};
+    return open_window(complete_map(m, keys, n_keys, classes, n_classes), tile, at, border, n_border, out, n_out);
+}
+
+lutniorad_answer reference_sparse_open(uint32_t m, uint32_t tile,
+                                       const uint32_t *keys, size_t n_keys,
+                                       const uint8_t *classes, size_t n_classes,
+                                       uint16_t r0, uint16_t c0, uint16_t h, uint16_t w,
+                                       uint16_t *border, size_t n_border,
+                                       uint32_t *out, size_t n_out)
+{
+    window at = {r0, c0, h, w};
+    return open_window(sparse_map(m, keys, n_keys, classes, n_classes, 0), tile, at, border, n_border, out, n_out);
 }
 
 lutniorad_answer reference_open(uint32_t m,
@@ -520,17 +582,17 @@ static uint64_t last_to_reach(uint64_t column, const uint16_t *windows, uint64_t
     abort();
 }
 
-/* The five cells of a window on a sound map of q records. */
-static void count_window(uint32_t m, const uint32_t *keys, uint64_t q, window at, uint32_t cells[CELLS_OF_WINDOW])
+/* The five cells of a window on a sound map. */
+static void count_window(lent_map on, window at, uint32_t cells[CELLS_OF_WINDOW])
 {
     for (uint64_t i = 0; i < CELLS_OF_WINDOW; i++)
         cells[i] = 0;
-    if (!is_inside(at, side_of_picture(m))) {
+    if (!is_inside(at, side_of_picture(on.m))) {
         cells[0] = 6;
         return;
     }
-    paint_records(m, keys, q, at);
-    uint64_t n = make_openings(m, m, q, at);
+    paint_records(on, at);
+    uint64_t n = make_openings(on.m, on.m, on.n_keys, at);
     cells[2] = (uint32_t)n;
     for (uint64_t i = 0; i < n; i++)
         cells[3] += (uint32_t)openings[i].count;
@@ -544,7 +606,8 @@ lutniorad_answer reference_windows(uint32_t m,
                                    uint16_t *border, size_t n_border,
                                    uint32_t *out, size_t n_out)
 {
-    lutniorad_answer check = reference_check(m, keys, n_keys, classes, n_classes);
+    lent_map on = complete_map(m, keys, n_keys, classes, n_classes);
+    lutniorad_answer check = check_map(on);
     if (check.refusal != 0)
         return check;
     if (n_windows % 4 != 0 || n_windows > 4 * MOST_WINDOWS)
@@ -555,7 +618,7 @@ lutniorad_answer reference_windows(uint32_t m,
     if (n_out < CELLS_OF_WINDOW * n)
         return refused(8, CELLS_OF_WINDOW * n);
     for (uint64_t i = 0; i < n; i++)
-        count_window(m, keys, n_keys, window_of_list(windows, i), out + CELLS_OF_WINDOW * i);
+        count_window(on, window_of_list(windows, i), out + CELLS_OF_WINDOW * i);
     for (uint64_t column = 0; column < widest; column++)
         border[column] = (uint16_t)last_to_reach(column, windows, n, side_of_all);
     return answered(n, 0);
@@ -607,12 +670,13 @@ lutniorad_reason reference_why_record(uint32_t m,
 {
     uint64_t digits[MOST_DIGITS];
     window at = {r0, c0, h, w};
-    lutniorad_answer check = check_question(m, m, keys, n_keys, classes, n_classes, at, n_border);
+    lent_map on = complete_map(m, keys, n_keys, classes, n_classes);
+    lutniorad_answer check = check_question(on, m, at, n_border);
     if (check.refusal != 0)
         return no_reason(check);
     if (record >= n_keys)
         return no_reason(refused(19, 0));
-    begin_answer(m, keys, n_keys, at, border);
+    begin_answer(on, at, border);
     make_openings(m, m, n_keys, at);
     if (handed_out_by[record] != NO_OPENING)
         return because(HANDED_OUT, record, handed_out_by[record]);
@@ -641,12 +705,13 @@ lutniorad_reason reference_why_block(uint32_t m,
 {
     square block;
     window at = {r0, c0, h, w};
-    lutniorad_answer check = check_question(m, m, keys, n_keys, classes, n_classes, at, n_border);
+    lent_map on = complete_map(m, keys, n_keys, classes, n_classes);
+    lutniorad_answer check = check_question(on, m, at, n_border);
     if (check.refusal != 0)
         return no_reason(check);
     if (!find_maximal(m, key, at, &block))
         return no_reason(refused(22, 0));
-    begin_answer(m, keys, n_keys, at, border);
+    begin_answer(on, at, border);
     uint64_t n = make_openings(m, m, n_keys, at);
     for (uint64_t i = 0; i < n; i++)
         if (openings[i].key == key)
@@ -657,16 +722,34 @@ lutniorad_reason reference_why_block(uint32_t m,
 
 /* ---- Queries ---- */
 
+/* Of a pixel in this record, or in none. */
+static uint8_t class_of(lent_map on, uint32_t record)
+{
+    return record == NO_RECORD ? on.background : on.classes[record];
+}
+
 /* The pixels of each class in the window at hand. */
-static void count_classes(window at, const uint8_t *classes, uint64_t totals[CLASSES])
+static void count_classes(lent_map on, window at, uint64_t totals[CLASSES])
 {
     for (uint64_t i = 0; i < CLASSES; i++)
         totals[i] = 0;
     for (uint64_t i = 0; i < (uint64_t)at.h * at.w; i++)
-        totals[classes[records[i]]]++;
+        totals[class_of(on, records[i])]++;
 }
 
 /* 1, yes; or where no pixel has the class: 2, it cannot tell, if some were not seen, and 0, no, if all were. */
+static lutniorad_answer ask_exist(lent_map on, window at, uint8_t of_class, uint16_t *border, size_t n_border)
+{
+    uint64_t totals[CLASSES];
+    lutniorad_answer begun = begin_question(on, on.m, at, border, n_border);
+    if (begun.refusal != 0)
+        return begun;
+    count_classes(on, at, totals);
+    if (totals[of_class] > 0)
+        return answered(1, 0);
+    return answered(totals[NOT_SEEN] > 0 ? 2 : 0, 0);
+}
+
 lutniorad_answer reference_exist(uint32_t m,
                                  const uint32_t *keys, size_t n_keys,
                                  const uint8_t *classes, size_t n_classes,
@@ -674,15 +757,34 @@ lutniorad_answer reference_exist(uint32_t m,
                                  uint8_t of_class,
                                  uint16_t *border, size_t n_border)
 {
-    uint64_t totals[CLASSES];
     window at = {r0, c0, h, w};
-    lutniorad_answer begun = begin_question(m, m, keys, n_keys, classes, n_classes, at, border, n_border);
+    return ask_exist(complete_map(m, keys, n_keys, classes, n_classes), at, of_class, border, n_border);
+}
+
+lutniorad_answer reference_sparse_exist(uint32_t m, uint8_t background,
+                                        const uint32_t *keys, size_t n_keys,
+                                        const uint8_t *classes, size_t n_classes,
+                                        uint16_t r0, uint16_t c0, uint16_t h, uint16_t w,
+                                        uint8_t of_class,
+                                        uint16_t *border, size_t n_border)
+{
+    window at = {r0, c0, h, w};
+    return ask_exist(sparse_map(m, keys, n_keys, classes, n_classes, background), at, of_class, border, n_border);
+}
+
+static lutniorad_answer report_window(lent_map on, window at, uint16_t *border, size_t n_border, uint32_t *totals,
+                                      size_t n_totals)
+{
+    uint64_t counted[CLASSES];
+    lutniorad_answer begun = begin_question(on, on.m, at, border, n_border);
     if (begun.refusal != 0)
         return begun;
-    count_classes(at, classes, totals);
-    if (totals[of_class] > 0)
-        return answered(1, 0);
-    return answered(totals[NOT_SEEN] > 0 ? 2 : 0, 0);
+    if (n_totals < CLASSES)
+        return refused(8, CLASSES);
+    count_classes(on, at, counted);
+    for (uint64_t i = 0; i < CLASSES; i++)
+        totals[i] = (uint32_t)counted[i];
+    return answered((uint64_t)at.h * at.w, 0);
 }
 
 lutniorad_answer reference_report(uint32_t m,
@@ -692,43 +794,74 @@ lutniorad_answer reference_report(uint32_t m,
                                   uint16_t *border, size_t n_border,
                                   uint32_t *totals, size_t n_totals)
 {
-    uint64_t counted[CLASSES];
     window at = {r0, c0, h, w};
-    lutniorad_answer begun = begin_question(m, m, keys, n_keys, classes, n_classes, at, border, n_border);
-    if (begun.refusal != 0)
-        return begun;
-    if (n_totals < CLASSES)
-        return refused(8, CLASSES);
-    count_classes(at, classes, counted);
-    for (uint64_t i = 0; i < CLASSES; i++)
-        totals[i] = (uint32_t)counted[i];
-    return answered((uint64_t)h * w, 0);
+    return report_window(complete_map(m, keys, n_keys, classes, n_classes), at, border, n_border, totals, n_totals);
 }
 
-/* Room for the key of each block, and of each record: one that lies inside a block lies in no other. */
+lutniorad_answer reference_sparse_report(uint32_t m, uint8_t background,
+                                         const uint32_t *keys, size_t n_keys,
+                                         const uint8_t *classes, size_t n_classes,
+                                         uint16_t r0, uint16_t c0, uint16_t h, uint16_t w,
+                                         uint16_t *border, size_t n_border,
+                                         uint32_t *totals, size_t n_totals)
+{
+    window at = {r0, c0, h, w};
+    return report_window(sparse_map(m, keys, n_keys, classes, n_classes, background), at, border, n_border, totals,
+                         n_totals);
+}
+
+/* Room for the keys of as many blocks as have room in any window. */
 typedef struct {
     uint64_t n;
-    uint64_t keys[MOST_BLOCKS + MOST_RECORDS];
+    uint64_t keys[MOST_PIXELS];
 } key_list;
 
-/* Lists the records of the class, in map order, that have a pixel in a block which lies in none of them. */
-static void select_records(key_list *list, square block, window at, const uint32_t *keys, const uint8_t *classes,
-                           uint8_t of_class)
+/* Has the block no pixel in a record? */
+static bool lies_in_gap(square block, window at)
 {
-    static bool is_met[MOST_RECORDS]; /* false for all, before and after */
-    uint64_t first = NO_RECORD, end = 0;
     for (uint64_t row = block.row; row < block.row + block.side; row++)
-        for (uint64_t col = block.col; col < block.col + block.side; col++) {
-            uint32_t record = records[place_in_raster(at, row, col)];
-            is_met[record] = true;
-            first = lesser(first, record);
-            end = greater(end, record + (uint64_t)1);
-        }
-    for (uint64_t i = first; i < end; i++) {
-        if (is_met[i] && classes[i] == of_class)
-            list->keys[list->n++] = keys[i];
-        is_met[i] = false;
+        for (uint64_t col = block.col; col < block.col + block.side; col++)
+            if (records[place_in_raster(at, row, col)] != NO_RECORD)
+                return false;
+    return true;
+}
+
+/*
+ * Lists what the block has of the class. Where it lies in one record, or in none with all its pixels, that is the block
+ * itself or nothing. Otherwise it is cut in four, and so on. What comes of that, in the order of the keys, are the
+ * records inside it, for no record is cut; and the largest blocks in its gaps, of which each gap has the fewest.
+ */
+static void select_from(lent_map on, square block, window at, uint8_t of_class, key_list *list)
+{
+    uint32_t around = record_around(block, at);
+    uint64_t half = block.side / 2;
+    if (around != NO_RECORD || lies_in_gap(block, at)) {
+        if (class_of(on, around) == of_class)
+            list->keys[list->n++] = key_of(block, side_of_picture(on.m));
+        return;
     }
+    for (uint64_t i = 0; i < 4; i++) {
+        square quadrant = {block.row + i / 2 * half, block.col + i % 2 * half, half};
+        select_from(on, quadrant, at, of_class, list);
+    }
+}
+
+static lutniorad_answer select_in(lent_map on, uint32_t tile, window at, uint8_t of_class, uint16_t *border,
+                                  size_t n_border, uint32_t *out, size_t n_out)
+{
+    static key_list list;
+    lutniorad_answer begun = begin_question(on, tile, at, border, n_border);
+    if (begun.refusal != 0)
+        return begun;
+    const block_list *maximal = list_maximal(at, side_of_tile(tile));
+    list.n = 0;
+    for (uint64_t i = 0; i < maximal->n; i++)
+        select_from(on, maximal->blocks[i], at, of_class, &list);
+    if (n_out < list.n)
+        return refused(8, list.n);
+    for (uint64_t i = 0; i < list.n; i++)
+        out[i] = (uint32_t)list.keys[i];
+    return answered(list.n, 0);
 }
 
 lutniorad_answer reference_select_tiled(uint32_t m, uint32_t tile,
@@ -739,26 +872,22 @@ lutniorad_answer reference_select_tiled(uint32_t m, uint32_t tile,
                                         uint16_t *border, size_t n_border,
                                         uint32_t *out, size_t n_out)
 {
-    static key_list list;
     window at = {r0, c0, h, w};
-    lutniorad_answer begun = begin_question(m, tile, keys, n_keys, classes, n_classes, at, border, n_border);
-    if (begun.refusal != 0)
-        return begun;
-    const block_list *maximal = list_maximal(at, side_of_tile(tile));
-    list.n = 0;
-    for (uint64_t i = 0; i < maximal->n; i++) {
-        square block = maximal->blocks[i];
-        uint32_t around = record_around(block, at);
-        if (around == NO_RECORD)
-            select_records(&list, block, at, keys, classes, of_class);
-        else if (classes[around] == of_class)
-            list.keys[list.n++] = key_of(block, side_of_picture(m));
-    }
-    if (n_out < list.n)
-        return refused(8, list.n);
-    for (uint64_t i = 0; i < list.n; i++)
-        out[i] = (uint32_t)list.keys[i];
-    return answered(list.n, 0);
+    return select_in(complete_map(m, keys, n_keys, classes, n_classes), tile, at, of_class, border, n_border, out,
+                     n_out);
+}
+
+lutniorad_answer reference_sparse_select(uint32_t m, uint32_t tile, uint8_t background,
+                                         const uint32_t *keys, size_t n_keys,
+                                         const uint8_t *classes, size_t n_classes,
+                                         uint16_t r0, uint16_t c0, uint16_t h, uint16_t w,
+                                         uint8_t of_class,
+                                         uint16_t *border, size_t n_border,
+                                         uint32_t *out, size_t n_out)
+{
+    window at = {r0, c0, h, w};
+    return select_in(sparse_map(m, keys, n_keys, classes, n_classes, background), tile, at, of_class, border, n_border,
+                     out, n_out);
 }
 
 lutniorad_answer reference_select(uint32_t m,
@@ -852,7 +981,8 @@ lutniorad_answer reference_month_add(uint32_t m,
 {
     uint64_t pixels[CLASSES];
     window at;
-    lutniorad_answer check = reference_check(m, keys, n_keys, classes, n_classes);
+    lent_map on = complete_map(m, keys, n_keys, classes, n_classes);
+    lutniorad_answer check = check_map(on);
     if (check.refusal != 0)
         return check;
     if (n_table < TABLE_CELLS)
@@ -862,8 +992,8 @@ lutniorad_answer reference_month_add(uint32_t m,
         return of_table;
     if (n_border < at.w)
         return refused(7, at.w);
-    begin_answer(m, keys, n_keys, at, border);
-    count_classes(at, classes, pixels);
+    begin_answer(on, at, border);
+    count_classes(on, at, pixels);
     for (uint64_t k = 0; k < CLASSES; k++)
         add_pixels(table + TABLE_CLASSES + k * CELLS_OF_CLASS, table[TABLE_MAPS] == 0, pixels[k]);
     table[TABLE_MAPS]++;
@@ -890,13 +1020,13 @@ static void put_number(uint8_t *bytes, uint64_t offset, uint64_t number)
 }
 
 /* What the header alone decides of a file of n bytes: m and Q, or the refusal. */
-static lutniorad_answer read_header(const uint8_t *file, uint64_t n)
+static lutniorad_answer read_header(map_kind kind, const uint8_t *file, uint64_t n)
 {
     if (n < HEADER || number_at(file, 0) != n)
         return refused(9, 0);
     uint64_t m = number_at(file, 4);
     uint64_t q = number_at(file, 8);
-    lutniorad_answer size = size_of_map(m, q, q);
+    lutniorad_answer size = size_of_map(kind, m, q, q);
     if (size.refusal != 0)
         return size;
     if (n != HEADER + 5 * q)
@@ -908,11 +1038,10 @@ static lutniorad_answer read_header(const uint8_t *file, uint64_t n)
     return answered(m, q);
 }
 
-lutniorad_answer reference_read(const uint8_t *file, size_t n,
-                                uint32_t *keys, size_t n_keys,
-                                uint8_t *classes, size_t n_classes)
+static lutniorad_answer read_map(map_kind kind, const uint8_t *file, size_t n, uint32_t *keys, size_t n_keys,
+                                 uint8_t *classes, size_t n_classes)
 {
-    lutniorad_answer header = read_header(file, n);
+    lutniorad_answer header = read_header(kind, file, n);
     if (header.refusal != 0)
         return header;
     uint64_t q = header.second;
@@ -925,26 +1054,53 @@ lutniorad_answer reference_read(const uint8_t *file, size_t n,
     return header;
 }
 
+lutniorad_answer reference_read(const uint8_t *file, size_t n,
+                                uint32_t *keys, size_t n_keys,
+                                uint8_t *classes, size_t n_classes)
+{
+    return read_map(COMPLETE, file, n, keys, n_keys, classes, n_classes);
+}
+
+lutniorad_answer reference_sparse_read(const uint8_t *file, size_t n,
+                                       uint32_t *keys, size_t n_keys,
+                                       uint8_t *classes, size_t n_classes)
+{
+    return read_map(SPARSE, file, n, keys, n_keys, classes, n_classes);
+}
+
+static lutniorad_answer write_map(lent_map on, uint8_t *out, size_t n_out)
+{
+    lutniorad_answer size = size_of_map(on.kind, on.m, on.n_keys, on.n_classes);
+    if (size.refusal != 0)
+        return size;
+    uint64_t q = on.n_keys;
+    uint64_t length = HEADER + 5 * q;
+    if (n_out < length)
+        return refused(8, length);
+    put_number(out, 0, length);
+    put_number(out, 4, on.m);
+    put_number(out, 8, q);
+    put_number(out, 12, HEADER);
+    put_number(out, 16, HEADER + 4 * q);
+    for (uint64_t i = 0; i < q; i++) {
+        put_number(out, HEADER + 4 * i, on.keys[i]);
+        out[HEADER + 4 * q + i] = on.classes[i];
+    }
+    return answered(length, 0);
+}
+
 lutniorad_answer reference_write(uint32_t m,
                                  const uint32_t *keys, size_t n_keys,
                                  const uint8_t *classes, size_t n_classes,
                                  uint8_t *out, size_t n_out)
 {
-    lutniorad_answer size = size_of_map(m, n_keys, n_classes);
-    if (size.refusal != 0)
-        return size;
-    uint64_t q = n_keys;
-    uint64_t length = HEADER + 5 * q;
-    if (n_out < length)
-        return refused(8, length);
-    put_number(out, 0, length);
-    put_number(out, 4, m);
-    put_number(out, 8, q);
-    put_number(out, 12, HEADER);
-    put_number(out, 16, HEADER + 4 * q);
-    for (uint64_t i = 0; i < q; i++) {
-        put_number(out, HEADER + 4 * i, keys[i]);
-        out[HEADER + 4 * q + i] = classes[i];
-    }
-    return answered(length, 0);
+    return write_map(complete_map(m, keys, n_keys, classes, n_classes), out, n_out);
+}
+
+lutniorad_answer reference_sparse_write(uint32_t m,
+                                        const uint32_t *keys, size_t n_keys,
+                                        const uint8_t *classes, size_t n_classes,
+                                        uint8_t *out, size_t n_out)
+{
+    return write_map(sparse_map(m, keys, n_keys, classes, n_classes, 0), out, n_out);
 }

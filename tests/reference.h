@@ -112,6 +112,48 @@ lutniorad_answer reference_write(uint32_t m,
                                  const uint8_t *classes, size_t n_classes,
                                  uint8_t *out, size_t n_out);
 
+lutniorad_answer reference_sparse_check(uint32_t m,
+                                        const uint32_t *keys, size_t n_keys,
+                                        const uint8_t *classes, size_t n_classes);
+
+lutniorad_answer reference_sparse_open(uint32_t m, uint32_t tile,
+                                       const uint32_t *keys, size_t n_keys,
+                                       const uint8_t *classes, size_t n_classes,
+                                       uint16_t r0, uint16_t c0, uint16_t h, uint16_t w,
+                                       uint16_t *border, size_t n_border,
+                                       uint32_t *out, size_t n_out);
+
+lutniorad_answer reference_sparse_exist(uint32_t m, uint8_t background,
+                                        const uint32_t *keys, size_t n_keys,
+                                        const uint8_t *classes, size_t n_classes,
+                                        uint16_t r0, uint16_t c0, uint16_t h, uint16_t w,
+                                        uint8_t of_class,
+                                        uint16_t *border, size_t n_border);
+
+lutniorad_answer reference_sparse_report(uint32_t m, uint8_t background,
+                                         const uint32_t *keys, size_t n_keys,
+                                         const uint8_t *classes, size_t n_classes,
+                                         uint16_t r0, uint16_t c0, uint16_t h, uint16_t w,
+                                         uint16_t *border, size_t n_border,
+                                         uint32_t *totals, size_t n_totals);
+
+lutniorad_answer reference_sparse_select(uint32_t m, uint32_t tile, uint8_t background,
+                                         const uint32_t *keys, size_t n_keys,
+                                         const uint8_t *classes, size_t n_classes,
+                                         uint16_t r0, uint16_t c0, uint16_t h, uint16_t w,
+                                         uint8_t of_class,
+                                         uint16_t *border, size_t n_border,
+                                         uint32_t *out, size_t n_out);
+
+lutniorad_answer reference_sparse_read(const uint8_t *file, size_t n,
+                                       uint32_t *keys, size_t n_keys,
+                                       uint8_t *classes, size_t n_classes);
+
+lutniorad_answer reference_sparse_write(uint32_t m,
+                                        const uint32_t *keys, size_t n_keys,
+                                        const uint8_t *classes, size_t n_classes,
+                                        uint8_t *out, size_t n_out);
+
 /* The most pixels that a picture has, how many classes there are, and the class of what the camera did not see. */
 enum { MOST_PIXELS = 4096 * 4096, CLASSES = 256, NOT_SEEN = 255 };
 
@@ -126,6 +168,11 @@ enum { TABLE_CELLS = TABLE_CLASSES + CLASSES * CELLS_OF_CLASS, MOST_MAPS = 1000 
  * and every pixel of the window was painted just once. m is at most 12, and the window inside the picture.
  */
 bool reference_raster(uint32_t m, const uint32_t *keys, size_t q, window at, uint32_t *raster);
+
+/* The same of blocks that need not have every pixel: true where none was painted twice. Those in no block have this. */
+enum { NO_RECORD = MOST_PIXELS };
+
+bool reference_sparse_raster(uint32_t m, const uint32_t *keys, size_t q, window at, uint32_t *raster);
 
 /* Is this the key of a block that lies in the window? m is at most 12. */
 bool reference_lies_in(uint32_t m, uint32_t key, window at);

@@ -137,6 +137,46 @@ static void run_why_block(void)
     answer.refusal = reason.refusal;
 }
 
+/* The map without its first record: so it has a gap, and where that is all it has, nothing else. */
+static void run_sparse_check(void)
+{
+    answer = lutniorad_sparse_check(a.m, a.keys + 1, a.q - 1, a.classes + 1, a.q - 1);
+}
+
+static void run_sparse_open(void)
+{
+    answer = lutniorad_sparse_open(a.m, TILE, a.keys + 1, a.q - 1, a.classes + 1, a.q - 1, at.r0, at.c0, at.h, at.w,
+                                   border, COUNT(border), out, COUNT(out));
+}
+
+static void run_sparse_exist(void)
+{
+    answer = lutniorad_sparse_exist(a.m, 3, a.keys + 1, a.q - 1, a.classes + 1, a.q - 1, at.r0, at.c0, at.h, at.w, 2,
+                                    border, COUNT(border));
+}
+
+static void run_sparse_report(void)
+{
+    answer = lutniorad_sparse_report(a.m, 3, a.keys + 1, a.q - 1, a.classes + 1, a.q - 1, at.r0, at.c0, at.h, at.w,
+                                     border, COUNT(border), out, COUNT(out));
+}
+
+static void run_sparse_select(void)
+{
+    answer = lutniorad_sparse_select(a.m, TILE, 1, a.keys + 1, a.q - 1, a.classes + 1, a.q - 1, at.r0, at.c0, at.h,
+                                     at.w, 1, border, COUNT(border), out, COUNT(out));
+}
+
+static void run_sparse_read(void)
+{
+    answer = lutniorad_sparse_read(file_of_one, sizeof file_of_one, a.keys, COUNT(a.keys), a.classes, COUNT(a.classes));
+}
+
+static void run_sparse_write(void)
+{
+    answer = lutniorad_sparse_write(a.m, a.keys + 1, a.q - 1, a.classes + 1, a.q - 1, file, sizeof file);
+}
+
 static const struct {
     const char *name;
     void (*run)(void);
@@ -157,6 +197,13 @@ static const struct {
     {"windows", run_windows},
     {"why_record", run_why_record},
     {"why_block", run_why_block},
+    {"sparse_check", run_sparse_check},
+    {"sparse_open", run_sparse_open},
+    {"sparse_exist", run_sparse_exist},
+    {"sparse_report", run_sparse_report},
+    {"sparse_select", run_sparse_select},
+    {"sparse_read", run_sparse_read},
+    {"sparse_write", run_sparse_write},
 };
 
 /* ---- The depths ---- */

@@ -3,6 +3,7 @@
 #include "many.h"
 #include "months.h"
 #include "questions.h"
+#include "sparse.h"
 #include "why.h"
 
 #include <stdio.h>
@@ -219,21 +220,13 @@ void group_window_lengths(void)
 
 /* ---- Group: old contents ---- */
 
-/* The border as it would be before the work, on its way and in the end, of this window or another. */
-static void ask_over_old_contents(window at)
-{
-    const int olds[] = {0, at.r0, at.r0 + 1, at.r0 + at.h - 1, at.r0 + at.h, at.r0 + at.h + 1, UINT16_MAX};
-    for (size_t i = 0; i < QUESTIONS * COUNT(olds); i++)
-        ask_over(some_question(questions[i % QUESTIONS], &sound, at), (uint16_t)olds[i / QUESTIONS]);
-}
-
 /* On a small map, whose windows have a maximal block each, or are refused by 6. */
 static void old_contents_of_every_window(void)
 {
     for (size_t number = 0; number < n_small_windows(sound.m); number++) {
         window at = small_window(sound.m, number);
         if (compare_decompose(sound.m, at, 0).refusal == 8)
-            ask_over_old_contents(at);
+            ask_over_old_contents(&sound, at, questions, QUESTIONS);
     }
 }
 
@@ -244,24 +237,13 @@ void group_old_contents(void)
 
 /* ---- Group: windows on damaged maps ---- */
 
-/* Inside and outside, on a border and an answer slice that are long enough and that are too short. */
-static void ask_of_damaged(const operation *o)
-{
-    const window windows[] = {whole_picture(damaged.m), {0, 0, 1, 1}, {0, 0, 0, 1}, {65535, 0, 1, 1}};
-    for (size_t i = 0; i < COUNT(windows); i++) {
-        question q = some_question(o, &damaged, windows[i]);
-        ask_in_full(q);
-        ask(q, 0, 0);
-    }
-}
-
 static void ask_of_every_damage(void)
 {
     for (size_t i = 0; i < sound.q; i++)
         for (size_t k = 0; k < n_damages * QUESTIONS; k++) {
             copy_map(&damaged, &sound);
             damage(&damaged, k / QUESTIONS, i);
-            ask_of_damaged(questions[k % QUESTIONS]);
+            ask_inside_and_outside(questions[k % QUESTIONS], &damaged);
         }
 }
 
@@ -467,6 +449,7 @@ static void try_more(window at)
     try_month(&sound, at);
     try_tile(&sound, some_tile(sound.m, at), at, &asked, 1);
     try_reasons(&sound, at);
+    try_thinned(&sound, at);
 }
 
 /* Every operation on the map at hand, and on some windows of it. */
@@ -478,9 +461,15 @@ static void call_everything(void)
     call check = {&CHECK, sound.m, NO_TILE, NO_WINDOW, NO_CLASS, {keys, classes}};
     call write = {&WRITE, sound.m, NO_TILE, NO_WINDOW, NO_CLASS, {keys, classes, {NULL, n}}};
     call read = {&READ, 0, NO_TILE, NO_WINDOW, NO_CLASS, {{file, n}, {NULL, sound.q}, {NULL, sound.q}}};
-    require_numbers(compare(check), 0, 0, (uint32_t)sound.q, 0);
-    require_numbers(compare(write), 0, 0, (uint32_t)n, 0);
-    require_numbers(compare(read), 0, 0, sound.m, (uint32_t)sound.q);
+    lutniorad_answer checked = compare(check);
+    compare_with(&SPARSE_CHECK, checked);
+    lutniorad_answer written = compare(write);
+    compare_with(&SPARSE_WRITE, written);
+    lutniorad_answer taken = compare(read);
+    compare_with(&SPARSE_READ, taken);
+    require_numbers(checked, 0, 0, (uint32_t)sound.q, 0);
+    require_numbers(written, 0, 0, (uint32_t)n, 0);
+    require_numbers(taken, 0, 0, sound.m, (uint32_t)sound.q);
     for (size_t i = 0; i < THIN_WINDOWS; i++)
         try_window(&sound, thin_window(sound.m, i), some_class(&sound));
     for (int i = 0; i < 4; i++)

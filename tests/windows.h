@@ -1,7 +1,7 @@
 /*
- * Groups of cases about windows: decomposing them, opening them on maps, and the queries, the calls with a tile and
- * those for a reason wherever the cases are the same. Those about classes are in queries.h, those about tiles in
- * tiles.h, and those about reasons in why.h.
+ * Groups of cases about windows: decomposing them, opening them on maps, and the queries, the calls with a tile, those
+ * for sparse maps and those for a reason wherever the cases are the same. Those about classes are in queries.h, those
+ * about tiles in tiles.h, those about reasons in why.h, and those about maps with gaps in sparse.h.
  */
 #ifndef WINDOWS_H
 #define WINDOWS_H

@@ -501,6 +501,61 @@ step 'partner sees that it cannot write' sees_failed_output partner sound 0 1 3 
 step 'partner sees that it cannot write a refusal' sees_failed_output partner short 0 1 3 3
 step 'partner sees that it cannot write that a window is refused' sees_failed_output partner sound 2 0 3 1
 
+usage='usage: sparse FILE BACKGROUND R0 C0 H W CLASS, with a house file'
+
+both() { # RECORDS RECORDS BYTES BYTES EXISTS PIXELS BLOCKS [BLOCKS]: the last three of both maps, if there is no fourth
+    printf '%-8s %10s %10s\n' '' complete sparse records "$1" "$2" bytes "$3" "$4" exists "$5" "$5" pixels "$6" "$6" \
+        blocks "$7" "${8-$7}"
+}
+
+# Whatever class is left out, and whatever is asked for, in windows all over the lake.
+loses_nothing() {
+    for class in 0 1 2 3 255 4; do
+        for window in '0 0 32 32' '1 1 30 30' '12 8 10 16' '31 0 1 32' '7 19 1 1'; do
+            for asked in 0 1 2 3 255 4; do
+                # shellcheck disable=SC2086 # a window is a list of numbers
+                run sparse examples/lake.map "$class" $window "$asked" </dev/null >"$files/both" || return 1
+                awk -v same="$((class != asked))" '
+                    /^exists/ && substr($0, 9, 11) != substr($0, 20, 11) { exit 1 }
+                    /^pixels/ && $2 != $3 { exit 1 }
+                    /^blocks/ && (same ? $2 != $3 : $2 < $3) { exit 1 }
+                    END { if (NR != 6) exit 1 }' "$files/both" && continue
+                echo "sparse examples/lake.map $class $window $asked said"
+                cat "$files/both"
+                return 1
+            done
+        done
+    done
+}
+
+house_file 5 1 1 1 1 1 1 1 >"$files/alike"
+step 'the example sparse is built' build sparse examples/sparse.c
+step 'sparse says both of a class' example_says "$(both 7 4 55 40 yes 4 4)" '' 0 sparse sound 1 0 1 3 3 2
+step 'sparse says both of the background' example_says "$(both 7 4 55 40 yes 4 4)" '' 0 sparse sound 1 0 1 3 3 1
+step 'sparse says both of a class that is not there' \
+    example_says "$(both 7 4 55 40 no 0 0)" '' 0 sparse sound 1 0 1 3 3 255
+step 'sparse says both where not all was seen' \
+    example_says "$(both 7 6 55 50 "can't tell" 0 0)" '' 0 sparse partly 255 0 1 3 3 3
+step 'sparse leaves nothing of a picture of one class' \
+    example_says "$(both 1 0 25 20 yes 1 1)" '' 0 sparse pixel 1 0 0 1 1 1
+step 'sparse leaves all where the class is nowhere' \
+    example_says "$(both 7 7 55 55 yes 4 4)" '' 0 sparse sound 0 0 1 3 3 1
+step 'sparse lists gaps by larger blocks than records' \
+    example_says "$(both 7 0 55 20 yes 16 7 1)" '' 0 sparse alike 1 0 0 4 4 1
+step 'sparse loses nothing of the lake' loses_nothing
+step 'sparse refuses a window that sticks out' example_says "$bad_window" '' 1 sparse sound 1 2 0 3 1 1
+step 'sparse refuses a file cut short' example_says "$bad_layout" '' 1 sparse short 1 0 1 3 3 1
+step 'sparse refuses an unsound map' example_says "$bad_key" '' 1 sparse unsound 1 0 1 3 3 1
+step 'sparse sees that a file is missing' example_says '' 'missing: cannot be opened' 2 sparse missing 1 0 1 3 3 1
+step 'sparse sees that a file cannot be read' example_says '' 'folder: cannot be read' 2 sparse folder 1 0 1 3 3 1
+step 'sparse sees that the class to leave out is too great' example_says '' "$usage" 2 sparse sound 256 0 1 3 3 1
+step 'sparse sees that a number is too great' example_says '' "$usage" 2 sparse sound 1 0 1 3 65536 1
+step 'sparse sees that a class is too great' example_says '' "$usage" 2 sparse sound 1 0 1 3 3 256
+step 'sparse sees that the class is missing' example_says '' "$usage" 2 sparse sound 1 0 1 3 3
+step 'sparse sees that there is a number too many' example_says '' "$usage" 2 sparse sound 1 0 1 3 3 1 1
+step 'sparse sees that it cannot write' sees_failed_output sparse sound 1 0 1 3 3 1
+step 'sparse sees that it cannot write a refusal' sees_failed_output sparse short 1 0 1 3 3 1
+
 house_file 5 1 3 3 1 1 1 2 >"$files/second"
 house_file 5 1 2 2 2 1 2 255 >"$files/third"
 one_record 12 1 >"$files/garbled"
