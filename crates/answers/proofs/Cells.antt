@@ -15,7 +15,7 @@ use borrow.Author.Tests.{ltb-false, eqb-false, eqb-true, lt-ltb, le-ltb, eq-eqb,
 use Rattle.lists.proofs.Laws.{never, neither}
 use Rattle.answers.specs.declared.Verdict.the-variants.{Passed, Refused}
 use Rattle.answers.specs.Refusals.{refusal, verdict}
-use Rattle.answers.specs.Sizes.{pictureRefusals, countRefusals, wrongCount, sizeRefusalsIn, sizeRefusals, SizedIn}
+use Rattle.answers.specs.Sizes.{pictureRefusals, countRefusals, wrongCount, sizeRefusalsIn, SizedIn}
 use Rattle.answers.specs.Cells.{overwrite}
 use Rattle.answers.proofs.Tables.{answer-none, refusal-held, refusal-clear, append-refused, passed-one, passed-next}
 
@@ -62,7 +62,7 @@ module _ {whole : Bool} {m keys classes : ℕ} where
           passed-next (ltb 12 m) 1 0 _ .1 (le-ltb 12 m (s .small), passed-next (wrongCount whole keys classes) 2 0 [] .1 (right, answer-none Refused Passed))
 
 -- of a map with a record the same is asked, whether it is to be whole or not
-pub sizes-some : (whole : Bool) (m : ℕ) {keys : ℕ} (classes : ℕ) → 1 ≤ keys → sizeRefusalsIn whole m keys classes ≡ sizeRefusals m keys classes
+pub sizes-some : (whole : Bool) (m : ℕ) {keys : ℕ} (classes : ℕ) → 1 ≤ keys → sizeRefusalsIn whole m keys classes ≡ sizeRefusalsIn true m keys classes
 unfolding sizeRefusalsIn countRefusals wrongCount
 sizes-some true m classes l = refl
 sizes-some false m {keys} classes l = rw (ne-eqb keys 0 (λ e. omega (arith, l, e)))

@@ -18,7 +18,7 @@ use Rattle.map.specs.Records.{pixelRecord}
 use Rattle.map.specs.Classes.{classed, classIn}
 use Rattle.border.specs.Openings.{Opening, openings, hands, allHands}
 use Rattle.border.proofs.Laws.{hands-none, hands-one, hands-append, in-hands, hands-whole}
-use Rattle.exist.specs.Exist.{exists}
+use Rattle.exist.specs.Promises.{exists}
 
 -- ---- what it means
 

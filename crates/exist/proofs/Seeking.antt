@@ -16,7 +16,7 @@ use Rattle.border.specs.Openings.{Opening, made, openings, allHands}
 use Rattle.border.specs.Found.{walkMakes, spot, Finds}
 use Rattle.border.proofs.Laws.{Finding, Opens, finding-last}
 use Rattle.used.specs.Used.{Usable}
-use Rattle.exist.specs.Exist.{exists}
+use Rattle.exist.specs.Promises.{exists}
 use Rattle.exist.proofs.Found.{exists-hands, any-no-opening, any-opening, opening-any}
 
 -- of the n records from the first on it is known whether one passes

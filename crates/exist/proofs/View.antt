@@ -11,7 +11,7 @@ use Rattle.map.specs.Classes.{classIn, notSeen}
 use Rattle.map.proofs.Laws.{spaced}
 use Rattle.border.specs.ViewPromises.{SameView}
 use Rattle.border.proofs.Laws.{pixel-view}
-use Rattle.exist.specs.Exist.{exists, presence}
+use Rattle.exist.specs.Promises.{exists, presence}
 use Rattle.exist.proofs.Tables.{presence-is}
 
 module _ {m : ℕ} {keys keys′ : List ℕ} (F : Follow m 0 keys) (F′ : Follow m 0 keys′) {W : Window} (I : Inside m W) {classes classes′ : List ℕ}

@@ -29,13 +29,6 @@ existIn whole rule m keys classes W class border =
 
 -- ---- by a whole map
 
--- some pixel of the window has the class
-abbrev pub exists : ℕ → List ℕ → List ℕ → Window → ℕ → Bool
-exists m keys classes = existsBy (classIn m keys classes)
-
-abbrev pub presence : ℕ → List ℕ → List ℕ → Window → ℕ → Existence
-presence m keys classes = presenceBy (classIn m keys classes)
-
 abbrev pub existing : ℕ → List ℕ → List ℕ → Window → ℕ → List ℕ → After Existence (List ℕ)
 existing m keys classes = existingBy (classIn m keys classes)
 

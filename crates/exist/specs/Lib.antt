@@ -1,1 +1,2 @@
 pub mod Exist
+pub mod Promises

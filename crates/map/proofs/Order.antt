@@ -11,7 +11,7 @@ use lib.ListN.{length, getD}
 use Rattle.answers.proofs.Laws.{sized-sparse}
 use Rattle.key.specs.Blocks.{Among}
 use Rattle.key.proofs.Laws.{one-block, ordered, pow-least}
-use Rattle.map.specs.Sound.{Follow, full, next, Spaced, ended, later, Recorded, SoundMap, SparseMap}
+use Rattle.map.specs.Sound.{Follow, full, next, Spaced, ended, later, Recorded, SoundIn, SoundMap}
 use Rattle.map.specs.Runs.{Rising}
 use Rattle.map.proofs.Tiles.{Record, SomeRecord, Holder, Free}
 
@@ -26,7 +26,7 @@ module _ {m : ℕ} where
   recorded-spaced false F = F
 
   -- so a whole map is one that may have gaps
-  pub whole-sparse : {keys : List ℕ} {classes : ℕ} → SoundMap m keys classes → SparseMap m keys classes
+  pub whole-sparse : {keys : List ℕ} {classes : ℕ} → SoundMap m keys classes → SoundIn false m keys classes
   whole-sparse S = record { sizes = sized-sparse (S .sizes); records = spaced (S .records) }
 
   pub record-at : {at : ℕ} {keys : List ℕ} → Spaced m at keys → (n : ℕ) → n < length keys → SomeRecord m keys n
