@@ -7,6 +7,7 @@ use mathlib.Core.List.{List, [], _∷_, _++_, append-assoc, append-nil}
 use Prim.Native.Nat.{ℕ, _+_, _-_, _≤_, _<_}
 use native.Mathlib.Nat.{zero-add}
 use native.Mathlib.Numerals.{add-one}
+use native.Mathlib.Decide.{ℕ-discrete}
 use native.Mathlib.Omega.{arith}
 use lib.Dec.{eqb, ltb}
 use lib.ListN.{length, take, drop, getD, set, length-append, length-drop}
@@ -61,11 +62,15 @@ module _ {whole : Bool} {m keys classes : ℕ} where
           let right : wrongCount whole keys classes ≡ false = rw (eq-eqb keys classes (s .same), none whole (s .some), le-ltb 65536 keys (s .most)) in
           passed-next (ltb 12 m) 1 0 _ .1 (le-ltb 12 m (s .small), passed-next (wrongCount whole keys classes) 2 0 [] .1 (right, answer-none Refused Passed))
 
--- of a map with a record the same is asked, whether it is to be whole or not
-pub sizes-some : (whole : Bool) (m : ℕ) {keys : ℕ} (classes : ℕ) → 1 ≤ keys → sizeRefusalsIn whole m keys classes ≡ sizeRefusalsIn true m keys classes
+-- of slices that are not both empty the same is asked, whether the map is to be whole or not
+pub sizes-some : (whole : Bool) (m : ℕ) {keys classes : ℕ} → (keys ≡ 0 → classes ≡ 0 → ⊥) → sizeRefusalsIn whole m keys classes ≡ sizeRefusalsIn true m keys classes
 unfolding sizeRefusalsIn countRefusals wrongCount
-sizes-some true m classes l = refl
-sizes-some false m {keys} classes l = rw (ne-eqb keys 0 (λ e. omega (arith, l, e)))
+sizes-some true m some = refl
+sizes-some false m {keys} {classes} some = go (ℕ-discrete keys classes)
+  where
+    go : Dec (keys ≡ classes) → sizeRefusalsIn false m keys classes ≡ sizeRefusalsIn true m keys classes
+    go (yes e) = rw (eq-eqb keys classes e, ne-eqb keys 0 (λ z. some z (sym e ∙ z)))
+    go (no n) = rw (ne-eqb keys classes n)
 
 -- what is asked of a whole map is more
 pub sized-sparse : {whole : Bool} {m keys classes : ℕ} → SizedIn whole m keys classes → SizedIn false m keys classes

@@ -12,10 +12,11 @@ use Rattle.answers.proofs.Laws.{on-passed, on-refused, unless-answer, unless-ke
 use Rattle.window.specs.declared.Window.{Window}
 use Rattle.window.specs.Window.{Inside}
 use Rattle.window.specs.Rules.{existsBy}
-use Rattle.map.specs.Sound.{SoundIn}
+use Rattle.map.specs.Sound.{SoundMap}
+use Rattle.map.specs.Promises.{Gapless}
 use Rattle.map.specs.Classes.{notSeen}
 use Rattle.used.specs.Used.{useRefusalsIn, spent}
-use Rattle.used.proofs.Laws.{use-alike}
+use Rattle.used.proofs.Laws.{use-gapless}
 use Rattle.exist.specs.declared.Existence.{Existence}
 use Rattle.exist.specs.declared.Existence.the-variants as existence
 use Rattle.exist.specs.Exist.{presenceBy, existingBy, existIn}
@@ -69,10 +70,10 @@ module _ (rule : ℕ → ℕ) (W : Window) (class : ℕ) (border : List ℕ) {le
   unfolding presenceBy existingBy
   existing-none e u d = rw (e, u, d)
 
--- on a sound map two rules that say the same of a window inside answer alike, whether the map is to be whole or not
-pub exist-sound : {whole whole′ : Bool} {m : ℕ} {keys : List ℕ} {classes : ℕ} → SoundIn whole m keys classes → SoundIn whole′ m keys classes
-    → (rule rule′ : ℕ → ℕ) (W : Window) (class : ℕ) (border : List ℕ) → (Inside m W → presenceBy rule W class ≡ presenceBy rule′ W class)
-    → existIn whole rule m keys classes W class border ≡ existIn whole′ rule′ m keys classes W class border
+-- on a map whose gaps are not refused two rules that say the same where it is sound and the window inside answer alike, whether it is to be whole or not
+pub exist-gapless : {m : ℕ} {keys : List ℕ} {classes : ℕ} → Gapless m keys classes → (rule rule′ : ℕ → ℕ) (W : Window) (class : ℕ) (border : List ℕ)
+    → (SoundMap m keys classes → Inside m W → presenceBy rule W class ≡ presenceBy rule′ W class)
+    → existIn false rule m keys classes W class border ≡ existIn true rule′ m keys classes W class border
 unfolding existIn existingBy
-exist-sound S S′ rule rule′ W class border h =
-    use-alike S S′ W (length border) (λ n p. after (existence.Refused n p) border) _ _ (λ I. ap (λ (x : Existence). after x (spent W border)) (h I))
+exist-gapless G rule rule′ W class border h =
+    use-gapless G W (length border) (λ n p. after (existence.Refused n p) border) _ _ (λ S I. ap (λ (x : Existence). after x (spent W border)) (h S I))

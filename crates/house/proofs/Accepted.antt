@@ -161,8 +161,8 @@ write-accepted whole m keys classes out {n} e =
 
 pub read-some : (whole : Bool) (file keys classes : List ℕ) → 1 ≤ fileQ file → readIn whole file keys classes ≡ readOf file keys classes
 unfolding readIn readRefusalsIn layoutRefusals fileQ
-read-some whole file keys classes l = rw (sizes-some whole (getD (numbers 5 file) 1 0) (getD (numbers 5 file) 2 0) l)
+read-some whole file keys classes l = rw (sizes-some whole (getD (numbers 5 file) 1 0) {keys = getD (numbers 5 file) 2 0} {classes = getD (numbers 5 file) 2 0} (λ e d. omega (arith, l, e)))
 
-pub write-some : (whole : Bool) (m : ℕ) (keys classes out : List ℕ) → 1 ≤ length keys → writeIn whole m keys classes out ≡ writeOf m keys classes out
+pub write-some : (whole : Bool) (m : ℕ) (keys classes out : List ℕ) → (length keys ≡ 0 → length classes ≡ 0 → ⊥) → writeIn whole m keys classes out ≡ writeOf m keys classes out
 unfolding writeIn writeRefusalsIn
-write-some whole m keys classes out l = rw (sizes-some whole m (length classes) l)
+write-some whole m keys classes out l = rw (sizes-some whole m l)

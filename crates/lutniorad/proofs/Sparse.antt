@@ -3,7 +3,7 @@
 use mathlib.Core.Path.{_≡_}
 use mathlib.Core.Bool.{false}
 use mathlib.Core.List.{List}
-use Prim.Native.Nat.{ℕ, _*_, _≤_}
+use Prim.Native.Nat.{ℕ, _+_, _*_, _/_, _^_, _≤_}
 use native.Mathlib.Omega.{arith}
 use lib.ListN.{length, take}
 use Rattle.window.specs.declared.Window.{Window}
@@ -11,8 +11,9 @@ use Rattle.window.proofs.Laws.{key-block}
 use Rattle.border.specs.Promises.{openingsIn}
 use Rattle.border.proofs.Laws.{empty-is, empty-or-brings, fewest}
 use Rattle.used.specs.Promises.{AnswerableIn}
+use Rattle.select.proofs.Laws.{selection-capped}
 use Rattle.sparse_select.specs.Select.{sparseSelection}
-use Rattle.sparse_select.proofs.Laws.{sparse-flat, sparse-one, sparse-once, sparse-inside, sparse-pixels, sparse-most, sparse-rising, sparse-least}
+use Rattle.sparse_select.proofs.Laws.{sparse-flat, sparse-one, sparse-once, sparse-inside, sparse-pixels, sparse-plain, sparse-most, sparse-rising, sparse-least}
 use Rattle.lutniorad.specs.declared.Answer.{Answer}
 use Rattle.lutniorad.specs.Calls.{SparseOpen, SparseSelect}
 use Rattle.lutniorad.specs.SparsePromises.{SparseOpenPromise, SparseSelectPromise}
@@ -44,6 +45,13 @@ module _ (m top background : ℕ) (keys classes : List ℕ) (W : Window) (class 
   sparse-select-enough cap A l =
       select-answered false listed m top keys classes W border out call .1
       (cap, (A, omega (arith, sparse-most {top = top} (A .sound .records) (A .inside) cap background classes (A .sound .sizes .same) class)))
+
+  -- and for another class than the background's what is enough on a whole map
+  pub sparse-select-enough-other : ¬ (class ≡ background) → top ≤ m → AnswerableIn false m keys (length classes) W (length border)
+      → length keys + 4 * (W .w + W .h) + W .w * W .h / 4 ^ top ≤ length out → r .refusal ≡ 0
+  sparse-select-enough-other other cap A l =
+      let same = sparse-plain {top = top} (A .sound .records) (A .inside) cap background classes (A .sound .sizes .same) class other in
+      select-answered false listed m top keys classes W border out call .1 (cap, (A, rw same (omega (arith, selection-capped (A .sound .records) (A .inside) cap classes class))))
 
   pub sparse-select-promise : r .refusal ≡ 0 → SparseSelectPromise m top background keys classes W class border out (take (r .first) out′) r border′ out′
   sparse-select-promise z =

@@ -2,6 +2,7 @@
 -- Assumes nothing.
 pub use Rattle.map.proofs.Tiles.{Record, SomeRecord, Holder, Free, Tiling, pixelTile, Overlap, Meets}
 pub use Rattle.map.proofs.Tables.{check-is, numbered-map, without-map, map-over, spaced-records, sound-map}
+pub use Rattle.map.proofs.Gapless.{gapless-same, sound-gapless}
 pub use Rattle.map.proofs.Order.{spaced, recorded-spaced, whole-sparse, record-at, apart, holder, find, keys-apart, keys-rise, one-holder}
 pub use Rattle.map.proofs.Holding.{exponent-record, tile-record, record-tile, record-of, record-none, exponent-of, tile-of, exponent-none}
 pub use Rattle.map.proofs.Holding.{tile-none, record-holder, tile-holder, tiles, pixel-holder, pixel-below, tile-whole, tiling, record-square}

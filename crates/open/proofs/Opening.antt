@@ -1,7 +1,7 @@
 -- Opening as a use of a map and a window, and passes over the maximal blocks with and without room.
 -- Assumes nothing.
 use mathlib.Core.Path.{_≡_, refl, sym, ap, _∙_}
-use mathlib.Core.Bool.{Bool}
+use mathlib.Core.Bool.{Bool, true, false}
 use mathlib.Core.List.{List, [], _++_}
 use Prim.Native.Nat.{ℕ, _+_, _*_, _≤_, _<_}
 use native.Mathlib.Omega.{arith}
@@ -10,14 +10,14 @@ use Rattle.answers.specs.declared.Verdict.the-variants as verdict-of
 use Rattle.answers.specs.Refusals.{verdict}
 use Rattle.answers.specs.After.{after, tiledFor}
 use Rattle.window.specs.declared.Window.{Window}
-use Rattle.map.specs.Sound.{SoundIn}
+use Rattle.map.specs.Promises.{Gapless}
 use Rattle.border.specs.declared.Totals.{Totals}
 use Rattle.border.specs.Openings.{Opening, openings, handedCount, cellsOf}
 use Rattle.border.specs.Found.{Passed}
 use Rattle.border.proofs.Loops.{passed-nothing, passed-same, passed-written}
 use Rattle.border.proofs.Laws.{cells-length}
 use Rattle.used.specs.Used.{useRefusalsIn, tiledRefusals, spent, usedIn}
-use Rattle.used.proofs.Laws.{used-short, used-done, spent-again, tiled-cap, tiled-usable, used-tiled, used-within, tiled-alike}
+use Rattle.used.proofs.Laws.{used-short, used-done, spent-again, tiled-cap, tiled-usable, used-tiled, used-within, tiled-gapless}
 use Rattle.open.specs.declared.Opened.{Opened}
 use Rattle.open.specs.declared.Opened.the-variants.{Done, Refused}
 use Rattle.open.specs.Open.{openIn}
@@ -63,11 +63,11 @@ module _ (whole : Bool) (m top : ℕ) (keys : List ℕ) (classes : ℕ) (W : Win
     unfolding accepted
     open-done l = behind ∙ used-done whole Refused done (cellsOf os) m keys classes W border out usable (omega (arith, cells-length os))
 
--- on a sound map it is the same whether the map is to be whole or not
-pub open-sound : {whole whole′ : Bool} {m : ℕ} {keys : List ℕ} {classes : ℕ} → SoundIn whole m keys classes → SoundIn whole′ m keys classes
-    → (top : ℕ) (W : Window) (border out : List ℕ) → openIn whole m top keys classes W border out ≡ openIn whole′ m top keys classes W border out
+-- on a map whose gaps are not refused it is the same whether the map is to be whole or not
+pub open-gapless : {m : ℕ} {keys : List ℕ} {classes : ℕ} → Gapless m keys classes → (top : ℕ) (W : Window) (border out : List ℕ)
+    → openIn false m top keys classes W border out ≡ openIn true m top keys classes W border out
 unfolding openIn
-open-sound S S′ top W border out = tiled-alike S S′ Refused _ _ _ _ top W border out (λ cap I. (refl, refl))
+open-gapless G top W border out = tiled-gapless G Refused _ _ _ _ top W border out (λ S cap I. (refl, refl))
 
 -- a border that is spent already is spent no further
 pub accepted-again : (m top : ℕ) (keys : List ℕ) (W : Window) (border out : List ℕ) → accepted m top keys W (spent W border) out ≡ accepted m top keys W border out

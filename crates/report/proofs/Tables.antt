@@ -1,7 +1,7 @@
 -- What report answers and leaves, by the verdict of its refusals.
 -- Assumes nothing.
 use mathlib.Core.Path.{_≡_, refl, sym}
-use mathlib.Core.Bool.{Bool}
+use mathlib.Core.Bool.{Bool, true, false}
 use mathlib.Core.List.{List}
 use Prim.Native.Nat.{ℕ, _*_, _≤_, _<_}
 use lib.ListN.{length}
@@ -13,9 +13,10 @@ use Rattle.window.specs.declared.Window.{Window}
 use Rattle.window.specs.Window.{Inside}
 use Rattle.window.specs.Rules.{totalsBy}
 use Rattle.window.proofs.Laws.{totals-by-length}
-use Rattle.map.specs.Sound.{SoundIn}
+use Rattle.map.specs.Sound.{SoundMap}
+use Rattle.map.specs.Promises.{Gapless}
 use Rattle.used.specs.Used.{useRefusalsIn, spent, usedIn}
-use Rattle.used.proofs.Laws.{used-refused, used-short, used-done, used-alike}
+use Rattle.used.proofs.Laws.{used-refused, used-short, used-done, used-gapless}
 use Rattle.report.specs.declared.Reported.the-variants.{Done, Refused}
 use Rattle.report.specs.Report.{reportIn}
 
@@ -41,9 +42,9 @@ module _ (whole : Bool) (rule : ℕ → ℕ) (m : ℕ) (keys : List ℕ) (classe
     unfolding reportIn
     report-done l t o = rw (d, o, t) (sym (used-done whole Refused (Done (W .h * W .w)) (totalsBy rule W) m keys classes W border out e (rw (totals-by-length rule W) l)))
 
--- on a sound map two rules that count the same in a window inside answer alike, whether the map is to be whole or not
-pub report-sound : {whole whole′ : Bool} {m : ℕ} {keys : List ℕ} {classes : ℕ} → SoundIn whole m keys classes → SoundIn whole′ m keys classes
-    → (rule rule′ : ℕ → ℕ) (W : Window) (border out : List ℕ) → (Inside m W → totalsBy rule W ≡ totalsBy rule′ W)
-    → reportIn whole rule m keys classes W border out ≡ reportIn whole′ rule′ m keys classes W border out
+-- on a map whose gaps are not refused two rules that count the same where it is sound and the window inside answer alike, whether it is to be whole or not
+pub report-gapless : {m : ℕ} {keys : List ℕ} {classes : ℕ} → Gapless m keys classes → (rule rule′ : ℕ → ℕ) (W : Window) (border out : List ℕ)
+    → (SoundMap m keys classes → Inside m W → totalsBy rule W ≡ totalsBy rule′ W)
+    → reportIn false rule m keys classes W border out ≡ reportIn true rule′ m keys classes W border out
 unfolding reportIn
-report-sound S S′ rule rule′ W border out h = used-alike S S′ Refused _ _ _ _ W border out (λ I. (refl, h I))
+report-gapless G rule rule′ W border out h = used-gapless G Refused _ _ _ _ W border out (λ S I. (refl, h S I))

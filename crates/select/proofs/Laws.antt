@@ -4,5 +4,5 @@ pub use Rattle.select.proofs.Choices.{around-is, Lying, lies, apart, so
 pub use Rattle.select.proofs.Picked.{selected-met, block-selected}
 pub use Rattle.select.proofs.Blockwise.{selection-flat}
 pub use Rattle.select.proofs.Selection.{one-corner, selection-once, selection-has, selection-holds, selection-one, selection-capped, selection-few, selection-pixels}
-pub use Rattle.select.proofs.Tables.{keys-short, keys-done, select-is, select-within, select-refused, select-listed, select-sound}
+pub use Rattle.select.proofs.Tables.{keys-short, keys-done, select-is, select-within, select-refused, select-listed, select-gapless}
 pub use Rattle.select.proofs.View.{selection-view}

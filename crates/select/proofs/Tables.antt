@@ -1,7 +1,7 @@
 -- What select answers and leaves, by the verdict of its refusals and the room for its keys.
 -- Assumes nothing.
 use mathlib.Core.Path.{_≡_, refl, sym, ap, _∙_}
-use mathlib.Core.Bool.{Bool}
+use mathlib.Core.Bool.{Bool, true, false}
 use mathlib.Core.List.{List}
 use Prim.Native.Nat.{ℕ, _≤_, _<_}
 use native.Mathlib.Omega.{arith}
@@ -13,9 +13,10 @@ use Rattle.answers.specs.After.{after, tiledFor}
 use Rattle.answers.proofs.Laws.{room-short, room-done, listed-count, listed-all}
 use Rattle.window.specs.declared.Window.{Window}
 use Rattle.window.specs.Window.{Inside}
-use Rattle.map.specs.Sound.{SoundIn}
+use Rattle.map.specs.Sound.{SoundMap}
+use Rattle.map.specs.Promises.{Gapless}
 use Rattle.used.specs.Used.{tiledRefusals, spent, usedIn}
-use Rattle.used.proofs.Laws.{used-passed, tiled-cap, tiled-usable, used-tiled, used-within, tiled-alike}
+use Rattle.used.proofs.Laws.{used-passed, tiled-cap, tiled-usable, used-tiled, used-within, tiled-gapless}
 use Rattle.select.specs.declared.Selected.{Selected}
 use Rattle.select.specs.declared.Selected.the-variants.{Done, Refused}
 use Rattle.select.specs.Select.{selectKeys, keysInto}
@@ -48,10 +49,10 @@ module _ (whole : Bool) (ks : List ℕ) (m top : ℕ) (keys : List ℕ) (classes
         used-passed whole Refused (Done (length ks)) ks m keys classes W border out (tiled-usable whole m top keys classes W (length border) e) d t
         ∙ sym (select-within (tiled-cap whole m top keys classes W (length border) e))
 
--- on a sound map the same keys are selected alike, whether the map is to be whole or not
-pub select-sound : {whole whole′ : Bool} {m : ℕ} {keys : List ℕ} {classes : ℕ} → SoundIn whole m keys classes → SoundIn whole′ m keys classes
-    → (ks ks′ : List ℕ) (top : ℕ) (W : Window) (border out : List ℕ) → (top ≤ m → Inside m W → ks ≡ ks′)
-    → selectKeys whole ks m top keys classes W border out ≡ selectKeys whole′ ks′ m top keys classes W border out
+-- on a map whose gaps are not refused keys that are the same where it is sound, the cap no larger than m and the window inside are selected alike, whether it is to be whole or not
+pub select-gapless : {m : ℕ} {keys : List ℕ} {classes : ℕ} → Gapless m keys classes → (ks ks′ : List ℕ) (top : ℕ) (W : Window) (border out : List ℕ)
+    → (SoundMap m keys classes → top ≤ m → Inside m W → ks ≡ ks′)
+    → selectKeys false ks m top keys classes W border out ≡ selectKeys true ks′ m top keys classes W border out
 unfolding selectKeys
-select-sound S S′ ks ks′ top W border out h =
-    tiled-alike S S′ Refused _ _ _ _ top W border out (λ cap I. let e = h cap I in (ap (λ (xs : List ℕ). Done (length xs)) e, e))
+select-gapless G ks ks′ top W border out h =
+    tiled-gapless G Refused _ _ _ _ top W border out (λ S cap I. let e = h S cap I in (ap (λ (xs : List ℕ). Done (length xs)) e, e))

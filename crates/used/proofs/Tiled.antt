@@ -1,7 +1,7 @@
 -- A use of a map and a window with a cap on the exponent of blocks: its refusals, and what is known behind them.
 -- Assumes nothing.
 use mathlib.Core.Path.{_≡_, refl, sym, _∙_}
-use mathlib.Core.Bool.{Bool}
+use mathlib.Core.Bool.{Bool, true, false}
 use mathlib.Core.List.{List}
 use Prim.Native.Nat.{ℕ, _≤_}
 use lib.ListN.{length}
@@ -13,10 +13,11 @@ use Rattle.answers.specs.After.{after, tiledFor}
 use Rattle.answers.proofs.Laws.{append-passed, append-refused, passed-append, on-passed, on-refused, answer-same, tile-passed, tiled-within}
 use Rattle.window.specs.declared.Window.{Window}
 use Rattle.window.specs.Window.{Inside}
-use Rattle.map.specs.Sound.{SoundIn}
+use Rattle.map.specs.Sound.{SoundMap}
+use Rattle.map.specs.Promises.{Gapless}
 use Rattle.used.specs.Used.{Usable, useRefusalsIn, tiledRefusals, usedIn}
 use Rattle.used.proofs.Use.{use-capped}
-use Rattle.used.proofs.Used.{used-refused, used-over, used-alike}
+use Rattle.used.proofs.Used.{used-refused, used-over, used-gapless}
 
 module _ (whole : Bool) (m top : ℕ) (keys : List ℕ) (classes : ℕ) (W : Window) (cells : ℕ) where
   pub tiled-first : {n p : ℕ} → verdict (tileRefusals m top) ≡ Refused n p → verdict (tiledRefusals whole m top keys classes W cells) ≡ Refused n p
@@ -60,11 +61,11 @@ module _ (whole : Bool) {A : Type 0} (refuse : ℕ → ℕ → A) (done : A) (ce
   pub used-within : top ≤ m → tiledFor refuse m top (border, out) (usedIn whole refuse done cells m keys classes W border out) ≡ usedIn whole refuse done cells m keys classes W border out
   used-within cap = tiled-within m top refuse (border, out) _ cap (λ l. used-over whole refuse done cells m keys classes W border out l)
 
--- on a sound map, whole or not, two uses are the same where the cap is no larger than m and the window is inside
-pub tiled-alike : {whole whole′ : Bool} {m : ℕ} {keys : List ℕ} {classes : ℕ} → SoundIn whole m keys classes → SoundIn whole′ m keys classes
+-- on a map whose gaps are not refused, a use that may have gaps and one of a whole map are the same, if they are so where the map is sound, the cap no larger than m and the window inside
+pub tiled-gapless : {m : ℕ} {keys : List ℕ} {classes : ℕ} → Gapless m keys classes
     → {A : Type 0} (refuse : ℕ → ℕ → A) (done done′ : A) (cells cells′ : List ℕ) (top : ℕ) (W : Window) (border out : List ℕ)
-    → (top ≤ m → Inside m W → (done ≡ done′) × (cells ≡ cells′))
-    → tiledFor refuse m top (border, out) (usedIn whole refuse done cells m keys classes W border out)
-    ≡ tiledFor refuse m top (border, out) (usedIn whole′ refuse done′ cells′ m keys classes W border out)
-tiled-alike {m = m} S S′ refuse done done′ cells cells′ top W border out h =
-    answer-same _ (tileRefusals m top) _ _ (λ passed. used-alike S S′ refuse done done′ cells cells′ W border out (h (tile-passed m top .0 passed .1)))
+    → (SoundMap m keys classes → top ≤ m → Inside m W → (done ≡ done′) × (cells ≡ cells′))
+    → tiledFor refuse m top (border, out) (usedIn false refuse done cells m keys classes W border out)
+    ≡ tiledFor refuse m top (border, out) (usedIn true refuse done′ cells′ m keys classes W border out)
+tiled-gapless {m = m} G refuse done done′ cells cells′ top W border out h =
+    answer-same _ (tileRefusals m top) _ _ (λ passed. used-gapless G refuse done done′ cells cells′ W border out (λ S. h S (tile-passed m top .0 passed .1)))

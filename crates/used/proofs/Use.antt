@@ -1,6 +1,6 @@
 -- Refusals 1 to 7, test by test; which calls they pass, and what is known of those.
 -- Assumes nothing.
-use mathlib.Core.Path.{_≡_, sym, ap, _∙_}
+use mathlib.Core.Path.{_≡_, refl, sym, ap, _∙_}
 use mathlib.Core.Logic.{_↔_}
 use mathlib.Core.Bool.{Bool, true, false}
 use mathlib.Core.List.{List, []}
@@ -9,16 +9,19 @@ use native.Mathlib.Omega.{arith}
 use lib.Dec.{ltb}
 use lib.ListN.{length}
 use borrow.Author.Tests.{lt-ltb, le-ltb, ltb-false}
+use Rattle.answers.specs.declared.Verdict.{Verdict}
 use Rattle.answers.specs.declared.Verdict.the-variants as verdict-of
 use Rattle.answers.specs.Refusals.{answer, verdict}
-use Rattle.answers.proofs.Laws.{refusal-held, answer-append, answer-same, on-passed, append-passed, append-refused, passed-one, passed-append, Numbered, none, numbered-next, numbered-append}
+use Rattle.answers.proofs.Laws.{refusal-held, answer-append, answer-same, on-passed, on-refused, append-passed, append-refused, passed-one, passed-append}
+use Rattle.answers.proofs.Laws.{Numbered, none, numbered-next, numbered-append}
 use Rattle.answers.proofs.Laws.{Without, without-none, without-other, without-append}
 use Rattle.window.specs.declared.Window.{Window}
 use Rattle.window.specs.Window.{outside, windowRefusals, Inside}
 use Rattle.window.proofs.Laws.{window-refused, window-passed, window-inside, numbered-window, without-window}
-use Rattle.map.specs.Check.{mapRefusalsIn}
-use Rattle.map.specs.Sound.{Follow, SoundIn}
-use Rattle.map.proofs.Laws.{sound-map, recorded-spaced, numbered-map, without-map}
+use Rattle.map.specs.Check.{mapRefusalsIn, mapRefusals}
+use Rattle.map.specs.Sound.{Follow, SoundIn, SoundMap}
+use Rattle.map.specs.Promises.{Gapless}
+use Rattle.map.proofs.Laws.{sound-map, recorded-spaced, whole-sparse, gapless-same, numbered-map, without-map}
 use Rattle.used.specs.Used.{Usable, borderRefusals, useRefusalsIn, useRefusals}
 use Rattle.used.specs.Promises.{AnswerableIn}
 
@@ -131,3 +134,15 @@ pub use-alike : {whole whole′ : Bool} {m : ℕ} {keys keys′ : List ℕ} {cla
 use-alike {whole′ = whole} {m} {keys′ = keys} {classes′ = classes} S S′ W cells refuse a a′ h =
     use-sound S S′ W cells refuse a
     ∙ answer-same refuse (useRefusalsIn whole m keys classes W cells) a a′ (λ passed. h (use-answerable whole m keys classes W cells .0 passed .inside))
+
+-- and those on one map whose gaps are not refused, if they are the same where it is sound and the window inside
+pub use-gapless : {m : ℕ} {keys : List ℕ} {classes : ℕ} → Gapless m keys classes → (W : Window) (cells : ℕ) {A : Type 0} (refuse : ℕ → ℕ → A) (a a′ : A)
+    → (SoundMap m keys classes → Inside m W → a ≡ a′)
+    → answer refuse (useRefusalsIn false m keys classes W cells) a ≡ answer refuse (useRefusals m keys classes W cells) a′
+use-gapless {m} {keys} {classes} G W cells refuse a a′ h = go (verdict (mapRefusals m keys classes)) refl
+  where
+    go : (v : Verdict) → verdict (mapRefusals m keys classes) ≡ v
+        → answer refuse (useRefusalsIn false m keys classes W cells) a ≡ answer refuse (useRefusals m keys classes W cells) a′
+    go verdict-of.Passed e = let S = sound-map m keys classes .0 e in use-alike (whole-sparse S) S W cells refuse a a′ (h S)
+    go (verdict-of.Refused n p) e =
+        on-refused refuse _ a (use-refused false m keys classes W cells (gapless-same G ∙ e)) ∙ sym (on-refused refuse _ a′ (use-refused true m keys classes W cells e))

@@ -2,7 +2,7 @@
 -- Assumes nothing.
 use mathlib.Core.Path.{_≡_, refl, sym, ap, _∙_}
 use mathlib.Core.Logic.{_↔_}
-use mathlib.Core.Bool.{Bool}
+use mathlib.Core.Bool.{Bool, true, false}
 use mathlib.Core.List.{List, _++_}
 use Prim.Native.Nat.{ℕ, _+_, _≤_, _<_}
 use native.Mathlib.Omega.{arith}
@@ -17,11 +17,12 @@ use Rattle.answers.proofs.Laws.{unless-answer, unless-said, answer-append, on-p
 use Rattle.answers.proofs.Laws.{room-done, room-by-lengths, room-said, room-told, Numbered, numbered-append, numbered-room}
 use Rattle.window.specs.declared.Window.{Window}
 use Rattle.window.specs.Window.{Inside}
-use Rattle.map.specs.Sound.{SoundIn}
+use Rattle.map.specs.Sound.{SoundMap}
+use Rattle.map.specs.Promises.{Gapless}
 use Rattle.map.proofs.Laws.{map-over}
 use Rattle.used.specs.Used.{useRefusalsIn, spent, usedIn}
 use Rattle.used.specs.Promises.{AnswerableIn}
-use Rattle.used.proofs.Use.{use-refused, use-answerable, numbered-use, use-alike}
+use Rattle.used.proofs.Use.{use-refused, use-answerable, numbered-use, use-gapless}
 
 -- ---- refusal 8, and an accepted call
 
@@ -111,10 +112,11 @@ module _ (whole : Bool) {A : Type 0} (refuse : ℕ → ℕ → A) (done : A) (ce
       go verdict-of.Passed q = absurd (other n p (sym (says (used-done q room))))
       go (verdict-of.Refused n′ p′) q = (n′, p′, q, says (used-refused q))
 
--- on a sound map, whole or not, two uses are the same where the window is inside
-pub used-alike : {whole whole′ : Bool} {m : ℕ} {keys : List ℕ} {classes : ℕ} → SoundIn whole m keys classes → SoundIn whole′ m keys classes
-    → {A : Type 0} (refuse : ℕ → ℕ → A) (done done′ : A) (cells cells′ : List ℕ) (W : Window) (border out : List ℕ) → (Inside m W → (done ≡ done′) × (cells ≡ cells′))
-    → usedIn whole refuse done cells m keys classes W border out ≡ usedIn whole′ refuse done′ cells′ m keys classes W border out
+-- on a map whose gaps are not refused, a use that may have gaps and one of a whole map are the same, if they are so where the map is sound and the window inside
+pub used-gapless : {m : ℕ} {keys : List ℕ} {classes : ℕ} → Gapless m keys classes
+    → {A : Type 0} (refuse : ℕ → ℕ → A) (done done′ : A) (cells cells′ : List ℕ) (W : Window) (border out : List ℕ)
+    → (SoundMap m keys classes → Inside m W → (done ≡ done′) × (cells ≡ cells′))
+    → usedIn false refuse done cells m keys classes W border out ≡ usedIn true refuse done′ cells′ m keys classes W border out
 unfolding usedIn
-used-alike S S′ refuse done done′ cells cells′ W border out h =
-    use-alike S S′ W (length border) (λ n p. after (refuse n p) (border, out)) _ _ (λ I. let t = h I in rw (t .0, t .1))
+used-gapless G refuse done done′ cells cells′ W border out h =
+    use-gapless G W (length border) (λ n p. after (refuse n p) (border, out)) _ _ (λ S I. let t = h S I in rw (t .0, t .1))
