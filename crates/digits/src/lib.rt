@@ -1,5 +1,6 @@
 // The digits of keys: reading one, as a block by its span or as a square, and how far a block reaches around another. As in the crate `blocks`, m is at most 12.
 use key::Form;
+use key::Span;
 use key::Square;
 use key::Stripped;
 ghost use mathlib.Core.Path.{_≡_};
@@ -10,7 +11,7 @@ ghost use Rattle.key.specs.Spread.{spreads};
 ghost use Rattle.key.specs.declared.Form.the-variants.{Block, Malformed};
 ghost use Rattle.key.specs.Form.{formOf};
 ghost use Rattle.key.specs.Reading.{Strips, placeOr16, pairsTable};
-ghost use Rattle.key.specs.Blocks.{SquareOf, BelowBlock, Reaches};
+ghost use Rattle.key.specs.Blocks.{Names, SomeBlock, SquareOf, BelowBlock, Reaches};
 
 // Two digits, for each number below 25: the place of the pixel of that key among 16, or 16 where one of them is 0.
 const PAIRS: [u8; 25] = [
@@ -178,6 +179,21 @@ pub fn read_key(m: u32, key: u32) -> Form
     }
     let pairs = pairs_table();
     read_digits(&pairs, m, strip_zeros(key))
+}
+
+// The block of a key that is known to be that of one.
+pub fn span_of(m: u32, key: u32) -> Span
+    requires { ⌜ (m ≤ 12) × SomeBlock m key ⌝ }
+    ensures { λ r. ⌜ Names m key (r .exponent) (r .start) ⌝ }
+{
+    let form = read_key(m, key);
+    let Form::Block { exponent, start } = form else {
+        return Span {
+            exponent: 0,
+            start: 0,
+        };
+    };
+    Span { exponent, start }
 }
 
 // The square that a number names, if it is the key of a block; of any other it is some square. Digit by digit from the small end: each chooses a half of the rows and a half of the

@@ -20,7 +20,7 @@ use Rattle.key.specs.Blocks.{Names, SquareOf, Among}
 use Rattle.key.proofs.Powers.{pow-least}
 use Rattle.key.proofs.Digits.{form-whole, form-gap, form-digit}
 use Rattle.key.proofs.Pixels.{larger, no-place, place-corner, place-quadrant}
-use Rattle.key.proofs.Named.{one-block, block-named, block-lies, holds-own, holds-same}
+use Rattle.key.proofs.Named.{not-malformed, one-block, block-named, block-lies, holds-own, holds-same}
 
 -- the square of exponent i whose corner is the pixel in row r, column c
 abbrev pub square : ℕ → ℕ → ℕ → Square
@@ -68,9 +68,6 @@ square-inside {m} {key} {i} {r} {c} b p =
 
 -- ---- read from the small end, digit by digit
 
-no-names : {m key i s : ℕ} → formOf m key ≡ Malformed → Names m key i s → ⊥
-no-names e n = let d = sym e ∙ n .is in let z : _≡_ {A = ℕ} 0 1 = cc in omega arith
-
 -- of the picture of one pixel
 square-first : (key : ℕ) → SquareOf 0 (key % 5 ^ 0) (square 0 0 0)
 square-first key = record {
@@ -101,7 +98,7 @@ module _ (k key : ℕ) {i r c : ℕ} (S : SquareOf k (key % 5 ^ k) (square i r c
       named {j} {s} n = go (decLt 0 (key % 5 ^ k))
         where
           go : Dec (0 < key % 5 ^ k) → (i + 1 ≡ j) × (place r c ≡ s)
-          go (yes h) = absurd (no-names (form-gap k (key % 5 ^ k) (λ e. omega (arith, e, h)) low) (rw same at n))
+          go (yes h) = absurd (not-malformed (rw same at n) (form-gap k (key % 5 ^ k) (λ e. omega (arith, e, h)) low))
           go (no h) =
               let e : key % 5 ^ k ≡ 0 = omega (arith, h) in
               let below = S .is {i = k} {s = 0} (record { is = rw e (form-whole k) }) in
@@ -142,7 +139,7 @@ module _ (k key : ℕ) {i r c : ℕ} (S : SquareOf k (key % 5 ^ k) (square i r c
             let size : h ≡ j = cc in
             let start : d * 4 ^ k + t ≡ s = cc in
             (below .0 ∙ size, there ∙ omega (arith, below .1, start))
-        named {j} {s} n Malformed e = absurd (no-names (first ∙ ap (from (d * 4 ^ k)) e) n)
+        named {j} {s} n Malformed e = absurd (not-malformed n (first ∙ ap (from (d * 4 ^ k)) e))
 
 -- ---- along the digits: k are read, and what is left is above them
 

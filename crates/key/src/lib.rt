@@ -6,6 +6,12 @@ pub enum Form {
     Malformed,
 }
 
+// A block, by its exponent and the place at which its span starts.
+pub struct Span {
+    pub exponent: u32,
+    pub start: u32,
+}
+
 // A square block, by its exponent and its corner's row and column.
 pub struct Square {
     pub exponent: u32,

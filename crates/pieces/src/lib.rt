@@ -1,6 +1,5 @@
 // Today's map, which may have gaps, over a complete baseline: the classes of places, piece by piece, and by them a window's totals and whether it has a class.
 // A map with gaps by itself is one over a baseline of a single record, the whole picture in the background's class.
-use key::Form;
 use window::Next;
 use window::Window;
 ghost use mathlib.Core.Path.{_≡_};
@@ -73,18 +72,11 @@ fn read_record(m: u32, keys: &[u32], n: usize) -> Cursor
             end: picture + 1,
         };
     }
-    let form = digits::read_key(m, keys[n]);
-    let Form::Block { exponent, start } = form else {
-        return Cursor {
-            next: n,
-            start: 0,
-            end: 0,
-        };
-    };
-    let end = start + blocks::pow4(exponent);
+    let block = digits::span_of(m, keys[n]);
+    let end = block.start + blocks::pow4(block.exponent);
     Cursor {
         next: n,
-        start,
+        start: block.start,
         end,
     }
 }

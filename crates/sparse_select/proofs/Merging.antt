@@ -10,7 +10,7 @@ use Rattle.lists.specs.Lists.{upFrom}
 use Rattle.answers.specs.Cells.{Listed}
 use Rattle.answers.proofs.Laws.{listed-none, listed-more}
 use Rattle.key.specs.declared.Spot.{Spot}
-use Rattle.key.specs.Blocks.{Names}
+use Rattle.key.specs.Blocks.{Names, SomeBlock}
 use Rattle.key.specs.Along.{Stands}
 use Rattle.key.proofs.Laws.{one-block}
 use Rattle.map.specs.declared.Run.{Run}
@@ -19,7 +19,7 @@ use Rattle.map.proofs.Laws.{Record, block-records}
 use Rattle.pick.specs.Picked.{pickedAround}
 use Rattle.stretch.specs.Fewest.{stretch}
 use Rattle.sparse_select.specs.Select.{merged, sparseSelected}
-use Rattle.sparse_select.specs.Asked.{Asked, SomeBlock}
+use Rattle.sparse_select.specs.Asked.{Asked}
 use Rattle.sparse_select.proofs.Pieces.{Pieces, Front, front, block-pieces}
 use Rattle.sparse_select.proofs.Merged.{blank-own, merged-last, merged-next}
 use Rattle.sparse_select.proofs.Cases.{block-merged}

@@ -4,17 +4,10 @@ use mathlib.Core.Path.{_≡_}
 use mathlib.Core.List.{List}
 use Prim.Native.Nat.{ℕ, _+_, _≤_, _<_}
 use lib.ListN.{length}
-use Rattle.key.specs.Blocks.{Names}
 use Rattle.map.specs.declared.Run.{Run}
 use Rattle.map.specs.Sound.{Spaced}
 use Rattle.map.specs.Runs.{runOf}
 use Rattle.sparse_select.specs.Select.{sparseSelected}
-
--- the key is that of a block
-pub record SomeBlock (m key : ℕ) : Type 0 where
-  pub exponent : ℕ
-  pub start : ℕ
-  pub names : Names m key exponent start
 
 -- a map that can be used, the records that overlap the block of a key, and n others, so few that all can be counted
 pub record Asked (m : ℕ) (keys classes : List ℕ) (class key : ℕ) (run : Run) (n : ℕ) : Type 0 where

@@ -1,43 +1,19 @@
 // Select on maps with gaps: the keys of a class in a window, where a pixel in no record has the class of the background.
-use key::Form;
 use map::Run;
 use select::Selected;
 use window::Next;
 use window::Window;
 ghost use mathlib.Core.Path.{_≡_};
-ghost use Prim.Native.Nat.{_≤_};
 ghost use lib.ListN.{length};
 ghost use Rattle.answers.specs.Cells.{Listed};
 ghost use Rattle.answers.specs.After.{after};
 ghost use Rattle.key.specs.Spread.{spreads};
 ghost use Rattle.key.specs.Along.{onesTable};
-ghost use Rattle.key.specs.Blocks.{Names};
 ghost use Rattle.map.specs.Runs.{runOf, BlockOf};
 ghost use Rattle.used.specs.Used.{Usable};
 ghost use Rattle.select.specs.Select.{keysInto};
 ghost use Rattle.sparse_select.specs.Select.{sparseSelected, sparseSelection};
-ghost use Rattle.sparse_select.specs.Asked.{SomeBlock, Asked};
-
-// A block, by its exponent and the place at which its span starts.
-pub struct Span {
-    pub exponent: u32,
-    pub start: u32,
-}
-
-// The block of a key that is known to be that of one.
-fn span_of(m: u32, key: u32) -> Span
-    requires { ⌜ (m ≤ 12) × SomeBlock m key ⌝ }
-    ensures { λ r. ⌜ Names m key (r .exponent) (r .start) ⌝ }
-{
-    let form = digits::read_key(m, key);
-    let Form::Block { exponent, start } = form else {
-        return Span {
-            exponent: 0,
-            start: 0,
-        };
-    };
-    Span { exponent, start }
-}
+ghost use Rattle.sparse_select.specs.Asked.{Asked};
 
 // Of a block beyond which its records do not reach, lists the gaps and the records of the class behind n others, where the class is that of the background. How many there are then.
 fn put_run(
@@ -54,7 +30,7 @@ fn put_run(
     requires { ⌜ (now ones ≡ onesTable) × Asked m (now keys) (now classes) class key run n × BlockOf m key (run .reach) ⌝ }
     ensures { λ r. ⌜ Listed n (sparseSelected m class (now (keys .entry)) (now (classes .entry)) class key) (now (out .entry)) r (now (out .exit)) ⌝ }
 {
-    let block = span_of(m, key);
+    let block = digits::span_of(m, key);
     let end = block.start + blocks::pow4(block.exponent);
     let mut spot = spots::begin(ones, m, key, block.exponent, block.start);
     let mut k = n;
@@ -62,7 +38,7 @@ fn put_run(
     let last = i + (run.count as usize);
     while i < last {
         let own = keys[i];
-        let at = span_of(m, own);
+        let at = digits::span_of(m, own);
         k = stretch::put_stretch(ones, m, spot, at.start, out, k);
         k = pick::pick_around(classes, class, own, i, out, k);
         spot = spots::advance(ones, m, own, at.exponent, at.start);

@@ -1,10 +1,10 @@
--- `sparse_select::span_of` meets its contract: the form of a block's key is not malformed.
+-- `digits::span_of` meets its contract: the form of a block's key is not malformed.
 -- Assumes nothing.
 use mathlib.Core.Path.{sym, _∙_}
 use borrow.Author.Needs.{needs}
-use Rattle.map.proofs.Laws.{not-malformed}
-use Rattle.sparse_select.proofs.span_of.Statement.{statement}
-use Rattle.sparse_select.proofs.span_of.Tie as tie
+use Rattle.key.proofs.Laws.{not-malformed}
+use Rattle.digits.proofs.span_of.Statement.{statement}
+use Rattle.digits.proofs.span_of.Tie as tie
 
 read-key-requires : tie.Need-read-key-requires
 read-key-requires c κs = search needs
