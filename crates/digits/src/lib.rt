@@ -10,7 +10,7 @@ ghost use lib.Dec.{eqb};
 ghost use Rattle.key.specs.Spread.{spreads};
 ghost use Rattle.key.specs.declared.Form.the-variants.{Block, Malformed};
 ghost use Rattle.key.specs.Form.{formOf};
-ghost use Rattle.key.specs.Reading.{Strips, placeOr16, pairsTable};
+ghost use Rattle.key.specs.Reading.{Strips, placeOr16, pairsTable, EndsIn, startUp, startsTable};
 ghost use Rattle.key.specs.Blocks.{Names, SomeBlock, SquareOf, BelowBlock, Reaches};
 
 // Two digits, for each number below 25: the place of the pixel of that key among 16, or 16 where one of them is 0.
@@ -181,18 +181,84 @@ pub fn read_key(m: u32, key: u32) -> Form
     read_digits(&pairs, m, strip_zeros(key))
 }
 
-// The block of a key that is known to be that of one.
+// Two digits of a block's key, for each number below 25: where they say that its span starts, among 16 places. A zero counts as the first quadrant does.
+const STARTS: [u8; 25] = [
+    0,
+    0,
+    1,
+    2,
+    3,
+    0,
+    0,
+    1,
+    2,
+    3,
+    4,
+    4,
+    5,
+    6,
+    7,
+    8,
+    8,
+    9,
+    10,
+    11,
+    12,
+    12,
+    13,
+    14,
+    15,
+];
+
+fn starts_table() -> [u8; 25]
+    ensures { λ r. ⌜ r ≡ startsTable ⌝ }
+{
+    STARTS
+}
+
+// How many zeros a number of m digits ends in.
+fn zeros_of(m: u32, key: u32) -> u32
+    requires { ⌜ m ≤ 12 ⌝ }
+    ensures { λ r. ⌜ EndsIn m key r ⌝ }
+{
+    let mut rest = key;
+    let mut zeros: u32 = 0;
+    while zeros < m {
+        if rest % 5 != 0 {
+            return zeros;
+        }
+        rest = rest / 5;
+        zeros += 1;
+    }
+    zeros
+}
+
+// Where the span of the block of a key starts, by its digits: two at a time from the small end, and always twelve.
+fn start_of(starts: &[u8; 25], key: u32) -> u32
+    requires { ⌜ now starts ≡ startsTable ⌝ }
+    ensures { λ r. ⌜ r ≡ startUp 12 key ⌝ }
+{
+    let mut left = key;
+    let mut start: u32 = 0;
+    let mut k: u32 = 0;
+    while k < 12 {
+        let two = left % 25;
+        let pair = starts[two as usize] as u32;
+        start = pair * blocks::pow4(k) + start;
+        left = left / 25;
+        k += 2;
+    }
+    start
+}
+
+// The block of a key that is known to be that of one. Nothing is left to be tested, and `read_key` keeps its one caller, into which it is compiled.
 pub fn span_of(m: u32, key: u32) -> Span
     requires { ⌜ (m ≤ 12) × SomeBlock m key ⌝ }
     ensures { λ r. ⌜ Names m key (r .exponent) (r .start) ⌝ }
 {
-    let form = read_key(m, key);
-    let Form::Block { exponent, start } = form else {
-        return Span {
-            exponent: 0,
-            start: 0,
-        };
-    };
+    let starts = starts_table();
+    let exponent = zeros_of(m, key);
+    let start = start_of(&starts, key);
     Span { exponent, start }
 }
 

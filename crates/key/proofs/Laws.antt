@@ -1,6 +1,6 @@
 -- The laws of keys, for every m: all that the crates above know of keys. Most are read off how two blocks stand to one another.
 -- Assumes nothing.
-pub use Rattle.key.proofs.Named.{not-malformed, one-block, one-key, block-named, pixel-named, whole-named, block-lies, blocks-stand, nested}
+pub use Rattle.key.proofs.Named.{one-block, one-key, block-named, pixel-named, whole-named, block-lies, blocks-stand, nested}
 pub use Rattle.key.proofs.Named.{ordered, starts-order, key-order, holds-key, holds-own, same-block, holds-same, covers, span-pixel}
 pub use Rattle.key.proofs.Squares.{square-names, span-square, square-inside}
 pub use Rattle.key.proofs.Standing.{Lies, Covers, Stand, within, around, after, before, PixelAt}

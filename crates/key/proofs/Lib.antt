@@ -15,6 +15,7 @@ mod Places
 mod Around
 mod Strips
 mod Reading
+mod Upward
 mod Along
 mod Here
 mod Examples

@@ -5,9 +5,7 @@ use mathlib.Core.Logic.{_↔_}
 use Prim.Native.Nat.{ℕ, _+_, _-_, _*_, _/_, _^_, _≤_, _<_}
 use native.Mathlib.Nat.{mul-div-cancel, div-mul-le-self, lt-div-mul-add}
 use native.Mathlib.Omega.{arith}
-use Rattle.key.specs.declared.Form.the-variants.{Malformed}
 use Rattle.key.specs.Picture.{Pixel, place}
-use Rattle.key.specs.Form.{formOf}
 use Rattle.key.specs.Key.{pixelKey, blockKey}
 use Rattle.key.specs.Blocks.{Names, Among}
 use Rattle.key.proofs.Standing.{PixelAt, Lies, Covers, Stand, within, around, after, before}
@@ -20,10 +18,6 @@ at : {m key i s : ℕ} → Names m key i s → At m key i s
 at {m} {key} n = form-at m key (n .is)
 
 -- ---- a key and its block determine each other
-
--- a block's key is not malformed
-pub not-malformed : {m key i s : ℕ} → Names m key i s → formOf m key ≡ Malformed → ⊥
-not-malformed n e = let d = sym e ∙ n .is in let z : _≡_ {A = ℕ} 0 1 = cc in omega arith
 
 pub one-block : {m key i s j t : ℕ} → Names m key i s → Names m key j t → (i ≡ j) × (s ≡ t)
 one-block x y = (cc, cc)

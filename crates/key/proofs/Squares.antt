@@ -3,12 +3,12 @@
 use mathlib.Core.Path.{_≡_, refl, sym, ap, _∙_}
 use mathlib.Core.Logic.{_↔_}
 use Prim.Native.Nat.{ℕ, suc, _+_, _-_, _*_, _/_, _%_, _^_, _≤_, _<_}
-use native.Mathlib.Nat.{add-comm, one-mul, pow-suc, pow-succ', mul-le-mul-right, div-one, div-div-eq-div-mul}
+use native.Mathlib.Nat.{add-comm, one-mul, pow-succ', mul-le-mul-right, div-one}
 use native.Mathlib.Nat.{mod-lt, mod-eq-of-lt, div-mul-le-self, lt-div-mul-add, div-eq-of-lt, div-eq-of-lt-le, zero-mul, add-mul}
 use native.Mathlib.Numerals.{add-one}
 use native.Mathlib.Decide.{decLt}
 use native.Mathlib.Omega.{arith}
-use lib.Arith.{digits-div, digits-mod, mod-mul}
+use lib.Arith.{digits-div, digits-mod}
 use lib.Dec.{lit<}
 use Rattle.lists.proofs.Laws.{down-nested}
 use Rattle.key.specs.declared.Square.{Square}
@@ -18,9 +18,9 @@ use Rattle.key.specs.Picture.{Pixel, place}
 use Rattle.key.specs.Form.{formOf, from}
 use Rattle.key.specs.Blocks.{Names, SquareOf, Among}
 use Rattle.key.proofs.Powers.{pow-least}
-use Rattle.key.proofs.Digits.{form-whole, form-gap, form-digit}
+use Rattle.key.proofs.Digits.{form-whole, form-gap, form-digit, digit-split, digit-above}
 use Rattle.key.proofs.Pixels.{larger, no-place, place-corner, place-quadrant}
-use Rattle.key.proofs.Named.{not-malformed, one-block, block-named, block-lies, holds-own, holds-same}
+use Rattle.key.proofs.Named.{one-block, block-named, block-lies, holds-own, holds-same}
 
 -- the square of exponent i whose corner is the pixel in row r, column c
 abbrev pub square : ℕ → ℕ → ℕ → Square
@@ -68,6 +68,9 @@ square-inside {m} {key} {i} {r} {c} b p =
 
 -- ---- read from the small end, digit by digit
 
+no-names : {m key i s : ℕ} → formOf m key ≡ Malformed → Names m key i s → ⊥
+no-names e n = let d = sym e ∙ n .is in let z : _≡_ {A = ℕ} 0 1 = cc in omega arith
+
 -- of the picture of one pixel
 square-first : (key : ℕ) → SquareOf 0 (key % 5 ^ 0) (square 0 0 0)
 square-first key = record {
@@ -81,10 +84,6 @@ module _ (k key : ℕ) {i r c : ℕ} (S : SquareOf k (key % 5 ^ k) (square i r c
   abbrev digit : ℕ
   digit = key / 5 ^ k % 5
 
-  -- one digit more, before those that are read
-  split : key % 5 ^ suc k ≡ digit * 5 ^ k + key % 5 ^ k
-  split = rw (pow-succ' 5 k) (mod-mul key (lit< tt) (pow-least 4 k))
-
   low : key % 5 ^ k < 5 ^ k
   low = mod-lt key (pow-least 4 k)
 
@@ -92,13 +91,13 @@ module _ (k key : ℕ) {i r c : ℕ} (S : SquareOf k (key % 5 ^ k) (square i r c
   square-zero z = record { pixel = larger (omega arith) (S .pixel); small = omega (arith, S .small); is = named }
     where
       same : key % 5 ^ suc k ≡ key % 5 ^ k
-      same = omega (arith, split, ap (λ (d : ℕ). d * 5 ^ k) z)
+      same = omega (arith, digit-split k key, ap (λ (d : ℕ). d * 5 ^ k) z)
 
       named : {j s : ℕ} → Names (suc k) (key % 5 ^ suc k) j s → (i + 1 ≡ j) × (place r c ≡ s)
       named {j} {s} n = go (decLt 0 (key % 5 ^ k))
         where
           go : Dec (0 < key % 5 ^ k) → (i + 1 ≡ j) × (place r c ≡ s)
-          go (yes h) = absurd (not-malformed (rw same at n) (form-gap k (key % 5 ^ k) (λ e. omega (arith, e, h)) low))
+          go (yes h) = absurd (no-names (form-gap k (key % 5 ^ k) (λ e. omega (arith, e, h)) low) (rw same at n))
           go (no h) =
               let e : key % 5 ^ k ≡ 0 = omega (arith, h) in
               let below = S .is {i = k} {s = 0} (record { is = rw e (form-whole k) }) in
@@ -125,8 +124,8 @@ module _ (k key : ℕ) {i r c : ℕ} (S : SquareOf k (key % 5 ^ k) (square i r c
     first : formOf (suc k) (key % 5 ^ suc k) ≡ from (d * 4 ^ k) (formOf k (key % 5 ^ k))
     first =
         let some : 1 ≤ digit = omega (arith, z) in
-        let l : 5 ^ k ≤ key % 5 ^ suc k = omega (arith, split, mul-le-mul-right (5 ^ k) some, one-mul (5 ^ k)) in
-        form-digit k (key % 5 ^ suc k) l (mod-lt key (pow-least 4 (suc k))) ∙ rw (split, digits-div digit low, digits-mod digit low)
+        let l : 5 ^ k ≤ key % 5 ^ suc k = omega (arith, digit-split k key, mul-le-mul-right (5 ^ k) some, one-mul (5 ^ k)) in
+        form-digit k (key % 5 ^ suc k) l (mod-lt key (pow-least 4 (suc k))) ∙ rw (digit-split k key, digits-div digit low, digits-mod digit low)
 
     square-digit : SquareOf (suc k) (key % 5 ^ suc k) (square i (r + (key / 5 ^ k % 5 - 1) / 2 * 2 ^ k) (c + (key / 5 ^ k % 5 - 1) % 2 * 2 ^ k))
     unfolding from
@@ -139,7 +138,7 @@ module _ (k key : ℕ) {i r c : ℕ} (S : SquareOf k (key % 5 ^ k) (square i r c
             let size : h ≡ j = cc in
             let start : d * 4 ^ k + t ≡ s = cc in
             (below .0 ∙ size, there ∙ omega (arith, below .1, start))
-        named {j} {s} n Malformed e = absurd (not-malformed n (first ∙ ap (from (d * 4 ^ k)) e))
+        named {j} {s} n Malformed e = absurd (no-names (first ∙ ap (from (d * 4 ^ k)) e) n)
 
 -- ---- along the digits: k are read, and what is left is above them
 
@@ -152,15 +151,12 @@ pub squaring-first : (m key : ℕ) → Squaring m key key 0 0 0 0
 squaring-first m key = record { within = omega arith; left = sym (div-one key); so = square-first key }
 
 module _ {m key rest i r c k : ℕ} (Q : Squaring m key rest i r c k) (l : k < m) where
-  next : rest / 5 ≡ key / 5 ^ suc k
-  next = ap (λ (n : ℕ). n / 5) (Q .left) ∙ div-div-eq-div-mul key (5 ^ k) 5 ∙ ap (λ (n : ℕ). key / n) (sym (pow-suc 5 k))
-
   pub squaring-zero : rest % 5 ≡ 0 → Squaring m key (rest / 5) (i + 1) r c (k + 1)
-  squaring-zero z = rw (add-one k) (record { within = l; left = next; so = square-zero k key (Q .so) (rw (← Q .left) z) })
+  squaring-zero z = rw (add-one k) (record { within = l; left = digit-above k key (Q .left); so = square-zero k key (Q .so) (rw (← Q .left) z) })
 
   pub squaring-digit : (rest % 5 ≡ 0 → ⊥) → {side : ℕ} → side ≡ 2 ^ k
       → Squaring m key (rest / 5) i (r + (rest % 5 - 1) / 2 * side) (c + (rest % 5 - 1) % 2 * side) (k + 1)
-  squaring-digit z e = rw (add-one k, e) (record { within = l; left = next; so = rw (Q .left) (square-digit k key (Q .so) (rw (← Q .left) z)) })
+  squaring-digit z e = rw (add-one k, e) (record { within = l; left = digit-above k key (Q .left); so = rw (Q .left) (square-digit k key (Q .so) (rw (← Q .left) z)) })
 
 -- of all digits
 pub squaring-last : {m key rest i r c k : ℕ} → Squaring m key rest i r c k → m ≤ k → SquareOf m key (square i r c)

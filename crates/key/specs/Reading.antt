@@ -1,8 +1,8 @@
--- What a key is read by from the small end: the zeros that it ends in, and its digits by twos.
+-- What a key is read by from the small end: the zeros that it ends in, and its digits by twos; of a block's key, where its span starts.
 -- Assumes nothing.
 use mathlib.Core.Path.{_≡_}
 use mathlib.Core.List.{List, map}
-use Prim.Native.Nat.{ℕ, zero, suc, _*_, _%_, _^_}
+use Prim.Native.Nat.{ℕ, zero, suc, _+_, _-_, _*_, _/_, _%_, _^_, _≤_, _<_}
 use Rattle.lists.specs.Lists.{upFrom}
 use Rattle.key.specs.declared.Form.{Form}
 use Rattle.key.specs.declared.Form.the-variants.{Block, Malformed}
@@ -22,3 +22,18 @@ placeOr16 Malformed = 16
 -- two digits as a key of their own: the pixel's place, or 16 where one of them is 0, by a table
 unfoldable pub pairsTable : List ℕ
 pairsTable = map (λ (x : ℕ). placeOr16 (formOf 2 x)) (upFrom 0 25)
+
+-- a number of m digits ends in r zeros, and in no more
+pub record EndsIn (m key r : ℕ) : Type 0 where
+  pub most : r ≤ m
+  pub zeros : key % 5 ^ r ≡ 0
+  pub no-more : r < m → key % 5 ^ suc r ≡ 0 → ⊥
+
+-- where the span of a block starts, by the last n digits of its key: each counts for its quadrant, and the zeros for none
+unfoldable pub startUp : ℕ → ℕ → ℕ
+startUp zero key = 0
+startUp (suc n) key = key % 5 - 1 + 4 * startUp n (key / 5)
+
+-- two digits, by a table
+unfoldable pub startsTable : List ℕ
+startsTable = map (λ (x : ℕ). startUp 2 x) (upFrom 0 25)

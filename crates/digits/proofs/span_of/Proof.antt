@@ -1,25 +1,25 @@
--- `digits::span_of` meets its contract: the form of a block's key is not malformed.
+-- `digits::span_of` meets its contract: a block's key ends in as many zeros as its exponent says, and its digits say where it starts.
 -- Assumes nothing.
-use mathlib.Core.Path.{sym, _∙_}
+use mathlib.Core.Path.{_∙_}
 use borrow.Author.Needs.{needs}
-use Rattle.key.proofs.Laws.{not-malformed}
+use Rattle.key.proofs.Loops.{ends-exponent, start-told}
 use Rattle.digits.proofs.span_of.Statement.{statement}
 use Rattle.digits.proofs.span_of.Tie as tie
 
-read-key-requires : tie.Need-read-key-requires
-read-key-requires c κs = search needs
+starts-table-requires : tie.Need-starts-table-requires
+starts-table-requires c κs = search needs
 
-enum-known-form : tie.Need-enum-known-form
-enum-known-form c = search needs
+zeros-of-requires : tie.Need-zeros-of-requires
+zeros-of-requires c κs = search needs
 
-enum-told : tie.Need-enum-told
-enum-told c = search needs
+start-of-requires : tie.Need-start-of-requires
+start-of-requires c κs = search needs
 
 returns : tie.Need-returns
-returns c = absurd (not-malformed (c .before .before .before .pre .1 .names) (sym (c .before .before .read-key .ensures) ∙ c .enum-told .given .1))
-
-returns-2 : tie.Need-returns-2
-returns-2 c = record { is = sym (c .before .before .before .read-key .ensures) ∙ c .before .form .given .1 }
+returns c =
+    let e = c .before .before .before .before in
+    let n = e .pre .1 .names in
+    rw (ends-exponent n (c .before .before .zeros-of .ensures), c .start-of .ensures ∙ start-told (e .pre .0) n) n
 
 pub span-of-spec : {M : Type 1} → statement M
-span-of-spec = tie.close (tie.spec read-key-requires enum-known-form enum-told returns returns-2)
+span-of-spec = tie.close (tie.spec starts-table-requires zeros-of-requires start-of-requires returns)
