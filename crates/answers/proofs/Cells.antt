@@ -7,7 +7,7 @@ use mathlib.Core.List.{List, [], _∷_, _++_, append-assoc, append-nil}
 use Prim.Native.Nat.{ℕ, _+_, _-_, _≤_, _<_}
 use native.Mathlib.Nat.{zero-add}
 use native.Mathlib.Numerals.{add-one}
-use native.Mathlib.Decide.{ℕ-discrete}
+use native.Mathlib.Decide.{decLt, ℕ-discrete}
 use native.Mathlib.Omega.{arith}
 use lib.Dec.{eqb, ltb}
 use lib.ListN.{length, take, drop, getD, set, length-append, length-drop}
@@ -62,16 +62,6 @@ module _ {whole : Bool} {m keys classes : ℕ} where
           let right : wrongCount whole keys classes ≡ false = rw (eq-eqb keys classes (s .same), none whole (s .some), le-ltb 65536 keys (s .most)) in
           passed-next (ltb 12 m) 1 0 _ .1 (le-ltb 12 m (s .small), passed-next (wrongCount whole keys classes) 2 0 [] .1 (right, answer-none Refused Passed))
 
--- of slices that are not both empty the same is asked, whether the map is to be whole or not
-pub sizes-some : (whole : Bool) (m : ℕ) {keys classes : ℕ} → (keys ≡ 0 → classes ≡ 0 → ⊥) → sizeRefusalsIn whole m keys classes ≡ sizeRefusalsIn true m keys classes
-unfolding sizeRefusalsIn countRefusals wrongCount
-sizes-some true m some = refl
-sizes-some false m {keys} {classes} some = go (ℕ-discrete keys classes)
-  where
-    go : Dec (keys ≡ classes) → sizeRefusalsIn false m keys classes ≡ sizeRefusalsIn true m keys classes
-    go (yes e) = rw (eq-eqb keys classes e, ne-eqb keys 0 (λ z. some z (sym e ∙ z)))
-    go (no n) = rw (ne-eqb keys classes n)
-
 -- what is asked of a whole map is more
 pub sized-sparse : {whole : Bool} {m keys classes : ℕ} → SizedIn whole m keys classes → SizedIn false m keys classes
 sized-sparse s = record { small = s .small; same = s .same; some = λ e. never (sym e); most = s .most }
@@ -88,6 +78,24 @@ module _ (whole : Bool) (m keys classes : ℕ) where
       go : (t : Bool) → wrongCount whole keys classes ≡ t → verdict (refusal (ltb 12 m) 1 0 ∷ refusal (wrongCount whole keys classes) 2 0 ∷ []) ≡ Refused 2 0
       go true e = refusal-clear Refused 1 0 _ _ (le-ltb 12 m l) ∙ refusal-held Refused 2 0 [] _ e
       go false e = absurd (wrong (sized .0 (refusal-clear Refused 1 0 _ _ (le-ltb 12 m l) ∙ refusal-clear Refused 2 0 [] _ e ∙ answer-none Refused Passed)))
+
+-- of slices that are not both empty the same is asked, whether the map is to be whole or not
+sizes-some : (m : ℕ) {keys classes : ℕ} → (keys ≡ 0 → classes ≡ 0 → ⊥) → sizeRefusalsIn false m keys classes ≡ sizeRefusalsIn true m keys classes
+unfolding sizeRefusalsIn countRefusals wrongCount
+sizes-some m {keys} {classes} some = go (ℕ-discrete keys classes)
+  where
+    go : Dec (keys ≡ classes) → sizeRefusalsIn false m keys classes ≡ sizeRefusalsIn true m keys classes
+    go (yes e) = rw (eq-eqb keys classes e, ne-eqb keys 0 (λ z. some z (sym e ∙ z)))
+    go (no n) = rw (ne-eqb keys classes n)
+
+-- and so it is of all, but where a whole map is refused for want of records
+pub sizes-same : (m : ℕ) {keys classes : ℕ} → (verdict (sizeRefusalsIn true m keys classes) ≡ Refused 2 0 → keys ≡ 0 → classes ≡ 0 → ⊥)
+    → verdict (sizeRefusalsIn false m keys classes) ≡ verdict (sizeRefusalsIn true m keys classes)
+sizes-same m {keys} {classes} some = go (decLt 12 m)
+  where
+    go : Dec (12 < m) → verdict (sizeRefusalsIn false m keys classes) ≡ verdict (sizeRefusalsIn true m keys classes)
+    go (yes l) = over-12 false m keys classes l ∙ sym (over-12 true m keys classes l)
+    go (no l) = ap verdict (sizes-some m (λ e d. some (not-sized true m keys classes (omega arith) (λ s. omega (arith, s .some refl, e))) e d))
 
 -- ---- lent cells
 

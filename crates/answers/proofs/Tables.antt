@@ -56,6 +56,10 @@ module _ {A : Type 0} (refuse : ℕ → ℕ → A) where
   unfolding by
   on-refused rs a e = by-verdict rs a ∙ ap (λ (v : Verdict). by v a) e
 
+  -- tables of one verdict answer alike
+  pub answer-verdict : (rs ss : List Refusal) (a : A) → verdict rs ≡ verdict ss → answer refuse rs a ≡ answer refuse ss a
+  answer-verdict rs ss a e = by-verdict rs a ∙ ap (λ (v : Verdict). by v a) e ∙ sym (by-verdict ss a)
+
   -- what stands behind refusals counts only where they pass
   pub answer-same : (rs : List Refusal) (a a′ : A) → (verdict rs ≡ Passed → a ≡ a′) → answer refuse rs a ≡ answer refuse rs a′
   answer-same rs a a′ h = go (verdict rs) refl

@@ -33,17 +33,21 @@ module _ {m : ℕ} {keys : List ℕ} (F : Spaced m 0 keys) {key i s : ℕ} (B : 
   meets : Meets m keys i s (runOf m keys key .first) (runOf m keys key .count)
   meets = block-records F B
 
-  -- a block that no record overlaps is opened with first index 0 and count 0
-  unmet-opening : Unmet m keys key → opening m keys key ≡ made key 0 0
-  unfolding opening
-  unmet-opening U = go (decLt 0 (runOf m keys key .count))
+  -- a block that no record overlaps
+  pub unmet-none : Unmet m keys key → runOf m keys key .count ≡ 0
+  unmet-none U = go (decLt 0 (runOf m keys key .count))
     where
-      go : Dec (0 < runOf m keys key .count) → made key (runOf m keys key .first) (runOf m keys key .count) ≡ made key 0 0
+      go : Dec (0 < runOf m keys key .count) → runOf m keys key .count ≡ 0
       go (yes l) =
           let R = record-at F (runOf m keys key .first) (omega (arith, meets .room)) in
           let o = meets .exactly (R .is) .1 (omega arith) in
           absurd (never (sym (overlap-is B (R .is .names) .1 o) ∙ U .none _ (R .is .within)))
-      go (no h) = let z : runOf m keys key .count ≡ 0 = omega (arith, h) in ap₂ (made key) (meets .empty z) z
+      go (no h) = omega (arith, h)
+
+  -- is opened with first index 0 and count 0
+  unmet-opening : Unmet m keys key → opening m keys key ≡ made key 0 0
+  unfolding opening
+  unmet-opening U = ap₂ (made key) (meets .empty (unmet-none U)) (unmet-none U)
 
   -- and no other is
   opening-unmet : made key 0 0 ≡ opening m keys key → Unmet m keys key

@@ -4,7 +4,7 @@
 use mathlib.Core.Path.{_≡_, refl, sym, ap, _∙_}
 use mathlib.Core.Bool.{true, false}
 use mathlib.Core.List.{List}
-use Prim.Native.Nat.{ℕ, _≤_}
+use Prim.Native.Nat.{ℕ}
 use lib.ListN.{length}
 use Rattle.answers.specs.declared.Verdict.{Verdict}
 use Rattle.answers.specs.declared.Verdict.the-variants.{Passed, Refused}
@@ -28,25 +28,30 @@ use Rattle.select.proofs.Laws.{select-gapless}
 use Rattle.sparse_select.specs.Select.{sparseSelection}
 use Rattle.sparse_select.proofs.Laws.{sparse-whole}
 use Rattle.house.specs.File.{fileQ}
-use Rattle.house.proofs.Laws.{read-some, write-some}
+use Rattle.house.proofs.Laws.{read-same, write-same}
 use Rattle.lutniorad.specs.declared.Answer.{Answer}
 use Rattle.lutniorad.specs.Numbers.{values, refused}
 use Rattle.lutniorad.specs.Calls.{Call, Check, OpenTiled, Exist, Report, SelectTiled, Read, Write}
 use Rattle.lutniorad.specs.Calls.{SparseCheck, SparseOpen, SparseExist, SparseReport, SparseSelect, SparseRead, SparseWrite}
 use Rattle.lutniorad.proofs.Crossing.{call-one}
-use Rattle.lutniorad.proofs.Answered.{check-says}
+use Rattle.lutniorad.proofs.Answered.{check-says, read-says, write-says}
 
 -- calls of outcomes that are the same
 alike : {A N S : Type 0} {say : A → N} {o o′ : After A S} {r r′ : N} {lent lent′ : S} → o ≡ o′ → Call say o r lent → Call say o′ r′ lent′ → (r ≡ r′) × (lent ≡ lent′)
 alike e a b = call-one (rw e at a) b
 
+-- the number of a refusal
+by-number : {r : Answer} {n p : ℕ} → r ≡ refused n p → r .refusal ≡ n
+by-number e = ap (λ (x : Answer). x .refusal) e
+
 -- what the plain check does not say is known from a call of it
-pub check-gapless : (m : ℕ) (keys classes : List ℕ) {r : Answer} → Check m keys classes r → (length keys ≡ 0 → length classes ≡ 0 → ⊥) → (r .refusal ≡ 5 → ⊥)
+pub check-gapless : (m : ℕ) (keys classes : List ℕ) {r : Answer} → Check m keys classes r → (r .refusal ≡ 2 → length keys ≡ 0 → length classes ≡ 0 → ⊥) → (r .refusal ≡ 5 → ⊥)
     → Gapless m keys (length classes)
 check-gapless m keys classes call some other = record {
-  some = some;
-  closed = λ p v. other (ap (λ (x : Answer). x .refusal) (check-says true m keys classes call ∙ on-refused refused (mapRefusals m keys (length classes)) _ v));
+  some = λ p v. some (by-number (check-says true m keys classes call ∙ on-refused refused _ _ v));
+  closed = λ p v. other (by-number (check-says true m keys classes call ∙ on-refused refused _ _ v));
 }
+
 
 module _ (m : ℕ) (keys classes : List ℕ) (G : Gapless m keys (length classes)) where
   pub check-complete : {r s : Answer} → SparseCheck m keys classes r → Check m keys classes s → r ≡ s
@@ -98,12 +103,12 @@ module _ (m : ℕ) (keys classes : List ℕ) (G : Gapless m keys (length classes
       (select-gapless G (sparseSelection m tile background keys classes W class) (selection m tile keys classes W class) tile W border out
       (λ S cap I. sparse-whole (S .records) I cap background classes (S .sizes .same) class))
 
--- a file of a map with a record, and slices that are not both empty
-pub read-complete : (file keys classes : List ℕ) → 1 ≤ fileQ file → {r s : Answer} {keys′ classes′ keys″ classes″ : List ℕ}
-    → SparseRead file keys classes r keys′ classes′ → Read file keys classes s keys″ classes″
+-- files: but where reading or writing of a whole map is refused for want of records
+pub read-complete : (file keys classes : List ℕ) {r s : Answer} {keys′ classes′ keys″ classes″ : List ℕ}
+    → SparseRead file keys classes r keys′ classes′ → Read file keys classes s keys″ classes″ → (s .refusal ≡ 2 → fileQ file ≡ 0 → ⊥)
     → (r ≡ s) × (_≡_ {A = List ℕ × List ℕ} (keys′, classes′) (keys″, classes″))
-read-complete file keys classes l = alike (read-some false file keys classes l)
+read-complete file keys classes a b some = alike (read-same file keys classes (λ v. some (by-number (read-says true file keys classes b ∙ on-refused refused _ _ v)))) a b
 
-pub write-complete : (m : ℕ) (keys classes out : List ℕ) → (length keys ≡ 0 → length classes ≡ 0 → ⊥) → {r s : Answer} {out′ out″ : List ℕ}
-    → SparseWrite m keys classes out r out′ → Write m keys classes out s out″ → (r ≡ s) × (out′ ≡ out″)
-write-complete m keys classes out l = alike (write-some false m keys classes out l)
+pub write-complete : (m : ℕ) (keys classes out : List ℕ) {r s : Answer} {out′ out″ : List ℕ}
+    → SparseWrite m keys classes out r out′ → Write m keys classes out s out″ → (s .refusal ≡ 2 → length keys ≡ 0 → length classes ≡ 0 → ⊥) → (r ≡ s) × (out′ ≡ out″)
+write-complete m keys classes out a b some = alike (write-same m keys classes out (λ v. some (by-number (write-says true m keys classes out b ∙ on-refused refused _ _ v)))) a b

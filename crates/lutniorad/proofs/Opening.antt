@@ -16,7 +16,7 @@ use Rattle.window.specs.declared.Window.{Window}
 use Rattle.map.proofs.Laws.{recorded-spaced}
 use Rattle.border.specs.Openings.{Opening, openings, handedCount, cellsOf}
 use Rattle.border.specs.Promises.{openingsIn}
-use Rattle.border.proofs.Laws.{openings-in, cells-length, hands-count, hands-all, hands-once, openings-capped, openings-few, hands-some, fewest-whole}
+use Rattle.border.proofs.Laws.{openings-in, cells-length, hands-count, hands-all, hands-once, openings-once, openings-capped, openings-few, hands-some, fewest-whole}
 use Rattle.used.specs.Used.{useRefusalsIn, spent, usedIn}
 use Rattle.used.specs.Promises.{AnswerableIn, Answerable}
 use Rattle.open.specs.declared.Opened.the-variants.{Done, Refused}
@@ -85,6 +85,7 @@ module _ (whole : Bool) (m top : ℕ) (keys classes : List ℕ) (W : Window) (bo
         rw open-stand (record {
           all = hands-all F (A .inside) cap;
           once = hands-once F (A .inside) cap;
+          opened-once = openings-once m top keys W (A .inside) cap;
           in-order = refl;
           few = openings-capped F (A .inside) cap;
           few-whole = λ e. rw e (openings-few F (A .inside));

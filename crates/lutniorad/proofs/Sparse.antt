@@ -9,11 +9,12 @@ use lib.ListN.{length, take}
 use Rattle.window.specs.declared.Window.{Window}
 use Rattle.window.proofs.Laws.{key-block}
 use Rattle.border.specs.Promises.{openingsIn}
-use Rattle.border.proofs.Laws.{empty-is, empty-or-brings, fewest}
+use Rattle.border.proofs.Laws.{unmet-none, empty-is, empty-or-brings, fewest}
 use Rattle.used.specs.Promises.{AnswerableIn}
 use Rattle.select.proofs.Laws.{selection-capped}
 use Rattle.sparse_select.specs.Select.{sparseSelection}
-use Rattle.sparse_select.proofs.Laws.{sparse-flat, sparse-one, sparse-once, sparse-inside, sparse-pixels, sparse-plain, sparse-most, sparse-rising, sparse-least}
+use Rattle.sparse_select.proofs.Laws.{sparse-flat, sparse-one, sparse-once, sparse-inside, sparse-small, sparse-pixels, sparse-plain, sparse-most, sparse-rising}
+use Rattle.sparse_select.proofs.Laws.{sparse-records, sparse-other, sparse-gaps, sparse-least, block-blank}
 use Rattle.lutniorad.specs.declared.Answer.{Answer}
 use Rattle.lutniorad.specs.Calls.{SparseOpen, SparseSelect}
 use Rattle.lutniorad.specs.SparsePromises.{SparseOpenPromise, SparseSelectPromise}
@@ -71,8 +72,13 @@ module _ (m top background : ℕ) (keys classes : List ℕ) (W : Window) (class 
           border-after = left .1;
         };
         inside = λ p x v l h. sparse-inside F I cap background classes n class p v l h;
+        small = λ x i s l b. sparse-small F I cap background classes n class l b;
         most = sparse-most F I cap background classes n class;
         in-order = sparse-flat m top background keys classes W class;
         rising = λ key l. sparse-rising F background classes n class (key-block I cap l .3);
-        fewest = λ own key i s l B others M. sparse-least F background classes n class own B M;
+        records = λ key l. sparse-records F background classes n class (key-block I cap l .3);
+        other = λ else key l. sparse-other F background classes n class else (key-block I cap l .3);
+        gaps = λ own key i s l B. sparse-gaps F background classes n class own B;
+        fewest = λ own key i s l B blocks M. sparse-least F background classes n class own B M;
+        blank = λ own key l U. block-blank F background classes n class (key-block I cap l .3) (unmet-none F (key-block I cap l .3) U) own;
       })

@@ -54,6 +54,8 @@ pub record OpenStates (m top : ℕ) (keys : List ℕ) (W : Window) (border out :
   pub all : (n : ℕ) → Overlaps m keys W n ↔ HandedOut os n
   -- none stands in two of them
   pub once : Ordered Apart os
+  -- and no block is opened twice
+  pub opened-once : Ordered _≢_ (map (λ (o : Opening). o .key) os)
   -- they are those of the maximal blocks in their order, but for the blocks that are skipped
   pub in-order : os ≡ openings m top keys W
   -- demand 3: there are fewer than 4 (w + h) and as many as there is room for tiles; without a tile, fewer than 4 (w + h)

@@ -12,7 +12,7 @@ use Rattle.answers.specs.declared.Verdict.the-variants.{Passed}
 use Rattle.answers.specs.declared.Verdict.the-variants as refusal
 use Rattle.answers.specs.Refusals.{verdict}
 use Rattle.answers.specs.Sizes.{sizeRefusalsIn}
-use Rattle.answers.proofs.Laws.{refused-not-passed, sizes-some}
+use Rattle.answers.proofs.Laws.{refused-not-passed, sizes-same}
 use Rattle.key.specs.declared.Form.{Form}
 use Rattle.key.specs.declared.Form.the-variants.{Block, Malformed}
 use Rattle.key.specs.Form.{formOf}
@@ -53,18 +53,18 @@ module _ {m : ℕ} {keys : List ℕ} {classes : ℕ} where
   pub gapless-same : Gapless m keys classes → verdict (mapRefusalsIn false m keys classes) ≡ verdict (mapRefusals m keys classes)
   gapless-same G = go (verdict (sizeRefusalsIn true m (length keys) classes)) refl
     where
-      sizes : sizeRefusalsIn false m (length keys) classes ≡ sizeRefusalsIn true m (length keys) classes
-      sizes = sizes-some false m (G .some)
+      same : verdict (sizeRefusalsIn false m (length keys) classes) ≡ verdict (sizeRefusalsIn true m (length keys) classes)
+      same = sizes-same m (λ v. G .some 0 (sizes-refused true m keys classes v))
 
       go : (v : Verdict) → verdict (sizeRefusalsIn true m (length keys) classes) ≡ v → verdict (mapRefusalsIn false m keys classes) ≡ verdict (mapRefusals m keys classes)
-      go (refusal.Refused n p) e = sizes-refused false m keys classes (rw sizes e) ∙ sym (sizes-refused true m keys classes e)
+      go (refusal.Refused n p) e = sizes-refused false m keys classes (same ∙ e) ∙ sym (sizes-refused true m keys classes e)
       go Passed e =
           let whole = sizes-passed true m keys classes e in
-          sizes-passed false m keys classes (rw sizes e) ∙ same-records m 0 0 keys (λ p v. G .closed p (whole ∙ v)) ∙ sym whole
+          sizes-passed false m keys classes (same ∙ e) ∙ same-records m 0 0 keys (λ p v. G .closed p (whole ∙ v)) ∙ sym whole
 
   -- a sound map is one of these
   pub sound-gapless : SoundMap m keys classes → Gapless m keys classes
   sound-gapless S = record {
-    some = λ e d. omega (arith, S .sizes .some refl, e);
+    some = λ p v. absurd (refused-not-passed (sym v ∙ sound-map m keys classes .1 S));
     closed = λ p v. refused-not-passed (sym v ∙ sound-map m keys classes .1 S);
   }

@@ -8,7 +8,7 @@ use Rattle.answers.specs.declared.Verdict.the-variants.{Refused}
 use Rattle.answers.specs.Refusals.{verdict}
 use Rattle.map.specs.Check.{mapRefusals}
 
--- the check of a whole map does not refuse it for a gap, nor for want of records: it is sound, or refused for something else
+-- the check of a whole map refuses it neither for a gap, nor by 2 for want of records: it is sound, or refused for something else
 pub record Gapless (m : ℕ) (keys : List ℕ) (classes : ℕ) : Type 0 where
-  pub some : length keys ≡ 0 → classes ≡ 0 → ⊥
+  pub some : (place : ℕ) → verdict (mapRefusals m keys classes) ≡ Refused 2 place → length keys ≡ 0 → classes ≡ 0 → ⊥
   pub closed : (place : ℕ) → verdict (mapRefusals m keys classes) ≡ Refused 5 place → ⊥

@@ -10,7 +10,7 @@ use native.Mathlib.Omega.{arith}
 use lib.ListN.{length, getD}
 use borrow.Author.Tests.{eqb-true, eq-eqb}
 use Rattle.lists.specs.Lists.{upFrom, keep}
-use Rattle.lists.proofs.Laws.{never, refuted, both, keep-empty, keep-passed, keep-all, keep-append}
+use Rattle.lists.proofs.Laws.{never, refuted, both, keep-empty, keep-passed, keep-all, keep-none, keep-append}
 use Rattle.key.specs.Blocks.{Names, Among}
 use Rattle.key.proofs.Laws.{block-lies, pow-least}
 use Rattle.map.specs.Sound.{Spaced}
@@ -21,9 +21,9 @@ use Rattle.pick.proofs.Laws.{around-has, around-not}
 use Rattle.stretch.specs.Promises.{Cut, MakesUp}
 use Rattle.stretch.specs.Sets.{between}
 use Rattle.stretch.specs.Fewest.{fewest, stretch}
-use Rattle.stretch.proofs.Laws.{between-is, stretch-makes, gap-last, gap-next, cut-out, cut-behind, fewest-empty, not-start, fewest-least}
+use Rattle.stretch.proofs.Laws.{between-is, stretch-makes, gap-last, gap-next, cut-out, cut-behind, fewest-empty, not-start, fewest-makes, fewest-least}
 use Rattle.sparse_select.specs.Select.{merged, sparseSelected}
-use Rattle.sparse_select.specs.Promises.{isFree, freeIn, bare}
+use Rattle.sparse_select.specs.Promises.{isFree, freeIn, bare, held}
 use Rattle.sparse_select.proofs.Pieces.{Gap, Pieces, last, next, block-pieces}
 use Rattle.sparse_select.proofs.Merged.{blank-own, merged-last, merged-next}
 use Rattle.sparse_select.proofs.Block.{Case, whole, other, parts, case}
@@ -55,14 +55,23 @@ module _ {m : ℕ} {keys : List ℕ} (F : Spaced m 0 keys) where
 
   -- ---- of what is listed, what is in no record
 
+  gap-bare : {a b : ℕ} → b ≤ 4 ^ m → Gap m keys a b → (x : ℕ) → List·Memᴰ x (stretch m a b) → bare m keys x ≡ true
+  gap-bare {a} {b} room G x l =
+      let L = stretch-makes m a b room .inside x l in
+      let h = between-is a b (L .start) .0 (L .inside (L .start) (omega (arith, pow-least 3 (L .exponent)))) in
+      bare-is (L .names) ∙ free-is (G .free (L .start) (h .0) (h .1))
+
   gap-kept : {a b : ℕ} → b ≤ 4 ^ m → Gap m keys a b → keep (bare m keys) (stretch m a b) ≡ stretch m a b
-  gap-kept {a} {b} room G = keep-all (bare m keys) (stretch m a b) each
-    where
-      each : (x : ℕ) → List·Memᴰ x (stretch m a b) → bare m keys x ≡ true
-      each x l =
-          let L = stretch-makes m a b room .inside x l in
-          let h = between-is a b (L .start) .0 (L .inside (L .start) (omega (arith, pow-least 3 (L .exponent)))) in
-          bare-is (L .names) ∙ free-is (G .free (L .start) (h .0) (h .1))
+  gap-kept {a} {b} room G = keep-all (bare m keys) (stretch m a b) (gap-bare room G)
+
+  -- and what starts in a record
+  pub starts-held : {x i s : ℕ} → Names m x i s → Holder m keys s → held m keys x ≡ true
+  unfolding held
+  starts-held b H = rw (bare-is b ∙ held-not (H .is) (H .has))
+
+  pub gap-dropped : {a b : ℕ} → b ≤ 4 ^ m → Gap m keys a b → keep (held m keys) (stretch m a b) ≡ []
+  unfolding held
+  gap-dropped {a} {b} room G = keep-none (held m keys) (stretch m a b) (λ x l. rw (gap-bare room G x l))
 
   record-kept : (classes : List ℕ) (class : ℕ) {n i s : ℕ} → Record m keys n i s → keep (bare m keys) (pickedAround classes class (getD keys n 0) n) ≡ []
   record-kept classes class {n} {i} {s} R = go (ℕ-discrete (getD classes n 0) class)
@@ -130,9 +139,16 @@ module _ {m : ℕ} {keys : List ℕ} (F : Spaced m 0 keys) where
             let C : Cut (freeIn m keys s (s + 4 ^ i)) s = record { apart = λ q x u v. omega (arith, between-is s (s + 4 ^ i) q .0 (in-is s (s + 4 ^ i) q .0 u .0)) } in
             rw d (rw z at (merged-kept background classes class own s (s + 4 ^ i) (block-lies B .span) (omega arith) C (block-pieces F B e)))
 
-    -- so no fewer blocks make them up
+    -- so they make these places up
+    there : (q : ℕ) → freeIn m keys s (s + 4 ^ i) q ≡ true → Among s (4 ^ i) q
+    there q e = let h = between-is s (s + 4 ^ i) q .0 (in-is s (s + 4 ^ i) q .0 e .0) in omega arith
+
+    low : (q : ℕ) → freeIn m keys s (s + 4 ^ i) q ≡ true → q < 4 ^ m
+    low q e = omega (arith, there q e, block-lies B .span)
+
+    pub sparse-gaps : MakesUp m (freeIn m keys s (s + 4 ^ i)) (keep (bare m keys) (sparseSelected m background keys classes class key))
+    sparse-gaps = rw sparse-fewest (fewest-makes m (freeIn m keys s (s + 4 ^ i)) low s (4 ^ i) there)
+
+    -- and no fewer blocks do
     pub sparse-least : {ks : List ℕ} → MakesUp m (freeIn m keys s (s + 4 ^ i)) ks → length (keep (bare m keys) (sparseSelected m background keys classes class key)) ≤ length ks
     sparse-least M = rw sparse-fewest (fewest-least m (freeIn m keys s (s + 4 ^ i)) low s (4 ^ i) M)
-      where
-        low : (q : ℕ) → freeIn m keys s (s + 4 ^ i) q ≡ true → q < 4 ^ m
-        low q e = omega (arith, between-is s (s + 4 ^ i) q .0 (in-is s (s + 4 ^ i) q .0 e .0), block-lies B .span)

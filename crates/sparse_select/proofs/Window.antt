@@ -1,6 +1,6 @@
 -- What is listed of a window: no key twice, no place in two blocks, no more blocks than pixels, none of them outside the window, and together exactly its pixels of the class.
 -- Assumes nothing.
-use mathlib.Core.Path.{_≡_, refl, subst, _∙_}
+use mathlib.Core.Path.{_≡_, refl, ap, subst, _∙_}
 use mathlib.Core.Logic.{_↔_, _≢_}
 use mathlib.Core.Bool.{true}
 use mathlib.Core.List.{List, flatMap, List·Memᴰ}
@@ -12,13 +12,13 @@ use Rattle.lists.proofs.Laws.{pigeon, rising-distinct, flat-in, in-flat, flat-o
 use Rattle.key.specs.Picture.{Pixel, place, Px}
 use Rattle.key.specs.Form.{formOf}
 use Rattle.key.specs.Blocks.{Names}
-use Rattle.key.proofs.Laws.{PixelAt, block-lies, one-block, place-onto, pow-least}
+use Rattle.key.proofs.Laws.{PixelAt, block-lies, one-block, place-onto, pow-least, size-le}
 use Rattle.window.specs.declared.Window.{Window}
 use Rattle.window.specs.Window.{In, Inside}
 use Rattle.window.specs.Blocks.{exponent, maximal, pixels}
 use Rattle.window.specs.Promises.{Before}
 use Rattle.window.specs.Keys.{keyOf, keysOf}
-use Rattle.window.proofs.Laws.{keys-of, key-named, pixel-in, listed-ordered, before-irrefl, block-of, fits-all, exponent-fits, pixels-length, pixels-most, in-pixels}
+use Rattle.window.proofs.Laws.{keys-of, key-named, pixel-in, listed-ordered, before-irrefl, block-of, fits-all, exponent-le, exponent-fits, pixels-length, pixels-most, in-pixels}
 use Rattle.map.specs.Spans.{holds}
 use Rattle.map.specs.Sound.{Spaced}
 use Rattle.map.specs.Classes.{classOver}
@@ -104,6 +104,14 @@ module _ {m top : ℕ} {keys : List ℕ} (F : Spaced m 0 keys) {W : Window} (I :
       let f = from l in
       let a = holds-is (place (p .0) (p .1)) (f .part .names) .0 h in
       fits-all (exponent-fits W top (f .own .inside)) p (spans F I small (f .own) v .0 (omega (arith, f .part)))
+
+  -- and none of them is larger than the largest block that may be used
+  pub sparse-small : {x i s : ℕ} → List·Memᴰ x (sparseSelection m top background keys classes W class) → Names m x i s → i ≤ top
+  sparse-small {x} {i} {s} l n =
+      let f = from l in
+      let e = one-block n (f .part .names) in
+      let most : 4 ^ i ≤ 4 ^ exponent W top (f .corner) = omega (arith, ap (λ (j : ℕ). 4 ^ j) (e .0), f .part .low, f .part .high) in
+      omega (arith, size-le i (exponent W top (f .corner)) .1 most, exponent-le W top (f .corner))
 
   -- ---- the pixels of the class
 

@@ -1,6 +1,6 @@
--- The words in which it is promised that the gaps of a block are listed with the fewest blocks.
+-- The words in which it is promised what is listed of a block: the records of the class, and the gaps with the fewest blocks.
 -- Assumes nothing.
-use mathlib.Core.Bool.{Bool, _&&_}
+use mathlib.Core.Bool.{Bool, not, _&&_}
 use mathlib.Core.List.{List}
 use Prim.Native.Nat.{ℕ}
 use lib.Dec.{eqb}
@@ -21,3 +21,7 @@ freeIn m keys a b q = between a b q && isFree m keys q
 -- the block of a key starts at a place in no record
 unfoldable pub bare : ℕ → List ℕ → ℕ → Bool
 bare m keys x = isFree m keys (start (formOf m x))
+
+-- or in one
+unfoldable pub held : ℕ → List ℕ → ℕ → Bool
+held m keys x = not (bare m keys x)
