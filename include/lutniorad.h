@@ -9,8 +9,8 @@
  * the whole picture is key 0 (at m = 0 the only key), and at m = 2 key 5 (digits 1 0) is its north-west quarter and
  * key 7 (digits 1 2) the pixel in row 0, column 1.
  *
- * A CLASS is what was seen in a block, one byte. 255 marks what the camera did not see. lutniorad_exist knows that, and
- * says where it cannot tell; for all other calls 255 is a class like any other.
+ * A CLASS is what was seen in a block, one byte. 255 marks what the camera did not see. lutniorad_exist and
+ * lutniorad_sparse_exist know that, and say where they cannot tell; for all other calls 255 is a class like any other.
  *
  * A MAP is m and a list of RECORDS, a key and a class each: two slices of the same length Q, from 1 to 65,536. A map is
  * sound when its blocks, in the order of the list, go through all pixels once in the order of their keys: the first
@@ -87,10 +87,11 @@
  * border a column has then been handed out as far as it lies in records handed out and in blocks opened.
  *
  * The house file of a sparse map is laid out as above, with Q = 0 in 20 bytes. It does not say that the map is sparse,
- * nor of which class the background is: whoever sends it agrees on that with whoever reads it. For calls without
- * `sparse_` a map with gaps is not sound, and they refuse it by 5, or by 2 where it has no record. On a map that is
- * sound for these, and wherever they refuse by anything else, a call with `sparse_` answers, refuses and writes the
- * same as the one without, or as that with `_tiled` where it takes a tile, whatever the background is.
+ * nor of which class the background is: whoever sends it agrees on that with whoever reads it. For lutniorad_check a
+ * map with gaps is not sound: it refuses it by 5, or by 2 where there is no record. On a map that it accepts, or refuses
+ * by anything else, a call with `sparse_` answers, refuses and writes the same as the one without, or as that with
+ * `_tiled` where it takes a tile, whatever the background is. So does one that reads or writes a file, on any map, but
+ * where the one without refuses by 2 for want of records.
  *
  * WHAT THE CALLER KEEPS. A slice is a pointer and its length in cells (elements of 8, 16, 32 or 64 bits, not bytes).
  * For each slice of a call:
@@ -120,7 +121,7 @@
  *
  * WHAT A CALL COSTS. Each call that takes a map, but for those that write a file, checks the whole of it first,
  * whatever was checked before: some 21 instructions for each record, 1.4 million for the longest map, which take a
- * fraction of a millisecond. On a sparse map each record behind a gap takes some 200 more. Behind that it goes by the
+ * fraction of a millisecond. On a sparse map each record behind a gap takes some 180 more. Behind that it goes by the
  * records and blocks of the window and not by its pixels; but with tiles of one pixel each of these is a block.
  * lutniorad_windows checks the map once for up to 256 windows.
  *
@@ -196,7 +197,7 @@ typedef struct {
  */
 #define LUTNIORAD_REFUSALS(REFUSAL) \
     REFUSAL(LUTNIORAD_BAD_M, 1, "m is over 12") \
-    REFUSAL(LUTNIORAD_BAD_COUNT, 2, "keys and classes differ in number, or there are none or more than 65,536") \
+    REFUSAL(LUTNIORAD_BAD_COUNT, 2, "keys and classes differ in number, or are too many, or none where a record is needed") \
     REFUSAL(LUTNIORAD_BAD_KEY, 3, "the key of a record names no block") /* index, from 0 */ \
     REFUSAL(LUTNIORAD_OVERLAP, 4, "a record starts before the last one ended") /* index, from 0 */ \
     REFUSAL(LUTNIORAD_GAP, 5, "a record starts after the last one ended, or the list ends early") /* index, or Q */ \
@@ -405,7 +406,7 @@ lutniorad_reason lutniorad_why_block(uint32_t m,
                                      uint32_t key,
                                      uint16_t *border, size_t n_border);
 
-/* What lutniorad_exist answers. */
+/* What lutniorad_exist and lutniorad_sparse_exist answer. */
 enum {
     LUTNIORAD_NO = 0,         /* no pixel of the window has the class, and all were seen */
     LUTNIORAD_YES = 1,        /* some pixel of the window has the class */

@@ -21,9 +21,6 @@ pub enum Existence {
     Refused { number: u32, place: u32 },
 }
 
-// The class of what was not seen.
-const NOT_SEEN: u8 = 255;
-
 // Some records, looked through: one has the class, one was not seen.
 struct Looked {
     has: bool,
@@ -43,7 +40,7 @@ fn look(classes: &[u8], class: u8, first: u32, count: u32) -> Looked
     while n < count {
         let here = classes[from + n];
         has = has | (here == class);
-        unseen = unseen | (here == NOT_SEEN);
+        unseen = unseen | (here == map::NOT_SEEN);
         n += 1;
     }
     Looked { has, unseen }

@@ -185,10 +185,10 @@ unfolding readIn readRefusalsIn layoutRefusals fileQ
 read-same file keys classes some =
     answer-verdict _ _ _ _
     (behind-two (ltb (length file) 20) (not (eqb (getD (numbers 5 file) 0 0) (length file))) _ _ _ _ (λ e d. sizes-same (getD (numbers 5 file) 1 0) (λ v z _. some (
-      refusal-clear verdict-of.Refused 9 0 _ _ e
-      ∙ refusal-clear verdict-of.Refused 9 0 _ _ d
-      ∙ answer-append verdict-of.Refused (sizeRefusalsIn true (getD (numbers 5 file) 1 0) (getD (numbers 5 file) 2 0) (getD (numbers 5 file) 2 0) ++ _) _ _
-      ∙ append-refused verdict-of.Refused _ _ _ v
+    refusal-clear verdict-of.Refused 9 0 _ _ e
+    ∙ refusal-clear verdict-of.Refused 9 0 _ _ d
+    ∙ answer-append verdict-of.Refused (sizeRefusalsIn true (getD (numbers 5 file) 1 0) (getD (numbers 5 file) 2 0) (getD (numbers 5 file) 2 0) ++ _) _ _
+    ∙ append-refused verdict-of.Refused _ _ _ v
     ) z)))
 
 pub write-same : (m : ℕ) (keys classes out : List ℕ)

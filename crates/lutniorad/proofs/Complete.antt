@@ -52,7 +52,6 @@ check-gapless m keys classes call some other = record {
   closed = λ p v. other (by-number (check-says true m keys classes call ∙ on-refused refused _ _ v));
 }
 
-
 module _ (m : ℕ) (keys classes : List ℕ) (G : Gapless m keys (length classes)) where
   pub check-complete : {r s : Answer} → SparseCheck m keys classes r → Check m keys classes s → r ≡ s
   check-complete a b =

@@ -1,6 +1,9 @@
 // Maps: what they are, and their laws. A map may have gaps, unless it is to be whole. Of keys it knows only the laws of the crate `key`.
 use key::Spot;
 
+// The class of what was not seen.
+pub const NOT_SEEN: u8 = 255;
+
 // What the check answers: the number of records of a sound map, or a refusal.
 pub enum Checked {
     Sound { count: u32 },

@@ -18,9 +18,6 @@ ghost use Rattle.pieces.specs.Pair.{Pair, classOverMap};
 ghost use Rattle.pieces.specs.Cursors.{Spans, Past, At, StandsAt};
 ghost use Rattle.pieces.specs.Pieces.{Uniform, Tallied, Room, Looks, Finds};
 
-// The class of what was not seen.
-const NOT_SEEN: u8 = 255;
-
 // A record of a map, by its number and its places, from `start` up to the one before `end`. Behind the last record `start` is the end of the picture, and `end` one more.
 pub struct Cursor {
     pub next: usize,
@@ -244,7 +241,7 @@ pub fn look(
         if piece.class == class {
             return Looked { has: true, unseen };
         }
-        unseen = unseen | (piece.class == NOT_SEEN);
+        unseen = unseen | (piece.class == map::NOT_SEEN);
         stand = go_on(m, keys, base, stand, piece.end);
     }
     Looked { has: false, unseen }

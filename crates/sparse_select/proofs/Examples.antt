@@ -22,6 +22,7 @@ use Rattle.stretch.specs.Fewest.{maximalIn, keyFrom, fewest, stretch}
 use Rattle.border.specs.Openings.{opening}
 use Rattle.select.specs.Select as select
 use Rattle.sparse_select.specs.Select.{blank, merged, sparseSelected, sparseSelection}
+use Rattle.sparse_select.specs.Promises.{isFree, bare, held}
 
 abbrev keys : List ℕ
 keys = 7 ∷ 10 ∷ 23 ∷ []
@@ -32,6 +33,10 @@ classes = 1 ∷ 2 ∷ 0 ∷ []
 pub record Examples : Type 0 where
   -- the whole picture: the gaps and the record of the background's class, in key order, and not joined
   pub gaps : sparseSelection 2 2 0 keys classes (window 0 0 4 4) 0 ≡ 6 ∷ 8 ∷ 9 ∷ 15 ∷ 21 ∷ 22 ∷ 23 ∷ 24 ∷ []
+  -- of these the one that starts in a record is what select lists without gaps, and the others are the gaps' blocks
+  pub in-record : keep (held 2 keys) (sparseSelected 2 0 keys classes 0 0) ≡ select.selected 2 keys classes 0 0
+  pub that-one : select.selected 2 keys classes 0 0 ≡ 23 ∷ []
+  pub in-none : keep (bare 2 keys) (sparseSelected 2 0 keys classes 0 0) ≡ 6 ∷ 8 ∷ 9 ∷ 15 ∷ 21 ∷ 22 ∷ 24 ∷ []
   -- a class that is not the background's, and one that no record has
   pub other : sparseSelection 2 2 0 keys classes (window 0 0 4 4) 1 ≡ 7 ∷ []
   pub absent : sparseSelection 2 2 0 keys classes (window 0 0 4 4) 5 ≡ []
@@ -50,5 +55,5 @@ pub examples : Examples
 unfolding flatMap upFrom any keep before howMany greatest spreadTo spread pixelKey blockKey ones from formOf placeKey spanKey
     floor lies fits exponent corner across rows isCorner maximal keyOf keysOf spans.formExponent spans.start spans.end spans.holds spans.within spans.overlap
     recordOf exponentOf runOf pickedAround base full fitsIn exponentIn starts between maximalIn keyFrom fewest stretch
-    opening select.around blank merged sparseSelected sparseSelection
-examples = record { gaps = refl; other = refl; absent = refl; own = refl; hidden = refl; around = refl; background = refl; as-whole = refl; empty = refl }
+    opening select.around select.inside select.selected blank merged sparseSelected sparseSelection isFree bare held
+examples = record { gaps = refl; in-record = refl; that-one = refl; in-none = refl; other = refl; absent = refl; own = refl; hidden = refl; around = refl; background = refl; as-whole = refl; empty = refl }
