@@ -88,10 +88,10 @@
  *
  * The house file of a sparse map is laid out as above, with Q = 0 in 20 bytes. It does not say that the map is sparse,
  * nor of which class the background is: whoever sends it agrees on that with whoever reads it. For lutniorad_check a
- * map with gaps is not sound: it refuses it by 5, or by 2 where there is no record. On a map that it accepts, or refuses
- * by anything else, a call with `sparse_` answers, refuses and writes the same as the one without, or as that with
- * `_tiled` where it takes a tile, whatever the background is. So does one that reads or writes a file, on any map, but
- * where the one without refuses by 2 for want of records.
+ * map with gaps is not sound: it refuses it by 5, or by 2 where there is no record. On a map that it accepts, or
+ * refuses by anything else, a call with `sparse_` answers, refuses and writes the same as the one without, or as that
+ * with `_tiled` where it takes a tile, whatever the background is. So does one that reads or writes a file, on any map,
+ * but where the one without refuses by 2 for want of records.
  *
  * WHAT THE CALLER KEEPS. A slice is a pointer and its length in cells (elements of 8, 16, 32 or 64 bits, not bytes).
  * For each slice of a call:
@@ -197,7 +197,7 @@ typedef struct {
  */
 #define LUTNIORAD_REFUSALS(REFUSAL) \
     REFUSAL(LUTNIORAD_BAD_M, 1, "m is over 12") \
-    REFUSAL(LUTNIORAD_BAD_COUNT, 2, "keys and classes differ in number, or are too many, or none where a record is needed") \
+    REFUSAL(LUTNIORAD_BAD_COUNT, 2, "keys and classes differ in number, are over 65,536, or a complete map has none") \
     REFUSAL(LUTNIORAD_BAD_KEY, 3, "the key of a record names no block") /* index, from 0 */ \
     REFUSAL(LUTNIORAD_OVERLAP, 4, "a record starts before the last one ended") /* index, from 0 */ \
     REFUSAL(LUTNIORAD_GAP, 5, "a record starts after the last one ended, or the list ends early") /* index, or Q */ \

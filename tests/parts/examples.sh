@@ -665,7 +665,7 @@ $of_lake" "$cut" 1 acquire cut lake
 step 'acquire knows a wrong layout as no house file' no_house_file "$bad_layout" cut
 step 'acquire knows a wrong m as no house file' no_house_file 'refused 1 at 0: m is over 12' vast
 step 'acquire knows a wrong count as no house file' no_house_file \
-    'refused 2 at 0: keys and classes differ in number, or there are none or more than 65,536' empty
+    'refused 2 at 0: keys and classes differ in number, are over 65,536, or a complete map has none' empty
 step 'acquire knows a wrong key as a broken map' broken_map "$bad_key" keyless
 step 'acquire knows an overlap as a broken map' broken_map "$overlap" twice
 step 'acquire knows a gap as a broken map' \
