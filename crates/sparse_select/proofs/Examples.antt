@@ -56,4 +56,18 @@ unfolding flatMap upFrom any keep before howMany greatest spreadTo spread pixelK
     floor lies fits exponent corner across rows isCorner maximal keyOf keysOf spans.formExponent spans.start spans.end spans.holds spans.within spans.overlap
     recordOf exponentOf runOf pickedAround base full fitsIn exponentIn starts between maximalIn keyFrom fewest stretch
     opening select.around select.inside select.selected blank merged sparseSelected sparseSelection isFree bare held
-examples = record { gaps = refl; in-record = refl; that-one = refl; in-none = refl; other = refl; absent = refl; own = refl; hidden = refl; around = refl; background = refl; as-whole = refl; empty = refl }
+examples =
+    record {
+      gaps = refl;
+      in-record = refl;
+      that-one = refl;
+      in-none = refl;
+      other = refl;
+      absent = refl;
+      own = refl;
+      hidden = refl;
+      around = refl;
+      background = refl;
+      as-whole = refl;
+      empty = refl;
+    }
