@@ -5,7 +5,7 @@ use mathlib.Core.Bool.{Bool, true, false, cond, _||_}
 use mathlib.Core.List.{List, [], _∷_}
 use Prim.Native.Nat.{ℕ, zero, suc, _+_, _-_, _*_, _/_, _%_, _^_, _≤_, _<_}
 use native.Mathlib.Decide.{decLt, ℕ-discrete}
-use native.Mathlib.Nat.{pow-suc, div-one, mod-one, mod-lt, mod-eq-of-lt, one-mul, mul-zero, mul-comm, mul-assoc, mul-add, mul-le-mul-right}
+use native.Mathlib.Nat.{pow-suc, div-one, mod-one, mod-lt, mod-eq-of-lt, one-mul, mul-comm, mul-assoc, mul-add, mul-le-mul-right}
 use native.Mathlib.Numerals.{add-one}
 use native.Mathlib.Omega.{arith}
 use lib.Arith.{digits-mod}
