@@ -635,6 +635,7 @@ static const group groups[] = {
     {"vast sparse slices", group_vast_sparse, false},
     {"large sparse maps", group_large_sparse_maps, true},
     {"random sparse maps", group_random_sparse_maps, true},
+    {"single pixels", group_single_pixels, true},
 };
 
 int main(int argc, char **argv)

@@ -34,6 +34,13 @@ void leave_out(map *a, uint8_t background)
     keep_these(a);
 }
 
+void keep_inside(map *a, window at)
+{
+    for (size_t i = 0; i < a->q; i++)
+        is_kept[i] = reference_lies_in(a->m, a->keys[i], at);
+    keep_these(a);
+}
+
 /* One record alone, mostly at the beginning or the end. */
 static void keep_one(map *a)
 {
@@ -111,6 +118,32 @@ bool for_small_sparse_maps(map *a, size_t of_2, void (*run)(void))
     return n_run == n_choices(of_2);
 }
 
+static size_t n_paintings(size_t q, size_t n_classes)
+{
+    return q == 0 ? 1 : n_classes * n_paintings(q - 1, n_classes);
+}
+
+static void paint_by_number(map *a, const uint8_t *classes, size_t n_classes, size_t number)
+{
+    for (size_t i = 0; i < a->q; i++, number /= n_classes)
+        a->classes[i] = classes[number % n_classes];
+}
+
+bool for_painted_sparse_maps(map *a, const uint8_t *classes, size_t n_classes, void (*run)(void))
+{
+    bool all_run = true;
+    for (size_t n = 0; n < n_choices(0); n++) {
+        make_nth_choice(a, n);
+        for (size_t number = 0; number < n_paintings(a->q, n_classes); number++)
+            if (begin_case()) {
+                paint_by_number(a, classes, n_classes, number);
+                run();
+            } else
+                all_run = false;
+    }
+    return all_run;
+}
+
 /* ---- The gaps filled ---- */
 
 /* A map on its way: which of its records comes next, and where it goes. */
@@ -150,14 +183,11 @@ bool fill_gaps(const map *a, uint8_t background, map *filled)
 /* ---- What was met ---- */
 
 enum {
+    ONE_PIXEL,               /* a map whose only record is a pixel */
     EMPTY,                   /* an empty opening */
     EMPTY_BEHIND,            /* one behind a record that was handed out */
     ALL_EMPTY,               /* nothing but such openings, though the map has records */
-    SKIPPED,                 /* a block in a record handed out */
-    AROUND,                  /* an opening at a block inside its record */
-    SINGLE,                  /* one at a block with a single record inside it, and a gap */
-    SEVERAL,                 /* one at a block with several records inside it, and a gap */
-    FULL,                    /* one at a block that its records fill */
+    SINGLE,                  /* an opening at a block with a single record inside it, and a gap */
     CUT,                     /* more maximal blocks than there are without a tile */
     PARTS,                   /* several blocks in gaps, each inside a maximal block */
     LARGE_PARTS,             /* and larger ones than a pixel among them */
@@ -165,6 +195,11 @@ enum {
     YES_BY_GAP,              /* a class that no record has, but gaps do */
     CANNOT_TELL_BY_GAP,      /* where only what lies in gaps was not seen */
     NO_THOUGH_GAP_ELSEWHERE, /* a gap outside the window has the class */
+    MET_ON_PIXELS,           /* up to here, what can be met where the map is one pixel */
+    SKIPPED = MET_ON_PIXELS, /* a block in a record handed out */
+    AROUND,                  /* an opening at a block inside its record */
+    SEVERAL,                 /* one at a block with several records inside it, and a gap */
+    FULL,                    /* one at a block that its records fill */
     MET
 };
 static size_t met[MET];
@@ -174,10 +209,20 @@ void forget_met(void)
     memset(met, 0, sizeof met);
 }
 
+static void require_first_met(size_t n, bool all_cases)
+{
+    for (size_t i = 0; all_cases && i < n; i++)
+        require(met[i] > 0, "something that a window on a sparse map can have was not met");
+}
+
 void require_met(bool all_cases)
 {
-    for (size_t i = 0; all_cases && i < MET; i++)
-        require(met[i] > 0, "something that a window on a sparse map can have was not met");
+    require_first_met(MET, all_cases);
+}
+
+void require_met_on_pixels(bool all_cases)
+{
+    require_first_met(MET_ON_PIXELS, all_cases);
 }
 
 static size_t pixels_of(uint32_t m, uint32_t key)
@@ -275,6 +320,7 @@ static bool is_class_of_record(const map *a, uint8_t of_class)
 
 void count_window(const map *a, uint32_t tile, window at, uint8_t background)
 {
+    met[ONE_PIXEL] += a->q == 1 && pixels_of(a->m, a->keys[0]) == 1;
     count_openings(a, tile, at);
     count_selected(a, tile, at, background);
 }

@@ -384,6 +384,32 @@ window wide_window(uint32_t m, size_t number)
     return windows[number];
 }
 
+/* Rows by where they lie to one of them, or columns so. */
+enum { BEFORE, ON, BEHIND, AROUND, ALL, AWAY };
+
+static stretch stretch_about(size_t place, size_t side, size_t reach, size_t way)
+{
+    const size_t rest = side - 1 - place;
+    const size_t before = place < reach ? place : reach, behind = rest < reach ? rest : reach;
+    const stretch stretches[WAYS] = {
+        [BEFORE] = {place - before, before},
+        [ON] = {place, 1},
+        [BEHIND] = {place + 1, behind},
+        [AROUND] = {place - before, before + 1 + behind},
+        [ALL] = {0, side},
+        [AWAY] = {(place + side / 2) % side, 1},
+    };
+    return stretches[way];
+}
+
+window window_about(uint32_t m, window pixel, size_t reach, size_t number)
+{
+    stretch rows = stretch_about(pixel.r0, side_of(m), reach, number / WAYS);
+    stretch cols = stretch_about(pixel.c0, side_of(m), reach, number % WAYS);
+    window at = {(uint16_t)rows.from, (uint16_t)cols.from, (uint16_t)rows.length, (uint16_t)cols.length};
+    return at;
+}
+
 uint32_t some_tile(uint32_t m, window at)
 {
     enum { MOST_TILES = 1 << 13 };

@@ -122,6 +122,15 @@ enum { WIDE_WINDOWS = 5 };
 
 window wide_window(uint32_t m, size_t number);
 
+/*
+ * Windows about a pixel, by number: on it, beside it, around it, in strips across the picture, and away from it. Their
+ * rows are the pixel's own, up to `reach` before it or behind it, all of these, all of the picture, or one that is half
+ * a picture away. So are their columns, and each way goes with each. At an edge of the picture some are empty.
+ */
+enum { WAYS = 6, WINDOWS_ABOUT = WAYS * WAYS };
+
+window window_about(uint32_t m, window pixel, size_t reach, size_t number);
+
 /* A tile from 0 to m, any of which the window does not have so many that they take long. */
 uint32_t some_tile(uint32_t m, window at);
 

@@ -449,19 +449,28 @@ void try_tile(const map *a, uint32_t tile, window at, const uint8_t *asked, size
     }
 }
 
+void try_sparse_tile(const map *a, uint32_t tile, window at, uint8_t background, const uint8_t *asked, size_t n,
+                     const uint32_t totals[CLASSES])
+{
+    question open = {&SPARSE_OPEN, a, tile, at, NO_CLASS};
+    ask_in_full(open);
+    for (size_t i = 0; i < n; i++) {
+        question select = {&SPARSE_SELECT, a, tile, at, over(background, asked[i])};
+        ask_select(select, totals);
+    }
+}
+
 lutniorad_answer try_sparse(const map *a, uint32_t tile, window at, uint8_t background, const uint8_t *asked, size_t n,
                             uint32_t totals[CLASSES])
 {
-    question open = {&SPARSE_OPEN, a, tile, at, NO_CLASS};
     question report = {&SPARSE_REPORT, a, NO_TILE, at, over(background, NO_CLASS)};
-    ask_in_full(open);
-    lutniorad_answer answer = ask_report(report, totals);
-    for (size_t i = 0; answer.refusal == 0 && i < n; i++) {
+    const lutniorad_answer answer = ask_report(report, totals);
+    const size_t n_answered = answer.refusal == 0 ? n : 0;
+    for (size_t i = 0; i < n_answered; i++) {
         question exist = {&SPARSE_EXIST, a, NO_TILE, at, over(background, asked[i])};
-        question select = {&SPARSE_SELECT, a, tile, at, over(background, asked[i])};
         ask_exist(exist, totals);
-        ask_select(select, totals);
     }
+    try_sparse_tile(a, tile, at, background, asked, n_answered, totals);
     return answer;
 }
 

@@ -105,6 +105,10 @@ void try_tile(const map *a, uint32_t tile, window at, const uint8_t *asked, size
 lutniorad_answer try_sparse(const map *a, uint32_t tile, window at, uint8_t background, const uint8_t *asked, size_t n,
                             uint32_t totals[CLASSES]);
 
+/* What of that takes the tile, which is open and select, with another one. */
+void try_sparse_tile(const map *a, uint32_t tile, window at, uint8_t background, const uint8_t *asked, size_t n,
+                     const uint32_t totals[CLASSES]);
+
 /* For the answers written out: the reference map, with another m if it is not 2; at m = 0 the map of one pixel. */
 void make_stated_map(map *a, uint32_t m);
 

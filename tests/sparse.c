@@ -35,8 +35,11 @@ static lutniorad_answer write_file(const map *a, size_t n_keys, size_t n_classes
 
 /* ---- One window on the sparse map at hand ---- */
 
+/* The totals of the window, over its background. */
+static uint32_t totals[CLASSES];
+
 /* Where the gaps were filled: plain report says the same of the map so got. */
-static void require_as_filled(window at, const uint32_t totals[CLASSES])
+static void require_as_filled(window at)
 {
     uint32_t of_filled[CLASSES];
     require(take_totals(&filled, at, of_filled).refusal == 0, "a map whose gaps are filled is refused");
@@ -47,19 +50,24 @@ static void require_as_filled(window at, const uint32_t totals[CLASSES])
 static void try_window_over(uint32_t tile, window at, uint8_t background, const uint8_t *asked, size_t n,
                             bool is_filled)
 {
-    uint32_t totals[CLASSES];
     if (try_sparse(&sparse, tile, at, background, asked, n, totals).refusal != 0)
         return;
     count_window(&sparse, tile, at, background);
     if (!is_filled)
         return;
-    require_as_filled(at, totals);
+    require_as_filled(at);
     count_existence(&sparse, filled.q > sparse.q, background, totals);
+}
+
+/* The same window with another tile. Report and exist, which take none, are not asked again. */
+static void try_other_tile(uint32_t tile, window at, uint8_t background, const uint8_t *asked, size_t n)
+{
+    try_sparse_tile(&sparse, tile, at, background, asked, n, totals);
+    count_window(&sparse, tile, at, background);
 }
 
 void try_thinned(const map *a, window at)
 {
-    uint32_t totals[CLASSES];
     const uint8_t of_class = some_class(a);
     copy_map(&sparse, a);
     thin_out(&sparse, 1, 2);
@@ -313,10 +321,11 @@ void group_sparse_written_out(void)
 
 /* ---- Group: small sparse maps ---- */
 
-/* Three that records have here, and one that none has. */
-static const uint8_t few_classes[] = {0, 1, 9, 255};
+/* Three that records have here, and then one that none has. */
+static const uint8_t few_classes[] = {0, 1, 255, 9};
+enum { OF_RECORDS = 3 };
 
-/* Every window, over each background about each class; among these each tile. */
+/* Every window, over each background about each class, with each tile. */
 static void try_every_window(void)
 {
     for (size_t b = 0; b < COUNT(few_classes); b++) {
@@ -325,8 +334,9 @@ static void try_every_window(void)
             const window at = small_window(sparse.m, number);
             if (!is_inside(at, sparse.m))
                 continue;
-            const uint32_t tile = b <= sparse.m ? (uint32_t)b : (uint32_t)below(sparse.m + 1);
-            try_window_over(tile, at, few_classes[b], few_classes, COUNT(few_classes), is_filled);
+            try_window_over(0, at, few_classes[b], few_classes, COUNT(few_classes), is_filled);
+            for (uint32_t tile = 1; tile <= sparse.m; tile++)
+                try_other_tile(tile, at, few_classes[b], few_classes, COUNT(few_classes));
         }
     }
 }
@@ -335,7 +345,9 @@ void group_small_sparse_maps(void)
 {
     enum { OF_2 = 300 };
     forget_met();
-    require_met(for_small_sparse_maps(&sparse, OF_2, try_every_window));
+    const bool all_paintings = for_painted_sparse_maps(&sparse, few_classes, OF_RECORDS, try_every_window);
+    const bool all_lists = for_small_sparse_maps(&sparse, OF_2, try_every_window);
+    require_met(all_paintings && all_lists);
 }
 
 /* ---- Group: lengths on sparse maps ---- */
@@ -667,4 +679,66 @@ void group_random_sparse_maps(void)
             run++;
         }
     require_met(run == CASES + SMALL_CASES);
+}
+
+/* ---- Group: single pixels ---- */
+
+enum { CHOSEN_PIXELS = 5, PIXELS = 8 };
+
+/* In the corners and in the middle of the picture, and the others anywhere. */
+static window nth_pixel(uint32_t m, size_t number)
+{
+    const uint16_t last = (uint16_t)(side_of(m) - 1), middle = (uint16_t)(side_of(m) / 2);
+    const uint16_t row = (uint16_t)below(side_of(m)), col = (uint16_t)below(side_of(m));
+    const window pixels[CHOSEN_PIXELS + 1] = {
+        {0, 0, 1, 1},     {0, last, 1, 1}, {last, 0, 1, 1}, {last, last, 1, 1}, {(uint16_t)(middle - 1), middle, 1, 1},
+        {row, col, 1, 1},
+    };
+    return pixels[number < CHOSEN_PIXELS ? number : CHOSEN_PIXELS];
+}
+
+/* The windows about the pixel that have no more pixels than the longest strip, without a tile and with some. */
+static void try_windows_about(window pixel, size_t reach, uint8_t background)
+{
+    const bool is_filled = fill_gaps(&sparse, background, &filled);
+    for (size_t number = 0; number < WINDOWS_ABOUT; number++) {
+        const window at = window_about(sparse.m, pixel, reach, number);
+        if (!is_inside(at, sparse.m) || (size_t)at.h * at.w > LUTNIORAD_MOST_SIDE)
+            continue;
+        try_window_over(sparse.m, at, background, few_classes, OF_RECORDS, is_filled);
+        try_other_tile(some_tile(sparse.m, at), at, background, few_classes, OF_RECORDS);
+    }
+}
+
+/* A map of this record alone. Its class is the background's or another, and each of the two seen or not. */
+static void single_pixel(uint32_t m, window pixel)
+{
+    static const struct {
+        uint8_t of_pixel, background;
+    } painted[] = {{1, 0}, {1, 1}, {1, NOT_SEEN}, {NOT_SEEN, 1}, {NOT_SEEN, NOT_SEEN}};
+    make_map_around(&sparse, m, pixel, 0);
+    keep_inside(&sparse, pixel);
+    require(sparse.q == 1, "there is not one record that is the pixel");
+    check(&sparse, sparse.q, sparse.q);
+    go_round(&sparse);
+    for (size_t i = 0; i < COUNT(painted); i++) {
+        const size_t reach = (size_t)1 << below(5);
+        sparse.classes[0] = painted[i].of_pixel;
+        try_windows_about(pixel, reach, painted[i].background);
+    }
+}
+
+void group_single_pixels(void)
+{
+    static const uint32_t ms[] = {2, 5, 9, 12};
+    for (size_t i = 0; i < COUNT(ms); i++) {
+        size_t run = 0;
+        forget_met();
+        for (size_t number = 0; number < PIXELS; number++)
+            if (begin_case()) {
+                single_pixel(ms[i], nth_pixel(ms[i], number));
+                run++;
+            }
+        require_met_on_pixels(run == PIXELS);
+    }
 }

@@ -17,6 +17,7 @@ void group_sparse_files(void);
 void group_vast_sparse(void);
 void group_large_sparse_maps(void);
 void group_random_sparse_maps(void);
+void group_single_pixels(void);
 
 /* Asks about a window of the map with half of its records, on slices that are long enough. */
 void try_thinned(const map *a, window at);
