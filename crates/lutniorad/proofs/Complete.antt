@@ -1,21 +1,17 @@
 -- On a whole map each call for maps that may have gaps answers as the plain one, and leaves the same in every lent cell. So it does wherever the plain check refuses neither for a
 -- gap nor for want of records.
 -- Assumes nothing.
-use mathlib.Core.Path.{_≡_, refl, sym, ap, _∙_}
+use mathlib.Core.Path.{_≡_, sym, ap, _∙_}
 use mathlib.Core.Bool.{true, false}
 use mathlib.Core.List.{List}
 use Prim.Native.Nat.{ℕ}
 use lib.ListN.{length}
-use Rattle.answers.specs.declared.Verdict.{Verdict}
-use Rattle.answers.specs.declared.Verdict.the-variants.{Passed, Refused}
-use Rattle.answers.specs.Refusals.{answer, verdict}
 use Rattle.answers.specs.After.{After}
-use Rattle.answers.proofs.Laws.{on-passed, on-refused}
+use Rattle.answers.proofs.Laws.{on-refused, answer-verdict}
 use Rattle.window.specs.declared.Window.{Window}
 use Rattle.window.specs.Window.{Inside}
 use Rattle.map.specs.Sound.{SoundMap}
 use Rattle.map.specs.Classes.{classOver, classIn, notSeen}
-use Rattle.map.specs.Check.{mapRefusalsIn, mapRefusals}
 use Rattle.map.specs.Promises.{Gapless}
 use Rattle.map.proofs.Laws.{gapless-same}
 use Rattle.pieces.proofs.Laws.{exists-whole, totals-whole}
@@ -30,7 +26,7 @@ use Rattle.sparse_select.proofs.Laws.{sparse-whole}
 use Rattle.house.specs.File.{fileQ}
 use Rattle.house.proofs.Laws.{read-same, write-same}
 use Rattle.lutniorad.specs.declared.Answer.{Answer}
-use Rattle.lutniorad.specs.Numbers.{values, refused}
+use Rattle.lutniorad.specs.Numbers.{refused}
 use Rattle.lutniorad.specs.Calls.{Call, Check, OpenTiled, Exist, Report, SelectTiled, Read, Write}
 use Rattle.lutniorad.specs.Calls.{SparseCheck, SparseOpen, SparseExist, SparseReport, SparseSelect, SparseRead, SparseWrite}
 use Rattle.lutniorad.proofs.Crossing.{call-one}
@@ -54,17 +50,7 @@ check-gapless m keys classes call some other = record {
 
 module _ (m : ℕ) (keys classes : List ℕ) (G : Gapless m keys (length classes)) where
   pub check-complete : {r s : Answer} → SparseCheck m keys classes r → Check m keys classes s → r ≡ s
-  check-complete a b =
-      check-says false m keys classes a
-      ∙ go (verdict (mapRefusals m keys (length classes))) refl
-      ∙ sym (check-says true m keys classes b)
-    where
-      Same : Type 0
-      Same = answer refused (mapRefusalsIn false m keys (length classes)) (values (length keys) 0) ≡ answer refused (mapRefusals m keys (length classes)) (values (length keys) 0)
-
-      go : (v : Verdict) → verdict (mapRefusals m keys (length classes)) ≡ v → Same
-      go Passed e = on-passed refused _ _ (gapless-same G ∙ e) ∙ sym (on-passed refused _ _ e)
-      go (Refused n p) e = on-refused refused _ _ (gapless-same G ∙ e) ∙ sym (on-refused refused _ _ e)
+  check-complete a b = check-says false m keys classes a ∙ answer-verdict refused _ _ _ (gapless-same G) ∙ sym (check-says true m keys classes b)
 
   pub open-complete : (tile : ℕ) (W : Window) (border out : List ℕ) {r s : Answer} {border′ out′ border″ out″ : List ℕ}
       → SparseOpen m tile keys classes W border out r border′ out′ → OpenTiled m tile keys classes W border out s border″ out″
