@@ -251,7 +251,7 @@ fn start_of(starts: &[u8; 25], key: u32) -> u32
     start
 }
 
-// The block of a key that is known to be that of one. Nothing is left to be tested, and `read_key` keeps its one caller, into which it is compiled.
+// The block of a key that is known to be that of one. Unlike `read_key`, it tests nothing.
 pub fn span_of(m: u32, key: u32) -> Span
     requires { ⌜ (m ≤ 12) × SomeBlock m key ⌝ }
     ensures { λ r. ⌜ Names m key (r .exponent) (r .start) ⌝ }
