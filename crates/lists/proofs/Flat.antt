@@ -1,10 +1,10 @@
 -- What each element makes, one after another: `flatMap` of the library, part by part and element by element. By induction over the list.
 -- Assumes nothing.
-use mathlib.Core.Path.{_≡_, refl, sym}
+use mathlib.Core.Path.{_≡_, refl, sym, _∙_}
 use mathlib.Core.Logic.{_⊎_, inl, inr}
 use mathlib.Core.List.{List, [], _∷_, _++_, append-assoc, append-nil, map, flatMap}
 use mathlib.Core.List.{List·Memᴰ, List·Memᴰ·head, List·Memᴰ·tail, List·Memᴰ·not-nil, List·Memᴰ·append-cases, Memᴰ·append-left, Memᴰ·append-right}
-use Prim.Native.Nat.{_+_, _≤_}
+use Prim.Native.Nat.{ℕ, _+_, _*_, _≤_}
 use native.Mathlib.Omega.{arith}
 use lib.ListN.{length, length-append}
 use Rattle.lists.specs.Lists.{Ordered, none, more}
@@ -31,6 +31,17 @@ module _ {A B : Type 0} (f : A → List B) where
   -- what is made before an element and by it is part of the whole
   pub flat-room : (xs : List A) (x : A) (ys : List A) → length (flatMap f xs) + length (f x) ≤ length (flatMap f (xs ++ x ∷ ys))
   flat-room xs x ys = rw (flat-append xs (x ∷ ys), flat-next x ys) (simp length-append (omega arith))
+
+  -- as many times as many, where each makes k, and no more where none makes more
+  pub flat-length : (k : ℕ) → ((x : A) → length (f x) ≡ k) → (xs : List A) → length (flatMap f xs) ≡ k * length xs
+  unfolding flatMap
+  flat-length k h [] = omega arith
+  flat-length k h (x ∷ xs) = length-append (f x) (flatMap f xs) ∙ rw (h x, flat-length k h xs) (omega arith)
+
+  pub flat-most : (k : ℕ) → ((x : A) → length (f x) ≤ k) → (xs : List A) → length (flatMap f xs) ≤ k * length xs
+  unfolding flatMap
+  flat-most k h [] = omega arith
+  flat-most k h (x ∷ xs) = omega (arith, length-append (f x) (flatMap f xs), h x, flat-most k h xs)
 
   -- by which element
   pub flat-in : (xs : List A) {y : B} → List·Memᴰ y (flatMap f xs) → (x : A) × List·Memᴰ x xs × List·Memᴰ y (f x)

@@ -3,7 +3,7 @@
 pub use Rattle.lists.proofs.Tests.{never, refuted, both, neither, in-range, agree}
 pub use Rattle.lists.proofs.Order.{ordered-imp, ordered-part, ordered-front, ordered-back, ordered-append, ordered-map, ordered-one, distinct-map, rising-distinct}
 pub use Rattle.lists.proofs.Order.{pigeon, pigeon-onto, same-ordered, same-rising}
-pub use Rattle.lists.proofs.Flat.{flat-none, flat-next, flat-append, flat-last, flat-room, flat-in, in-flat, flat-same, flat-ordered, flat-map}
+pub use Rattle.lists.proofs.Flat.{flat-none, flat-next, flat-append, flat-last, flat-room, flat-length, flat-most, flat-in, in-flat, flat-same, flat-ordered, flat-map}
 pub use Rattle.lists.proofs.Numbers.{up-none, up-next, up-one, up-in, up-length, up-append, up-rising, up-distinct, table-written, map-same, same-rule, table-entry, same-below}
 pub use Rattle.lists.proofs.Upto.{upto-whole, upto-next, upto-last}
 pub use Rattle.lists.proofs.Kept.{keep-empty, keep-taken, keep-passed, keep-in, keep-true, in-keep, ordered-keep}

@@ -16,11 +16,10 @@ use Rattle.answers.proofs.Laws.{listed-none, listed-one, listed-more}
 use Rattle.key.specs.declared.Spot.{Spot}
 use Rattle.key.specs.Blocks.{Names}
 use Rattle.key.specs.Along.{Stands}
-use Rattle.key.specs.Places.{spanKey}
-use Rattle.key.proofs.Laws.{four, log-of, span-key}
+use Rattle.key.proofs.Laws.{four, log-of, pow-least, span-key}
 use Rattle.stretch.specs.Sets.{base, exponentIn, between, fitsIn}
 use Rattle.stretch.specs.Fewest.{stretch}
-use Rattle.stretch.specs.Walk.{largest}
+use Rattle.stretch.specs.Walk.{largest, Lays}
 use Rattle.stretch.proofs.Bases.{base-own}
 use Rattle.stretch.proofs.Around.{exponent-le, exponent-max, between-fits}
 use Rattle.stretch.proofs.Steps.{stretch-none, stretch-next, next-aligned, next-room}
@@ -66,6 +65,22 @@ next-largest {m} {b} {s} S l =
     let down : i ≤ e = exponent-max m (between a b) (omega (arith, S .cap)) (between-fits a b .1 (omega (arith, largest-room (s .top) (b - a) (omega arith)))) in
     omega arith
 
+-- so with it the walk goes on
+module _ {m b : ℕ} {s : Spot} (S : Stands m s) (l : s .place < b) {i : ℕ} (e : i ≡ largest (s .top) (b - s .place)) where
+  -- a block of its exponent may start there
+  pub lays-top : i ≤ s .top
+  lays-top = omega (arith, largest-le (s .top) (b - s .place))
+
+  pub lays-next : {key : ℕ} {t : Spot} → Names m key i (s .place) → t .place ≡ s .place + 4 ^ i → Stands m t → Lays m (s .place) b key t
+  lays-next {key} {t} N p T =
+      let d : i ≡ exponentIn m (between (s .place) b) (s .place) = e ∙ next-largest S l in
+      record {
+        first = stretch-next m l ∙ rw (← d, ← span-key N, ← p);
+        onward = omega (arith, pow-least 3 i);
+        within = let room : 4 ^ i ≤ b - s .place = rw e (largest-room (s .top) (b - s .place) (omega arith)) in omega arith;
+        stands = T;
+      }
+
 -- ---- writing
 
 -- a walk that began at place a has come to s: the keys of the blocks up to there are written, and the others are those from there on
@@ -79,26 +94,18 @@ pub writing-first : {m b n : ℕ} {s : Spot} (out : List ℕ) → Stands m s →
 writing-first {n = n} out S = record { stands = S; past = []; all = refl; listing = listed-none n out }
 
 module _ {m a b n : ℕ} {out₀ out : List ℕ} {s : Spot} {k : ℕ} (W : Writing m a b n out₀ out s k) where
-  module _ (l : s .place < b) {i : ℕ} (e : i ≡ largest (s .top) (b - s .place)) where
-    goes : stretch m (s .place) b ≡ spanKey m i (s .place) ∷ stretch m (s .place + 4 ^ i) b
-    goes = let d : i ≡ exponentIn m (between (s .place) b) (s .place) = e ∙ next-largest (W .stands) l in rw d (stretch-next m l)
-
-    split : stretch m a b ≡ W .past ++ spanKey m i (s .place) ∷ stretch m (s .place + 4 ^ i) b
-    split = W .all ∙ ap (λ (ks : List ℕ). W .past ++ ks) goes
-
-    -- a block of its exponent may start there
-    pub writing-top : i ≤ s .top
-    writing-top = omega (arith, largest-le (s .top) (b - s .place))
+  module _ {key : ℕ} {t : Spot} (L : Lays m (s .place) b key t) where
+    split : stretch m a b ≡ W .past ++ key ∷ stretch m (t .place) b
+    split = W .all ∙ ap (λ (ks : List ℕ). W .past ++ ks) (L .first)
 
     pub writing-room : k < n + length (stretch m a b)
     writing-room = omega (arith, W .listing .count, simp length-append at (ap length split))
 
-    pub writing-next : {key : ℕ} {t : Spot} {out′ : List ℕ} → Names m key i (s .place) → out′ ≡ put k key out → t .place ≡ s .place + 4 ^ i → Stands m t
-        → Writing m a b n out₀ out′ t (k + 1)
-    writing-next {key} {t} {out′} N f p S = record {
-      stands = S;
+    pub writing-next : {out′ : List ℕ} → out′ ≡ put k key out → Writing m a b n out₀ out′ t (k + 1)
+    writing-next {out′} f = record {
+      stands = L .stands;
       past = W .past ++ (key ∷ []);
-      all = split ∙ rw (← span-key N, ← p) (sym (append-assoc (W .past) (key ∷ []) (stretch m (t .place) b)));
+      all = split ∙ sym (append-assoc (W .past) (key ∷ []) (stretch m (t .place) b));
       listing = rw f (listed-more (W .listing) (listed-one k key out));
     }
 

@@ -1,12 +1,18 @@
 // The fewest blocks that make up a stretch of places, in key order.
 use key::Spot;
 ghost use mathlib.Core.Path.{_≡_};
-ghost use Prim.Native.Nat.{_+_, _^_, _≤_};
+ghost use Prim.Native.Nat.{_+_, _^_, _≤_, _<_};
 ghost use lib.ListN.{length};
 ghost use Rattle.answers.specs.Cells.{Listed};
 ghost use Rattle.key.specs.Along.{onesTable, Stands};
 ghost use Rattle.stretch.specs.Fewest.{stretch};
-ghost use Rattle.stretch.specs.Walk.{largest};
+ghost use Rattle.stretch.specs.Walk.{largest, Lays};
+
+// A block of a stretch: its key, and where the walk stands behind it.
+pub struct Laid {
+    pub key: u32,
+    pub behind: Spot,
+}
 
 // The exponent, up to `top`, of the largest block with no more than so many places: half the position of the highest bit of their number.
 // Zeros are counted of twice the number and 1 more, which is never 0: a processor that has no count for 0 then needs no test.
@@ -18,7 +24,18 @@ fn largest(top: u32, places: u32) -> u32
     if i < top { i } else { top }
 }
 
-// Writes the keys of the fewest blocks that make up the places from where the walk stands up to `end` behind n others, those for which there is room. How many there are then.
+// Of the fewest blocks that make up the places from where the walk stands up to `end`, the first.
+pub fn next_block(ones: &[u32; 13], m: u32, spot: Spot, end: u32) -> Laid
+    requires { ⌜ (now ones ≡ onesTable) × (m ≤ 12) × Stands m spot × (spot .place < end) × (end ≤ 4 ^ m) ⌝ }
+    ensures { λ r. ⌜ Lays m (spot .place) end (r .key) (r .behind) ⌝ }
+{
+    let i = largest(spot.top, end - spot.place);
+    let key = spots::key_here(ones, m, spot, i);
+    let behind = spots::advance(ones, m, key, i, spot.place);
+    Laid { key, behind }
+}
+
+// Writes the keys of all of them behind n others, those for which there is room. How many there are then.
 pub fn put_stretch(ones: &[u32; 13], m: u32, from: Spot, end: u32, out: &mut [u32], n: u32) -> u32
     requires { ⌜ (now ones ≡ onesTable) × (m ≤ 12) × Stands m from × (end ≤ 4 ^ m) × (n + length (stretch m (from .place) end) ≤ 4294967295) ⌝ }
     ensures { λ r. ⌜ Listed n (stretch m (from .place) end) (now (out .entry)) r (now (out .exit)) ⌝ }
@@ -26,11 +43,10 @@ pub fn put_stretch(ones: &[u32; 13], m: u32, from: Spot, end: u32, out: &mut [u3
     let mut spot = from;
     let mut k = n;
     while spot.place < end {
-        let i = largest(spot.top, end - spot.place);
-        let key = spots::key_here(ones, m, spot, i);
-        answers::put(out, k, key);
+        let next = next_block(ones, m, spot, end);
+        answers::put(out, k, next.key);
         k += 1;
-        spot = spots::advance(ones, m, key, i, spot.place);
+        spot = next.behind;
     }
     k
 }

@@ -1,11 +1,10 @@
 -- `stretch::put_stretch` meets its contract. The invariant is `Writing`, the measure the number of places left.
 -- Assumes nothing.
-use Prim.Native.Nat.{_-_, _<_}
+use Prim.Native.Nat.{_-_}
 use native.Mathlib.Omega.{arith}
 use borrow.Author.Needs.{needs}
 use Rattle.answers.proofs.Laws.{listed-same}
-use Rattle.key.proofs.Laws.{pow-least, pow-most}
-use Rattle.stretch.proofs.Walk.{Writing, writing-first, writing-top, writing-room, writing-next, writing-last}
+use Rattle.stretch.proofs.Walk.{Writing, writing-first, writing-room, writing-next, writing-last}
 use Rattle.stretch.proofs.put_stretch.Statement.{statement}
 use Rattle.stretch.proofs.put_stretch.Tie as tie
 
@@ -18,53 +17,32 @@ abbrev μ-loop : tie.MeasureT-loop
 loop-holds : tie.Need-loop-holds Inv-loop μ-loop
 loop-holds c = writing-first _ (c .before .pre .2)
 
-sub-largest : tie.Need-sub-largest Inv-loop μ-loop
-sub-largest c = search needs
-
-largest-requires : tie.Need-largest-requires Inv-loop μ-loop
-largest-requires c κs =
-    let p = c .before .before .before .before .before .pre in
-    omega (arith, c .before .if1 .taken, p .3, pow-most 3 _ (p .1))
-
--- at a turn, with the exponent of the next block
-module _ (c : tie.After-largest Inv-loop μ-loop) where
-  abbrev turn : tie.At-loop Inv-loop μ-loop
-  turn = c .before .before .before .before
-
-  abbrev entry : tie.Start Inv-loop μ-loop
-  entry = turn .before .before
-
-  abbrev before-end : turn .loop .spot .place < entry .args .end
-  before-end = c .before .before .if1 .taken
-
-key-here-requires : tie.Need-key-here-requires Inv-loop μ-loop
-key-here-requires c κs =
-    let p = entry c .pre in
-    let W = turn c .loop .inv in
-    (p .0, p .1, W .stands, omega (arith, before-end c, p .3), writing-top W (before-end c) (c .largest .ensures))
+next-block-requires : tie.Need-next-block-requires Inv-loop μ-loop
+next-block-requires c κs =
+    let at = c .before .before in
+    let p = at .before .before .pre in
+    (p .0, p .1, at .loop .inv .stands, c .if1 .taken, p .3)
 
 put-requires : tie.Need-put-requires Inv-loop μ-loop
 put-requires c κs = search needs
 
+-- at a turn, with the next block
+module _ (c : tie.After-next-block Inv-loop μ-loop) where
+  abbrev turn : tie.At-loop Inv-loop μ-loop
+  turn = c .before .before .before
+
 add-k : tie.Need-add-k Inv-loop μ-loop
 add-k c =
-    let at = c .before .before .before .before .before in
-    omega (arith, writing-room (turn at .loop .inv) (before-end at) (at .largest .ensures), entry at .pre .4)
-
-advance-requires : tie.Need-advance-requires Inv-loop μ-loop
-advance-requires c κs = search needs
+    let b = c .before .before .before .before in
+    omega (arith, writing-room (turn b .loop .inv) (b .next-block .ensures), turn b .before .before .pre .4)
 
 loop-less : tie.Need-loop-less Inv-loop μ-loop
-loop-less c =
-    let at = c .before .before .before .before .before .before in
-    omega (arith, before-end at, c .advance .ensures .0, pow-least 3 (at .largest .result))
+loop-less c = let b = c .before .before .before .before .before in omega (arith, b .next-block .ensures)
 
 loop-again : tie.Need-loop-again Inv-loop μ-loop
 loop-again c =
-    let key = c .before .before .before .before .before in
-    let at = key .before in
-    let e = c .advance .ensures in
-    writing-next (turn at .loop .inv) (before-end at) (at .largest .ensures) (key .key-here .ensures) (c .before .before .before .put .ensures) (e .0) (e .1)
+    let b = c .before .before .before .before .before in
+    writing-next (turn b .loop .inv) (b .next-block .ensures) (c .before .before .before .put .ensures)
 
 same-length : tie.Need-same-length Inv-loop μ-loop
 same-length c = listed-same (c .before .before .loop .inv .listing)
@@ -79,12 +57,9 @@ put-stretch-spec =
     Inv-loop
     μ-loop
     loop-holds
-    sub-largest
-    largest-requires
-    key-here-requires
+    next-block-requires
     put-requires
     add-k
-    advance-requires
     loop-less
     loop-again
     same-length

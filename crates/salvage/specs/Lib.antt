@@ -1,0 +1,3 @@
+pub mod Salvage
+pub mod Making
+pub mod Promises
