@@ -14,19 +14,16 @@ use Rattle.key.specs.Blocks.{Names}
 use Rattle.key.proofs.Laws.{block-lies}
 use Rattle.map.specs.declared.Taken.the-variants.{Behind, Refused}
 use Rattle.map.specs.Check.{late, refusalsFrom}
-use Rattle.map.specs.Walk.{Takes, garbled, early, missing, behind, CheckedTo}
-use Rattle.map.proofs.Steps.{late-is, step-malformed, step-early, step-late, step-next}
+use Rattle.map.specs.Walk.{Takes, behind, refused, CheckedTo}
+use Rattle.map.proofs.Steps.{step-next}
 
 -- what a record was taken for
 module _ {whole : Bool} {m at key place : ℕ} where
-  pub taken-behind : {i s : ℕ} → Takes whole m at key place (Behind i s) → (whole ≡ false) × Names m key i s × (at < s)
-  taken-behind (behind e b l) = (e, b, l)
+  pub taken-behind : {i s : ℕ} → Takes whole m at key place (Behind i s) → (whole ≡ false) × (at ≤ s) × Names m key i s
+  taken-behind (behind e l b) = (e, l, b)
 
-  -- where it is refused, it is so whatever follows
   pub taken-refused : {n p : ℕ} → Takes whole m at key place (Refused n p) → (ks : List ℕ) → verdict (refusalsFrom whole m place at (key ∷ ks)) ≡ refusal.Refused n p
-  taken-refused (garbled e) ks = step-malformed whole m place at key ks e
-  taken-refused (early b l) ks = step-early whole m place at key ks b l
-  taken-refused (missing e b l) ks = step-late whole m place at key ks b (rw e (late-is _ _ .1 l))
+  taken-refused (refused v) = v
 
 pub walked-first : (whole : Bool) (m : ℕ) (keys : List ℕ) → CheckedTo whole m keys 0 0
 walked-first whole m keys = record { within = omega arith; most = omega arith; same = refl }

@@ -1,14 +1,13 @@
 -- The walk along the records, as the check goes: what a record is taken for, and how far the records follow one another.
 -- Assumes nothing.
 use mathlib.Core.Path.{_≡_}
-use mathlib.Core.Bool.{Bool, true, false}
-use mathlib.Core.List.{List}
+use mathlib.Core.Bool.{Bool, false}
+use mathlib.Core.List.{List, _∷_}
 use Prim.Native.Nat.{ℕ, _^_, _≤_, _<_}
 use lib.ListN.{length, getD, drop}
+use Rattle.answers.specs.declared.Verdict.the-variants as refusal
 use Rattle.answers.specs.Refusals.{verdict}
 use Rattle.key.specs.declared.Fit.the-variants.{Other}
-use Rattle.key.specs.declared.Form.the-variants.{Malformed}
-use Rattle.key.specs.Form.{formOf}
 use Rattle.key.specs.Blocks.{Names}
 use Rattle.key.specs.Along.{Stands, ToldFit}
 use Rattle.map.specs.declared.Taken.{Taken}
@@ -16,12 +15,10 @@ use Rattle.map.specs.declared.Taken.the-variants.{Behind, Refused}
 use Rattle.map.specs.declared.Gone.{Gone}
 use Rattle.map.specs.Check.{refusalsFrom}
 
--- record `place`, of this key, where the last span ended at `at`: its key is malformed, or it starts before `at`; or it is a block behind a gap, and gaps are allowed or not
+-- record `place`, of this key, where the last span ended at `at`: it is a block behind a gap, and gaps are allowed; or it is refused, whatever follows
 pub data Takes (whole : Bool) (m at key place : ℕ) : Taken → Type 0 where
-  garbled : formOf m key ≡ Malformed → Takes whole m at key place (Refused 3 place)
-  early : {i s : ℕ} → Names m key i s → s < at → Takes whole m at key place (Refused 4 place)
-  missing : {i s : ℕ} → whole ≡ true → Names m key i s → at < s → Takes whole m at key place (Refused 5 place)
-  behind : {i s : ℕ} → whole ≡ false → Names m key i s → at < s → Takes whole m at key place (Behind i s)
+  behind : {i s : ℕ} → whole ≡ false → at ≤ s → Names m key i s → Takes whole m at key place (Behind i s)
+  refused : {n p : ℕ} → ((ks : List ℕ) → verdict (refusalsFrom whole m place at (key ∷ ks)) ≡ refusal.Refused n p) → Takes whole m at key place (Refused n p)
 
 -- the table says of all records what it says of those from n on, where the last span ended at `at`
 pub record CheckedTo (whole : Bool) (m : ℕ) (keys : List ℕ) (at n : ℕ) : Type 0 where

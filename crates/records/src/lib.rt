@@ -17,7 +17,7 @@ ghost use Rattle.map.specs.Walk.{Takes, GoesAlong};
 ghost use Rattle.map.specs.Runs;
 
 // What a record is whose key is that of no block that starts at the place reached: refused by 3, by 4, and by 5 where the map is to be whole; otherwise a block behind a gap.
-pub fn misfit(whole: bool, m: u32, at: u32, key: u32, place: u32) -> Taken
+fn misfit(whole: bool, m: u32, at: u32, key: u32, place: u32) -> Taken
     requires { ⌜ (m ≤ 12) × ToldFit m at key Other ⌝ }
     ensures { λ r. ⌜ Takes whole m at key place r ⌝ }
 {

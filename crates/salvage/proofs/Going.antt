@@ -9,56 +9,59 @@ use lib.ListN.{length, getD, drop, length-append}
 use Rattle.key.specs.declared.Spot.{Spot}
 use Rattle.key.specs.Along.{Stands}
 use Rattle.salvage.specs.Salvage.{Mend, fills, mendsOf, reached, mendsFrom, mends, salvaged, entries}
-use Rattle.salvage.specs.Making.{Sheet, sheet, Makes, MakesAny, Countable}
+use Rattle.salvage.specs.Making.{Sheet, sheet, Makes, MakesAny, Countable, Going}
 use Rattle.salvage.proofs.Making.{makes-none, makes-more, makes-records, makes-entries, makes-few}
 use Rattle.salvage.proofs.Mended.{mends-next, mends-last, mends-are, mends-few}
-
--- the records before n are mended, and the walk stands where the last span kept has ended
-pub record Going (m : ℕ) (keys classes : List ℕ) (a b : Sheet) (s : Spot) (n : ℕ) : Type 0 where
-  pub stands : Stands m s
-  pub within : n ≤ length keys
-  pub past : List Mend
-  pub all : mends m keys ≡ past ++ mendsFrom m n (s .place) (drop n keys)
-  pub makes : Makes keys classes past a b
 
 pub going-first : (m : ℕ) (keys classes : List ℕ) (a : Sheet) {s : Spot} → Stands m s → s .place ≡ 0 → Going m keys classes a a s 0
 going-first m keys classes a S e = record { stands = S; within = omega arith; past = []; all = rw e; makes = makes-none keys classes a }
 
-module _ {m : ℕ} {keys classes K P L : List ℕ} {b : Sheet} {s : Spot} {n : ℕ} (G : Going m keys classes (sheet 0 0 K P L) b s n) where
+-- ---- record n
+
+module _ {m : ℕ} {keys classes : List ℕ} {a b : Sheet} {s : Spot} {n : ℕ} (G : Going m keys classes a b s n) (h : n < length keys) where
+  split : mends m keys ≡ G .past ++ (mendsOf m n (s .place) (getD keys n 0) ++ mendsFrom m (suc n) (reached m (s .place) (getD keys n 0)) (drop (suc n) keys))
+  split = G .all ∙ ap (λ (es : List Mend). G .past ++ es) (mends-next m n (s .place) keys h)
+
+  pub going-next : {c : Sheet} {t : Spot} → (t .place ≡ reached m (s .place) (getD keys n 0)) × Stands m t → Makes keys classes (mendsOf m n (s .place) (getD keys n 0)) b c
+      → Going m keys classes a c t (n + 1)
+  going-next r M = record {
+    stands = r .1;
+    within = omega arith;
+    past = G .past ++ mendsOf m n (s .place) (getD keys n 0);
+    all = split ∙ rw (r .0, add-one) (sym (append-assoc (G .past) _ _));
+    makes = makes-more keys classes (G .makes) M;
+  }
+
+-- ---- behind the last
+
+module _ {m : ℕ} {keys classes : List ℕ} {a b : Sheet} {s : Spot} {n : ℕ} (G : Going m keys classes a b s n) (h : length keys ≤ n) where
+  rest : mends m keys ≡ G .past ++ fills m (s .place) (4 ^ m)
+  rest = G .all ∙ ap (λ (es : List Mend). G .past ++ es) (mends-last m n (s .place) keys h)
+
+  pub going-last : {c : Sheet} → MakesAny (fills m (s .place) (4 ^ m)) b c → Makes keys classes (mends m keys) a c
+  going-last M = rw rest (makes-more keys classes (G .makes) (M keys classes))
+
+-- ---- how many there are
+
+module _ {m : ℕ} {keys classes K P L : List ℕ} {b : Sheet} {s : Spot} {n : ℕ} (G : Going m keys classes (sheet 0 0 K P L) b s n) (small : m ≤ 12) (most : length keys ≤ 65536) where
   -- what is to come can be counted
-  counted : {es : List Mend} (es′ : List Mend) → m ≤ 12 → length keys ≤ 65536 → mends m keys ≡ G .past ++ (es ++ es′) → Countable (b .records) (b .entries) es
-  counted {es} es′ small most e =
+  counted : {es : List Mend} (es′ : List Mend) → mends m keys ≡ G .past ++ (es ++ es′) → Countable (b .records) (b .entries) es
+  counted {es} es′ e =
       let all = mends-few small (omega arith) (mends-are m keys) in
       let n = simp length-append at (ap length e) in
       let few = makes-few (G .makes) in
       record { records-few = omega (arith, all, n, few .0); entries-few = omega (arith, all, n, few .1) }
 
-  module _ (h : n < length keys) where
-    split : mends m keys ≡ G .past ++ (mendsOf m n (s .place) (getD keys n 0) ++ mendsFrom m (suc n) (reached m (s .place) (getD keys n 0)) (drop (suc n) keys))
-    split = G .all ∙ ap (λ (es : List Mend). G .past ++ es) (mends-next m n (s .place) keys h)
+  pub going-counted : n < length keys → Countable (b .records) (b .entries) (mendsOf m n (s .place) (getD keys n 0))
+  going-counted h = counted _ (split G h)
 
-    pub going-counted : m ≤ 12 → length keys ≤ 65536 → Countable (b .records) (b .entries) (mendsOf m n (s .place) (getD keys n 0))
-    going-counted small most = counted _ small most split
+  pub going-rest : length keys ≤ n → Countable (b .records) (b .entries) (fills m (s .place) (4 ^ m))
+  going-rest h = counted [] (rest G h ∙ ap (λ (es : List Mend). G .past ++ es) (sym (append-nil (fills m (s .place) (4 ^ m)))))
 
-    pub going-next : {c : Sheet} {t : Spot} → (t .place ≡ reached m (s .place) (getD keys n 0)) × Stands m t → Makes keys classes (mendsOf m n (s .place) (getD keys n 0)) b c
-        → Going m keys classes (sheet 0 0 K P L) c t (n + 1)
-    going-next {t = t} r M = record {
-      stands = r .1;
-      within = omega arith;
-      past = G .past ++ mendsOf m n (s .place) (getD keys n 0);
-      all = split ∙ rw (r .0, add-one) (sym (append-assoc (G .past) _ _));
-      makes = makes-more keys classes (G .makes) M;
-    }
-
-  module _ (h : length keys ≤ n) where
-    rest : mends m keys ≡ G .past ++ fills m (s .place) (4 ^ m)
-    rest = G .all ∙ ap (λ (es : List Mend). G .past ++ es) (mends-last m n (s .place) keys h)
-
-    pub going-rest : m ≤ 12 → length keys ≤ 65536 → Countable (b .records) (b .entries) (fills m (s .place) (4 ^ m))
-    going-rest small most = counted [] small most (rest ∙ ap (λ (es : List Mend). G .past ++ es) (sym (append-nil (fills m (s .place) (4 ^ m)))))
-
-    pub going-last : {c : Sheet} → MakesAny (fills m (s .place) (4 ^ m)) b c → Makes keys classes (mends m keys) (sheet 0 0 K P L) c
-    going-last M = rw rest (makes-more keys classes (G .makes) (M keys classes))
+  pub going-records : b .records + length keys ≤ 2147483647
+  going-records =
+      let n = simp length-append at (ap length (G .all)) in
+      omega (arith, mends-few small (omega arith) (mends-are m keys), n, makes-few (G .makes) .0)
 
 -- how many there are of all
 module _ (m : ℕ) {keys classes K P L : List ℕ} {b : Sheet} (M : Makes keys classes (mends m keys) (sheet 0 0 K P L) b) where

@@ -1,8 +1,9 @@
 mod Making
 mod Table
-mod Filling
 mod Steps
+mod Filling
 mod Taking
 mod Mended
 mod Going
+mod Along
 mod Answered

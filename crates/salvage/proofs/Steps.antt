@@ -1,17 +1,13 @@
 -- What becomes of a record, by what its key is, and where the last span kept has ended then.
 -- Assumes nothing.
-use mathlib.Core.Path.{_≡_, sym}
-use mathlib.Core.Bool.{false}
+use mathlib.Core.Path.{_≡_}
 use mathlib.Core.List.{[], _∷_, _++_}
 use Prim.Native.Nat.{ℕ, _+_, _^_, _≤_, _<_}
 use borrow.Author.Tests.{lt-ltb, le-ltb}
-use Rattle.lists.proofs.Laws.{never}
 use Rattle.key.specs.declared.Form.the-variants.{Malformed}
 use Rattle.key.specs.Form.{formOf}
 use Rattle.key.specs.Blocks.{Names}
-use Rattle.map.specs.declared.Taken.the-variants.{Refused}
 use Rattle.map.specs.Spans.{malformed, start, end}
-use Rattle.map.specs.Walk.{Takes, garbled, early, missing}
 use Rattle.salvage.specs.Salvage.{kept, dropped, fills, mendsOf, reached}
 
 module _ (m n at k : ℕ) where
@@ -27,9 +23,3 @@ module _ (m n at k : ℕ) where
     pub step-kept : at ≤ s → (mendsOf m n at k ≡ fills m at s ++ (kept n ∷ [])) × (reached m at k ≡ s + 4 ^ i)
     unfolding mendsOf reached malformed start end
     step-kept l = (rw (b .is, le-ltb s at l), rw (b .is, le-ltb s at l))
-
-  -- where gaps are allowed and it is refused all the same
-  pub step-refused : {number place : ℕ} → Takes false m at k n (Refused number place) → (mendsOf m n at k ≡ dropped place number ∷ []) × (reached m at k ≡ at)
-  step-refused (garbled e) = step-garbled e
-  step-refused (early b l) = step-early b l
-  step-refused (missing e b l) = absurd (never (sym e))

@@ -1,20 +1,17 @@
 -- Taking a record: it is kept behind a gap that is filled, or it is dropped.
 -- Assumes nothing.
 use mathlib.Core.Path.{_≡_, refl, ap}
-use mathlib.Core.Bool.{false}
 use mathlib.Core.List.{List, [], _∷_, _++_}
-use Prim.Native.Nat.{ℕ, _+_, _*_, _≤_}
+use Prim.Native.Nat.{ℕ, _+_, _*_, _≤_, _<_}
 use native.Mathlib.Omega.{arith}
 use lib.ListN.{length, getD, length-append}
 use Rattle.answers.specs.Cells.{put}
 use Rattle.key.specs.Blocks.{Names}
-use Rattle.map.specs.declared.Taken.the-variants.{Refused}
-use Rattle.map.specs.Walk.{Takes}
-use Rattle.salvage.specs.Salvage.{kept, fills, mendsOf}
+use Rattle.salvage.specs.Salvage.{Mend, kept, dropped, fills, mendsOf}
 use Rattle.salvage.specs.Making.{Sheet, sheet, Makes, MakesAny, Countable}
 use Rattle.salvage.proofs.Making.{makes-none, makes-more, makes-kept, makes-dropped, makes-few}
 use Rattle.salvage.proofs.Filling.{fills-none}
-use Rattle.salvage.proofs.Steps.{step-kept, step-refused}
+use Rattle.salvage.proofs.Steps.{step-kept}
 
 -- where there is no gap, nothing is filled
 pub take-here : (m at : ℕ) (a : Sheet) → MakesAny (fills m at at) a a
@@ -38,9 +35,12 @@ take-kept m n at keys classes N l {b = b} M c w =
     rw (step-kept m n at (getD keys n 0) N l .0, c .0, c .1, w .0, w .1)
     (makes-more keys classes (M keys classes) (makes-kept keys classes (b .records) (b .entries) (b .keys) (b .classes) (b .log) n))
 
--- record n is dropped
-pub take-dropped : (m n at : ℕ) (keys classes : List ℕ) {number place : ℕ} → Takes false m at (getD keys n 0) n (Refused number place) → (a : Sheet) {L : List ℕ}
-    → L ≡ put (2 * a .entries + 1) number (put (2 * a .entries) place (a .log))
-    → Makes keys classes (mendsOf m n at (getD keys n 0)) a (sheet (a .records) (a .entries + 1) (a .keys) (a .classes) L)
-take-dropped m n at keys classes {number} {place} T a e =
-    rw (step-refused m n at (getD keys n 0) T .0, e) (makes-dropped keys classes (a .records) (a .entries) (a .keys) (a .classes) (a .log) place number)
+-- record n is dropped: one entry more can be counted
+pub take-entry : {n number records entries : ℕ} {es : List Mend} → es ≡ dropped n number ∷ [] → Countable records entries es → entries < 2147483647
+take-entry e C = omega (arith, C .entries-few, ap length e)
+
+pub take-dropped : (n number : ℕ) (keys classes : List ℕ) {es : List Mend} → es ≡ dropped n number ∷ [] → (a : Sheet) {r e : ℕ} {L : List ℕ}
+    → (r ≡ a .records) × (e ≡ a .entries + 1) → L ≡ put (2 * a .entries + 1) number (put (2 * a .entries) n (a .log))
+    → Makes keys classes es a (sheet r e (a .keys) (a .classes) L)
+take-dropped n number keys classes s a c e =
+    rw (s, c .0, c .1, e) (makes-dropped keys classes (a .records) (a .entries) (a .keys) (a .classes) (a .log) n number)

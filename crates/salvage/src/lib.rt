@@ -1,18 +1,20 @@
 // Salvage of a broken map: records with a malformed key and records that overlap are dropped, and the gaps filled with blocks that were not seen.
 use answers::Verdict;
 use key::Fit;
+use key::Form;
 use key::Spot;
-use map::Taken;
 ghost use mathlib.Core.Path.{_≡_};
 ghost use Prim.Native.Nat.{_+_, _*_, _^_, _≤_, _<_};
 ghost use lib.ListN.{length, getD};
 ghost use Rattle.answers.specs.Refusals.{verdict};
 ghost use Rattle.answers.specs.Cells.{put};
 ghost use Rattle.answers.specs.After.{after};
+ghost use Rattle.key.specs.Spread.{spreads};
+ghost use Rattle.key.specs.Form.{formOf};
 ghost use Rattle.key.specs.Blocks.{Names};
 ghost use Rattle.key.specs.Along.{onesTable, TellsOnes, Stands};
 ghost use Rattle.salvage.specs.Salvage.{fills, mendsOf, reached, mends, resultRefusals, salvageOf};
-ghost use Rattle.salvage.specs.Making.{sheet, Makes, MakesAny, Countable};
+ghost use Rattle.salvage.specs.Making.{sheet, Makes, MakesAny, Countable, KeepsAlong};
 
 // What is answered: how many records the mended map has and how many entries the log, or a refusal.
 pub enum Salvaged {
@@ -25,6 +27,12 @@ pub struct Mending {
     pub spot: Spot,
     pub records: u32,
     pub entries: u32,
+}
+
+// How far it has come along records that follow one another, and the next record.
+pub struct Kept {
+    pub now: Mending,
+    pub next: usize,
 }
 
 // Writes a record behind n others, its key and its class, where there is room.
@@ -109,8 +117,8 @@ fn keep(
     }
 }
 
-// What becomes of record n.
-fn take(
+// Keeps the records from n on as long as each starts where the last one's span ended. Such a record is told by its key and the place reached, and none is decoded.
+fn keep_along(
     ones: &[u32; 13],
     digits: &[u8; 16],
     m: u32,
@@ -120,60 +128,109 @@ fn take(
     from: Mending,
     mended: &mut [u32],
     painted: &mut [u8],
-    log: &mut [u32],
-) -> Mending
-    requires { ⌜ (now ones ≡ onesTable) × TellsOnes (now digits) × (m ≤ 12) × (n < length (now keys)) × (n < length (now classes)) × (n ≤ 65536) ⌝ }
-    requires { ⌜ Stands m (from .spot) × Countable (from .records) (from .entries) (mendsOf m n (from .spot .place) (getD (now keys) n 0)) ⌝ }
-    ensures { λ r. ⌜ (r .spot .place ≡ reached m (from .spot .place) (getD (now (keys .entry)) n 0)) × Stands m (r .spot) ⌝ }
-    ensures { λ r. ⌜ Makes (now (keys .entry)) (now (classes .entry)) (mendsOf m n (from .spot .place) (getD (now (keys .entry)) n 0)) (sheet (from .records) (from .entries) (now (mended .entry)) (now (painted .entry)) (now (log .entry))) (sheet (r .records) (r .entries) (now (mended .exit)) (now (painted .exit)) (now (log .exit))) ⌝ }
+) -> Kept
+    requires { ⌜ (now ones ≡ onesTable) × TellsOnes (now digits) × (m ≤ 12) × (length (now keys) ≡ length (now classes)) × (n ≤ length (now keys)) × Stands m (from .spot) × (from .records + length (now keys) ≤ 2147483647) ⌝ }
+    ensures { λ r. ⌜ KeepsAlong m (now (keys .entry)) (now (classes .entry)) n from (now (mended .entry)) (now (painted .entry)) r (now (mended .exit)) (now (painted .exit)) ⌝ }
 {
-    let key = keys[n];
-    let spot = from.spot;
-    let fit = spots::exponent_at(ones, digits, m, spot, key);
-    if let Fit::Block { exponent } = fit {
-        return keep(
+    let mut now = from;
+    let mut next = n;
+    while next < keys.len() {
+        let spot = now.spot;
+        let fit = spots::exponent_at(ones, digits, m, spot, keys[next]);
+        let Fit::Block { exponent } = fit else {
+            return Kept { now, next };
+        };
+        now = keep(
             ones,
             m,
             keys,
             classes,
-            n,
+            next,
             exponent,
             spot.place,
-            from,
+            now,
             mended,
             painted,
         );
+        next += 1;
     }
-    let taken = records::misfit(false, m, spot.place, key, n as u32);
-    match taken {
-        Taken::Refused { number, place } => {
-            put_entry(log, from.entries, place, number);
-            Mending {
-                spot,
-                records: from.records,
-                entries: from.entries + 1,
-            }
-        }
-        Taken::Behind { exponent, start } => {
-            let filled = fill(ones, m, from, start, mended, painted, log);
-            keep(
-                ones,
-                m,
-                keys,
-                classes,
-                n,
-                exponent,
-                start,
-                filled,
-                mended,
-                painted,
-            )
-        }
+    Kept { now, next }
+}
+
+// Record n is dropped, by 3 or by 4.
+fn leave_out(n: u32, number: u32, from: Mending, log: &mut [u32]) -> Mending
+    requires { ⌜ from .entries < 2147483647 ⌝ }
+    ensures { λ r. ⌜ (r .spot ≡ from .spot) × (r .records ≡ from .records) × (r .entries ≡ from .entries + 1) ⌝ }
+    ensures { λ r. ⌜ now (log .exit) ≡ put (2 * from .entries + 1) number (put (2 * from .entries) n (now (log .entry))) ⌝ }
+{
+    put_entry(log, from.entries, n, number);
+    let spot = from.spot;
+    Mending {
+        spot,
+        records: from.records,
+        entries: from.entries + 1,
     }
+}
+
+// What a number is as a key. The block that its digits say has it as its key, or it is malformed. `digits::read_key` says the same, but stays compiled into the check as long as
+// nothing else calls it.
+fn form_of(table: &[u32; 256], m: u32, key: u32) -> Form
+    requires { ⌜ (now table ≡ spreads) × (m ≤ 12) ⌝ }
+    ensures { λ r. ⌜ r ≡ formOf m key ⌝ }
+{
+    let square = digits::square_of(m, key);
+    let exponent = square.exponent;
+    if blocks::block_key(table, m, exponent, square.row, square.col) != key {
+        return Form::Malformed;
+    }
+    let start = blocks::place(square.row, square.col);
+    Form::Block { exponent, start }
+}
+
+// What becomes of record n.
+fn take(
+    ones: &[u32; 13],
+    table: &[u32; 256],
+    m: u32,
+    keys: &[u32],
+    classes: &[u8],
+    n: usize,
+    from: Mending,
+    mended: &mut [u32],
+    painted: &mut [u8],
+    log: &mut [u32],
+) -> Mending
+    requires { ⌜ (now ones ≡ onesTable) × (now table ≡ spreads) × (m ≤ 12) × (n < length (now keys)) × (n < length (now classes)) × (n ≤ 65536) ⌝ }
+    requires { ⌜ Stands m (from .spot) × Countable (from .records) (from .entries) (mendsOf m n (from .spot .place) (getD (now keys) n 0)) ⌝ }
+    ensures { λ r. ⌜ (r .spot .place ≡ reached m (from .spot .place) (getD (now (keys .entry)) n 0)) × Stands m (r .spot) ⌝ }
+    ensures { λ r. ⌜ Makes (now (keys .entry)) (now (classes .entry)) (mendsOf m n (from .spot .place) (getD (now (keys .entry)) n 0)) (sheet (from .records) (from .entries) (now (mended .entry)) (now (painted .entry)) (now (log .entry))) (sheet (r .records) (r .entries) (now (mended .exit)) (now (painted .exit)) (now (log .exit))) ⌝ }
+{
+    let form = form_of(table, m, keys[n]);
+    let Form::Block { exponent, start } = form else {
+        return leave_out(n as u32, 3, from, log);
+    };
+    let spot = from.spot;
+    if start < spot.place {
+        return leave_out(n as u32, 4, from, log);
+    }
+    let filled = fill(ones, m, from, start, mended, painted, log);
+    keep(
+        ones,
+        m,
+        keys,
+        classes,
+        n,
+        exponent,
+        start,
+        filled,
+        mended,
+        painted,
+    )
 }
 
 // Mends a map: the records of the mended one and the entries of the log are written as far as there is room, and counted.
 fn pass(
+    table: &[u32; 256],
     m: u32,
     keys: &[u32],
     classes: &[u8],
@@ -181,7 +238,7 @@ fn pass(
     painted: &mut [u8],
     log: &mut [u32],
 ) -> Mending
-    requires { ⌜ (m ≤ 12) × (length (now keys) ≡ length (now classes)) × (length (now keys) ≤ 65536) ⌝ }
+    requires { ⌜ (now table ≡ spreads) × (m ≤ 12) × (length (now keys) ≡ length (now classes)) × (length (now keys) ≤ 65536) ⌝ }
     ensures { λ r. ⌜ Makes (now (keys .entry)) (now (classes .entry)) (mends m (now (keys .entry))) (sheet 0 0 (now (mended .entry)) (now (painted .entry)) (now (log .entry))) (sheet (r .records) (r .entries) (now (mended .exit)) (now (painted .exit)) (now (log .exit))) ⌝ }
 {
     let ones = spots::ones_table();
@@ -192,23 +249,27 @@ fn pass(
         entries: 0,
     };
     let mut n: usize = 0;
-    while n < keys.len() {
+    loop {
+        let kept = keep_along(&ones, &digits, m, keys, classes, n, now, mended, painted);
+        let so_far = kept.now;
+        let next = kept.next;
+        if next == keys.len() {
+            return fill(&ones, m, so_far, blocks::pow4(m), mended, painted, log);
+        }
         now = take(
             &ones,
-            &digits,
+            table,
             m,
             keys,
             classes,
-            n,
-            now,
+            next,
+            so_far,
             mended,
             painted,
             log,
         );
-        n += 1;
+        n = next + 1;
     }
-    let end = blocks::pow4(m);
-    fill(&ones, m, now, end, mended, painted, log)
 }
 
 // Whether the mended map and the log have room, by what they need and what there is.
@@ -259,7 +320,9 @@ pub fn salvage(
     if let Verdict::Refused { number, place } = sizes {
         return Salvaged::Refused { number, place };
     }
+    let table = blocks::spread_table();
     let counted = pass(
+        &table,
         m,
         keys,
         classes,
@@ -273,6 +336,6 @@ pub fn salvage(
     if let Verdict::Refused { number, place } = verdict {
         return Salvaged::Refused { number, place };
     }
-    pass(m, keys, classes, mended, painted, log);
+    pass(&table, m, keys, classes, mended, painted, log);
     Salvaged::Done { records, entries }
 }

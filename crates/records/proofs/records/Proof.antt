@@ -108,15 +108,15 @@ module _ (c : tie.After-taken2 Inv-loop μ-loop) where
   abbrev reached : Gone
   reached = last (c .before .before) .along .result
 
-  taken : (begun .args .whole ≡ false) × Names (begun .args .m) (getD (begun .args .keys .now) (reached .next) 0) (c .taken2 .given .0 .0) (c .taken2 .given .0 .1 .0)
-      × (reached .spot .place < c .taken2 .given .0 .1 .0)
+  taken : (begun .args .whole ≡ false) × (reached .spot .place ≤ c .taken2 .given .0 .1 .0)
+      × Names (begun .args .m) (getD (begun .args .keys .now) (reached .next) 0) (c .taken2 .given .0 .0) (c .taken2 .given .0 .1 .0)
   taken = taken-behind (rw (c .taken2 .given .1) at (c .before .before .misfit .ensures))
 
 advance-requires : tie.Need-advance-requires Inv-loop μ-loop
 advance-requires c κs =
     let t = c .before .before in
     let f = t .before .before in
-    (table (turn (last f)), origin (last f) .pre .0, taken t .1)
+    (table (turn (last f)), origin (last f) .pre .0, taken t .2)
 
 add-n : tie.Need-add-n Inv-loop μ-loop
 add-n c =
@@ -132,7 +132,7 @@ loop-again : tie.Need-loop-again Inv-loop μ-loop
 loop-again c =
     let t = c .before .before .before in
     let f = t .before .before in
-    (walked-next (gone (last f)) (left (stop f)) (taken t .1) (omega (arith, taken t .2)) (rw (taken t .0) (late-never _ _)) (c .advance .ensures .0), c .advance .ensures .1)
+    (walked-next (gone (last f)) (left (stop f)) (taken t .2) (taken t .1) (rw (taken t .0) (late-never _ _)) (c .advance .ensures .0), c .advance .ensures .1)
 
 pub records-spec : {M : Type 1} → statement M
 records-spec =

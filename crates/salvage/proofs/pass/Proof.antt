@@ -1,22 +1,21 @@
 -- `salvage::pass` meets its contract. The invariant is `Going`, the measure the number of records left.
 -- Assumes nothing.
-use mathlib.Core.Path.{_≡_}
-use Prim.Native.Nat.{ℕ, _-_, _^_}
+use Prim.Native.Nat.{_-_, _<_}
 use native.Mathlib.Omega.{arith}
 use lib.ListN.{length}
 use borrow.Author.Needs.{needs}
-use Rattle.salvage.specs.Making.{sheet}
+use Rattle.salvage.specs.Making.{sheet, Going}
 use Rattle.salvage.proofs.Making.{makes-lengths}
-use Rattle.salvage.proofs.Going.{Going, going-first, going-counted, going-next, going-rest, going-last}
+use Rattle.salvage.proofs.Going.{going-first, going-next, going-last, going-counted, going-rest, going-records}
 use Rattle.salvage.proofs.pass.Statement.{statement}
 use Rattle.salvage.proofs.pass.Tie as tie
 
 abbrev Inv-loop : tie.InvT-loop
-Inv-loop m keys classes mended₀ painted₀ log₀ ones digits now₀ n₀ mended painted log now n =
+Inv-loop table m keys classes mended₀ painted₀ log₀ ones digits now₀ n₀ mended painted log now n =
     Going m keys classes (sheet 0 0 mended₀ painted₀ log₀) (sheet (now .records) (now .entries) mended painted log) (now .spot) n
 
 abbrev μ-loop : tie.MeasureT-loop
-μ-loop m keys classes mended₀ painted₀ log₀ ones digits now₀ n₀ mended painted log now n = length keys - n
+μ-loop table m keys classes mended₀ painted₀ log₀ ones digits now₀ n₀ mended painted log now n = length keys - n
 
 ones-table-requires : tie.Need-ones-table-requires Inv-loop μ-loop
 ones-table-requires c κs = search needs
@@ -38,46 +37,46 @@ module _ (c : tie.At-loop Inv-loop μ-loop) where
   abbrev start : tie.Start Inv-loop μ-loop
   start = tables .before .before .before .before .before .before .before
 
-take-requires : tie.Need-take-requires Inv-loop μ-loop
-take-requires c κs =
-    let turn = c .before .before .before .before .before in
-    let at = turn .before in
+keep-along-requires : tie.Need-keep-along-requires Inv-loop μ-loop
+keep-along-requires c κs =
+    let at = c .before .before .before .before in
     let p = start at .pre in
     let G = at .loop .inv in
-    let h = turn .loop-test .taken in
-    ((tables at .before .ones-table .ensures, tables at .digits-table .ensures, p .0, h, omega (arith, h, p .1), omega (arith, h, p .2)), (G .stands, going-counted G h (p .0) (p .2)))
+    (tables at .before .ones-table .ensures, tables at .digits-table .ensures, p .1, p .2, G .within, G .stands, going-records G (p .1) (p .3))
 
-add-n : tie.Need-add-n Inv-loop μ-loop
-add-n c =
-    let turn = c .before .before .before .before .before .before .before .before .before .before .before .before in
-    omega (arith, turn .loop-test .taken, start (turn .before) .pre .2)
+-- how far the records follow one another
+module _ (c : tie.After-so-far Inv-loop μ-loop) where
+  abbrev kept : tie.After-keep-along Inv-loop μ-loop
+  kept = c .before .before .before .before .before
 
-loop-less : tie.Need-loop-less Inv-loop μ-loop
-loop-less c = search needs
+  abbrev turn : tie.At-loop Inv-loop μ-loop
+  turn = kept .before .before .before .before .before
 
-loop-again : tie.Need-loop-again Inv-loop μ-loop
-loop-again c =
-    let taken = c .before .before .before .before .before .before in
-    let turn = taken .before .before .before .before .before .before in
-    going-next (turn .before .loop .inv) (turn .loop-test .taken) (taken .take .ensures .0) (taken .take .ensures .1)
+  going : Going (start turn .args .m) (start turn .args .keys .now) (start turn .args .classes .now)
+      (sheet 0 0 (start turn .args .mended .now) (start turn .args .painted .now) (start turn .args .log .now))
+      (sheet (kept .keep-along .result .now .records) (kept .keep-along .result .now .entries) (kept .keep-along .last .1 .1 .1 .1 .1 .1 .1 .0)
+      (kept .keep-along .last .1 .1 .1 .1 .1 .1 .1 .1 .0) (turn .loop .log)) (kept .keep-along .result .now .spot) (kept .keep-along .result .next)
+  going = kept .keep-along .ensures .goes _ _ (turn .loop .inv)
 
 pow4-requires : tie.Need-pow4-requires Inv-loop μ-loop
-pow4-requires c κs = start (c .before) .pre .0
+pow4-requires c κs = start (turn (c .before .before)) .pre .1
 
 fill-requires : tie.Need-fill-requires Inv-loop μ-loop
 fill-requires c κs =
-    let power = c .before .before .before .before in
-    let at = power .before .before in
-    let p = start at .pre in
-    let G = at .loop .inv in
+    let power = c .before .before .before in
+    let end = power .before .before in
+    let g = going (end .before) in
+    let t = turn (end .before) in
+    let p = start t .pre in
     let e = power .pow4 .ensures .is in
-    (tables at .before .ones-table .ensures, p .0, G .stands, omega (arith, e), rw e (going-rest G (power .before .loop-test .left) (p .0) (p .2)))
+    (tables t .before .ones-table .ensures, p .1, g .stands, omega (arith, e), rw e (going-rest g (p .1) (p .3) (omega (arith, end .if1 .taken))))
 
 returns : tie.Need-returns Inv-loop μ-loop
 returns c =
     let filled = c .before .before .before .before .before .before in
-    let power = filled .before .before .before .before .before in
-    going-last (power .before .before .loop .inv) (power .before .loop-test .left) (rw (power .pow4 .ensures .is) at (filled .fill .ensures))
+    let power = filled .before .before .before .before in
+    let end = power .before .before in
+    going-last (going (end .before)) (omega (arith, end .if1 .taken)) (rw (power .pow4 .ensures .is) at (filled .fill .ensures))
 
 -- the slices stay as long as they were
 same-length : tie.Need-same-length Inv-loop μ-loop
@@ -89,6 +88,35 @@ same-length-2 c = makes-lengths (returns c) .1
 same-length-3 : tie.Need-same-length-3 Inv-loop μ-loop
 same-length-3 c = makes-lengths (returns c) .2
 
+-- one is left that does not
+left : (c : tie.Else1 Inv-loop μ-loop) → kept (c .before) .keep-along .result .next < length (start (turn (c .before)) .args .keys .now)
+left c = omega (arith, c .if1 .left, kept (c .before) .keep-along .ensures .within)
+
+take-requires : tie.Need-take-requires Inv-loop μ-loop
+take-requires c κs =
+    let e = c .before .before .before .before in
+    let g = going (e .before) in
+    let t = turn (e .before) in
+    let p = start t .pre in
+    let h = left e in
+    ((tables t .before .ones-table .ensures, p .0, p .1, h, omega (arith, h, p .2), omega (arith, h, p .3)), (g .stands, going-counted g (p .1) (p .3) h))
+
+add-n : tie.Need-add-n Inv-loop μ-loop
+add-n c =
+    let e = c .before .before .before .before .before .before .before .before .before .before .before in
+    omega (arith, left e, start (turn (e .before)) .pre .3)
+
+loop-less : tie.Need-loop-less Inv-loop μ-loop
+loop-less c =
+    let e = c .before .before .before .before .before .before .before .before .before .before .before in
+    omega (arith, left e, kept (e .before) .keep-along .ensures .onward)
+
+loop-again : tie.Need-loop-again Inv-loop μ-loop
+loop-again c =
+    let taken = c .before .before .before .before .before .before in
+    let e = taken .before .before .before .before .before in
+    going-next (going (e .before)) (left e) (taken .take .ensures .0) (taken .take .ensures .1)
+
 pub pass-spec : {M : Type 1} → statement M
 pass-spec =
     tie.close
@@ -99,13 +127,14 @@ pass-spec =
     digits-table-requires
     first-spot-requires
     loop-holds
-    take-requires
-    add-n
-    loop-less
-    loop-again
+    keep-along-requires
     pow4-requires
     fill-requires
     same-length
     same-length-2
     same-length-3
-    returns)
+    returns
+    take-requires
+    add-n
+    loop-less
+    loop-again)
