@@ -210,7 +210,7 @@ const STARTS: [u8; 25] = [
     15,
 ];
 
-fn starts_table() -> [u8; 25]
+pub fn starts_table() -> [u8; 25]
     ensures { λ r. ⌜ r ≡ startsTable ⌝ }
 {
     STARTS
@@ -233,8 +233,9 @@ fn zeros_of(m: u32, key: u32) -> u32
     zeros
 }
 
-// Where the span of the block of a key starts, by its digits: two at a time from the small end, and always twelve.
-fn start_of(starts: &[u8; 25], key: u32) -> u32
+// Where the span of the block of a key starts, by its digits: two at a time from the small end, and always twelve. Any number has
+// such a start.
+pub fn start_of(starts: &[u8; 25], key: u32) -> u32
     requires { ⌜ now starts ≡ startsTable ⌝ }
     ensures { λ r. ⌜ r ≡ startUp 12 key ⌝ }
 {

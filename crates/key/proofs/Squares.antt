@@ -83,7 +83,7 @@ square-inside {m} {key} {i} {r} {c} b p =
 
 -- ---- read from the small end, digit by digit
 
-no-names : {m key i s : ℕ} → formOf m key ≡ Malformed → Names m key i s → ⊥
+pub no-names : {m key i s : ℕ} → formOf m key ≡ Malformed → Names m key i s → ⊥
 no-names e n = let d = sym e ∙ n .is in let z : _≡_ {A = ℕ} 0 1 = cc in omega arith
 
 -- of the picture of one pixel

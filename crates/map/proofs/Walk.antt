@@ -14,8 +14,8 @@ use Rattle.key.specs.Blocks.{Names}
 use Rattle.key.proofs.Laws.{block-lies}
 use Rattle.map.specs.declared.Taken.the-variants.{Behind, Refused}
 use Rattle.map.specs.Check.{late, refusalsFrom}
-use Rattle.map.specs.Walk.{Takes, behind, refused, CheckedTo}
-use Rattle.map.proofs.Steps.{step-next}
+use Rattle.map.specs.Walk.{Takes, behind, refused, CheckedTo, Row, none, more}
+use Rattle.map.proofs.Steps.{late-not, step-next}
 
 -- what a record was taken for
 module _ {whole : Bool} {m at key place : ℕ} where
@@ -47,3 +47,8 @@ module _ {whole : Bool} {m : ℕ} {keys : List ℕ} {at n : ℕ} (w : CheckedTo 
 
   pub walked-end : n ≡ length keys → verdict (refusalsFrom whole m 0 0 keys) ≡ verdict (refusalsFrom whole m n at [])
   walked-end e = from (drop-of-length-le keys {i = n} (omega arith))
+
+-- so it says of all records what it says of those behind a row of them
+pub walked-row : {whole : Bool} {m : ℕ} {keys : List ℕ} {n at next end : ℕ} → CheckedTo whole m keys at n → Row m keys n at next end → CheckedTo whole m keys end next
+walked-row w none = w
+walked-row {whole} w (more {end = end} R h b e) = walked-next (walked-row w R) h b (omega arith) (late-not whole {at = end} {s = end} (omega arith)) e

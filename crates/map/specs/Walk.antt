@@ -3,7 +3,7 @@
 use mathlib.Core.Path.{_≡_}
 use mathlib.Core.Bool.{Bool, false}
 use mathlib.Core.List.{List, _∷_}
-use Prim.Native.Nat.{ℕ, _^_, _≤_, _<_}
+use Prim.Native.Nat.{ℕ, _+_, _^_, _≤_, _<_}
 use lib.ListN.{length, getD, drop}
 use Rattle.answers.specs.declared.Verdict.the-variants as refusal
 use Rattle.answers.specs.Refusals.{verdict}
@@ -26,10 +26,15 @@ pub record CheckedTo (whole : Bool) (m : ℕ) (keys : List ℕ) (at n : ℕ) : T
   pub most : at ≤ 4 ^ m
   pub same : verdict (refusalsFrom whole m 0 0 keys) ≡ verdict (refusalsFrom whole m n at (drop n keys))
 
+-- the records from n up to `next` follow one another, from place `at` up to `end`
+pub data Row (m : ℕ) (keys : List ℕ) (n at : ℕ) : ℕ → ℕ → Type 0 where
+  none : Row m keys n at n at
+  more : {next end i to : ℕ} → Row m keys n at next end → next < length keys → Names m (getD keys next 0) i end → to ≡ end + 4 ^ i → Row m keys n at (next + 1) to
+
 -- from record n and place `at` the walk goes on, and ends with the records or before one that does not start where it stands
 pub record GoesAlong (m : ℕ) (keys : List ℕ) (at n : ℕ) (g : Gone) : Type 0 where
   pub onward : n ≤ g .next
   pub within : g .next ≤ length keys
   pub stands : Stands m (g .spot)
-  pub walked : (whole : Bool) → CheckedTo whole m keys at n → CheckedTo whole m keys (g .spot .place) (g .next)
+  pub row : Row m keys n at (g .next) (g .spot .place)
   pub ends : g .next < length keys → ToldFit m (g .spot .place) (getD keys (g .next) 0) Other

@@ -7,3 +7,5 @@ mod Mended
 mod Going
 mod Along
 mod Answered
+mod Result
+mod Each

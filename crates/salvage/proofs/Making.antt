@@ -14,11 +14,11 @@ use Rattle.salvage.specs.Making.{Sheet, sheet, Makes}
 
 -- ---- pairs
 
-firsts-append : (a b : List (ℕ × ℕ)) → firsts (a ++ b) ≡ firsts a ++ firsts b
+pub firsts-append : (a b : List (ℕ × ℕ)) → firsts (a ++ b) ≡ firsts a ++ firsts b
 unfolding firsts
 firsts-append a b = map-append (λ (p : ℕ × ℕ). p .0) a b
 
-seconds-append : (a b : List (ℕ × ℕ)) → seconds (a ++ b) ≡ seconds a ++ seconds b
+pub seconds-append : (a b : List (ℕ × ℕ)) → seconds (a ++ b) ≡ seconds a ++ seconds b
 unfolding seconds
 seconds-append a b = map-append (λ (p : ℕ × ℕ). p .1) a b
 

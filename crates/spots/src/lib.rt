@@ -117,6 +117,21 @@ pub fn advance(ones: &[u32; 13], m: u32, key: u32, i: u32, start: u32) -> Spot
     }
 }
 
+// The key of the pixel at a place: each of its digits is one more than that of the place in base 4.
+pub fn pixel_of(m: u32, place: u32) -> u32
+    requires { ⌜ (m ≤ 12) × (place < 4 ^ m) ⌝ }
+    ensures { λ r. ⌜ Names m r 0 place ⌝ }
+{
+    let mut key: u32 = 0;
+    let mut k: u32 = 0;
+    while k < m {
+        let digit = (place / blocks::pow4(m - (k + 1))) % 4;
+        key = 5 * key + digit + 1;
+        k += 1;
+    }
+    key
+}
+
 // Where the block of a key begins, of exponent i and with a span from `start` on: the key of the largest block there is so many digits 1 below that of the block's first pixel.
 pub fn begin(ones: &[u32; 13], m: u32, key: u32, i: u32, start: u32) -> Spot
     requires { ⌜ (now ones ≡ onesTable) × (m ≤ 12) × Names m key i start ⌝ }

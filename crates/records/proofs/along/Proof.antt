@@ -1,6 +1,5 @@
 -- `records::along` meets its contract. The invariant is `GoesAlong`, but for its end, and the measure the number of records left.
 -- Assumes nothing.
-use mathlib.Core.Bool.{Bool}
 use Prim.Native.Nat.{_-_, _≤_}
 use native.Mathlib.Omega.{arith}
 use lib.ListN.{length, getD}
@@ -8,20 +7,19 @@ use borrow.Author.Needs.{needs}
 use Rattle.key.specs.Blocks.{Names}
 use Rattle.key.specs.Along.{Stands}
 use Rattle.key.proofs.Laws.{fits-block}
-use Rattle.map.specs.Walk.{CheckedTo}
-use Rattle.map.proofs.Loops.{late-not, walked-next}
+use Rattle.map.specs.Walk.{Row, none, more}
 use Rattle.records.proofs.along.Statement.{statement}
 use Rattle.records.proofs.along.Tie as tie
 
 abbrev Inv-loop : tie.InvT-loop
 Inv-loop ones digits m keys n spot₀ next₀ spot next =
-    (next₀ ≤ next) × (next ≤ length keys) × Stands m spot × ((whole : Bool) → CheckedTo whole m keys (spot₀ .place) next₀ → CheckedTo whole m keys (spot .place) next)
+    (next₀ ≤ next) × (next ≤ length keys) × Stands m spot × Row m keys next₀ (spot₀ .place) next (spot .place)
 
 abbrev μ-loop : tie.MeasureT-loop
 μ-loop ones digits m keys n spot₀ next₀ spot next = length keys - next
 
 loop-holds : tie.Need-loop-holds Inv-loop μ-loop
-loop-holds c = (omega arith, c .before .pre .4, c .before .pre .3, λ whole w. w)
+loop-holds c = (omega arith, c .before .pre .4, c .before .pre .3, none)
 
 mul-key : tie.Need-mul-key Inv-loop μ-loop
 mul-key c = search needs
@@ -41,7 +39,7 @@ enum-told c = search needs
 returns : tie.Need-returns Inv-loop μ-loop
 returns c =
     let v = c .before .before .before .before .before .loop .inv in
-    record { onward = v .0; within = v .1; stands = v .2; walked = v .3; ends = λ l. rw (c .enum-told .given .1) at (c .before .before .exponent-at .ensures) }
+    record { onward = v .0; within = v .1; stands = v .2; row = v .3; ends = λ l. rw (c .enum-told .given .1) at (c .before .before .exponent-at .ensures) }
 
 -- the arm of a block: what the record is
 module _ (c : tie.After-fit Inv-loop μ-loop) where
@@ -68,12 +66,12 @@ loop-again c =
     let fit = c .before .before in
     let v = turn fit .loop .inv in
     let l = fit .before .before .before .before .loop-test .taken in
-    (omega (arith, v .0), omega (arith, l), c .advance .ensures .1, λ whole w. walked-next (v .3 whole w) l (named fit) (omega arith) (late-not whole (omega arith)) (c .advance .ensures .0))
+    (omega (arith, v .0), omega (arith, l), c .advance .ensures .1, more (v .3) l (named fit) (c .advance .ensures .0))
 
 returns-2 : tie.Need-returns-2 Inv-loop μ-loop
 returns-2 c =
     let v = c .before .loop .inv in
-    record { onward = v .0; within = v .1; stands = v .2; walked = v .3; ends = λ l. absurd (omega (arith, c .loop-test .left)) }
+    record { onward = v .0; within = v .1; stands = v .2; row = v .3; ends = λ l. absurd (omega (arith, c .loop-test .left)) }
 
 pub along-spec : {M : Type 1} → statement M
 along-spec =

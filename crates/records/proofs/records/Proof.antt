@@ -10,7 +10,7 @@ use Rattle.key.specs.Blocks.{Names}
 use Rattle.key.specs.Along.{onesTable, Stands}
 use Rattle.map.specs.declared.Gone.{Gone}
 use Rattle.map.specs.Walk.{CheckedTo}
-use Rattle.map.proofs.Loops.{late-never, walked-first, walked-here, walked-next, walked-end, taken-behind, taken-refused}
+use Rattle.map.proofs.Loops.{late-never, walked-first, walked-here, walked-next, walked-end, walked-row, taken-behind, taken-refused}
 use Rattle.records.proofs.records.Statement.{statement}
 use Rattle.records.proofs.records.Tie as tie
 
@@ -54,7 +54,7 @@ module _ (c : tie.After-along Inv-loop μ-loop) where
   origin = start turn
 
   gone : CheckedTo (origin .args .whole) (origin .args .m) (origin .args .keys .now) (c .along .result .spot .place) (c .along .result .next)
-  gone = c .along .ensures .walked _ (turn .loop .inv .0)
+  gone = walked-row (turn .loop .inv .0) (c .along .ensures .row)
 
 cast-ended : tie.Need-cast-ended Inv-loop μ-loop
 cast-ended c = search needs
