@@ -47,6 +47,12 @@ unfolding listed
 listed-sets n [] out l = refl
 listed-sets n (x ∷ xs) out l = rw (put-there n x out (omega arith)) (listed-sets (suc n) xs (set out n x) (omega (arith, length-set out n x)))
 
+-- with no room for the first, nothing is
+listed-late : (n : ℕ) (xs out : List ℕ) → length out ≤ n → listed n xs out ≡ out
+unfolding listed
+listed-late n [] out l = refl
+listed-late n (x ∷ xs) out l = rw (put-late n x out l) (listed-late (suc n) xs out (omega arith))
+
 -- ---- as a function says that it has listed them
 
 pub listed-none : (n : ℕ) (out : List ℕ) → Listed n [] out n out
@@ -62,6 +68,9 @@ listed-more {n} {xs} {xs′} {out} a b = record {
   count = b .count ∙ simp length-append (omega (arith, a .count));
   cells = b .cells ∙ rw (a .count, a .cells) (sym (listed-append n xs xs′ out));
 }
+
+pub listed-beyond : (n : ℕ) (xs out : List ℕ) → length out ≤ n → Listed n xs out (n + length xs) out
+listed-beyond n xs out l = record { count = refl; cells = sym (listed-late n xs out l) }
 
 module _ {n : ℕ} {xs out out′ : List ℕ} {k : ℕ} (L : Listed n xs out k out′) where
   pub listed-same : length out′ ≡ length out

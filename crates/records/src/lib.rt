@@ -35,7 +35,14 @@ fn misfit(whole: bool, m: u32, at: u32, key: u32, place: u32) -> Taken
 }
 
 // Goes along from record n on as long as each record starts where the last one's span ended. Such a record is told by its key and the place reached, and none is decoded.
-pub fn along(ones: &[u32; 13], digits: &[u8; 16], m: u32, keys: &[u32], from: Spot, n: usize) -> Gone
+pub fn along(
+    ones: &[u32; 13],
+    digits: &[u8; 16],
+    m: u32,
+    keys: &[u32],
+    from: Spot,
+    n: usize,
+) -> Gone
     requires { ⌜ (now ones ≡ onesTable) × TellsOnes (now digits) × (m ≤ 12) × Stands m from × (n ≤ length (now keys)) ⌝ }
     ensures { λ r. ⌜ GoesAlong m (now (keys .entry)) (from .place) n r ⌝ }
 {

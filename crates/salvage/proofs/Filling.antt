@@ -26,12 +26,13 @@ fills-none m l = ap (map filled) (stretch-none m l)
 -- of the places from a up to b, those before the walk's are filled
 pub record Filling (m a b : ℕ) (sheet₀ now : Sheet) (s : Spot) : Type 0 where
   pub stands : Stands m s
+  pub within : s .place ≤ b
   pub past : List Mend
   pub all : fills m a b ≡ past ++ fills m (s .place) b
   pub makes : MakesAny past sheet₀ now
 
-pub filling-first : {m b : ℕ} {s : Spot} (a : Sheet) → Stands m s → Filling m (s .place) b a a s
-filling-first a S = record { stands = S; past = []; all = refl; makes = λ keys classes. makes-none keys classes a }
+pub filling-first : {m b : ℕ} {s : Spot} (a : Sheet) → Stands m s → s .place ≤ b → Filling m (s .place) b a a s
+filling-first a S l = record { stands = S; within = l; past = []; all = refl; makes = λ keys classes. makes-none keys classes a }
 
 module _ {m a b : ℕ} {sheet₀ now : Sheet} {s : Spot} (F : Filling m a b sheet₀ now s) where
   module _ {key : ℕ} {t : Spot} (L : Lays m (s .place) b key t) where
@@ -49,11 +50,12 @@ module _ {m a b : ℕ} {sheet₀ now : Sheet} {s : Spot} (F : Filling m a b shee
         → L′ ≡ put (2 * now .entries + 1) 5 (put (2 * now .entries) key (now .log)) → Filling m a b sheet₀ (sheet (now .records + 1) (now .entries + 1) K C L′) t
     filling-next {K} {C} {L′} k c l = record {
       stands = L .stands;
+      within = L .within;
       past = F .past ++ (filled key ∷ []);
       all = split ∙ sym (append-assoc (F .past) (filled key ∷ []) (fills m (t .place) b));
       makes = λ keys classes. rw (k, c, l) (makes-more keys classes (F .makes keys classes)
           (makes-filled keys classes (now .records) (now .entries) (now .keys) (now .classes) (now .log) key));
     }
 
-  pub filling-last : b ≤ s .place → MakesAny (fills m a b) sheet₀ now
-  filling-last l keys classes = rw (F .all, fills-none m l, append-nil (F .past)) (F .makes keys classes)
+  pub filling-last : b ≤ s .place → ((s .place ≡ b) × Stands m s) × MakesAny (fills m a b) sheet₀ now
+  filling-last l = ((omega (arith, F .within), F .stands), λ keys classes. rw (F .all, fills-none m l, append-nil (F .past)) (F .makes keys classes))

@@ -2,10 +2,10 @@ mod Making
 mod Table
 mod Steps
 mod Filling
-mod Taking
 mod Mended
 mod Going
+mod Taking
 mod Along
 mod Answered
 mod Result
-mod Each
+mod Forms

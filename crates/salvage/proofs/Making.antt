@@ -26,11 +26,11 @@ cells-append : (a b : List (ℕ × ℕ)) → cells (a ++ b) ≡ cells a ++ cells
 unfolding cells
 cells-append a b = flat-append (λ (p : ℕ × ℕ). p .0 ∷ p .1 ∷ []) a b
 
-firsts-length : (ps : List (ℕ × ℕ)) → length (firsts ps) ≡ length ps
+pub firsts-length : (ps : List (ℕ × ℕ)) → length (firsts ps) ≡ length ps
 unfolding firsts
 firsts-length ps = length-map ps (λ (p : ℕ × ℕ). p .0)
 
-seconds-length : (ps : List (ℕ × ℕ)) → length (seconds ps) ≡ length ps
+pub seconds-length : (ps : List (ℕ × ℕ)) → length (seconds ps) ≡ length ps
 unfolding seconds
 seconds-length ps = length-map ps (λ (p : ℕ × ℕ). p .1)
 

@@ -81,8 +81,11 @@ module _ (m : ℕ) (keys classes : List ℕ) where
   keeps-keys : (a b n : ℕ) (es : List Mend) → firsts (flatMap (brings keys classes) (fills m a b ++ kept n ∷ es)) ≡ stretch m a b ++ getD keys n 0 ∷ firsts (flatMap (brings keys classes) es)
   unfolding brings firsts
   keeps-keys a b n es =
-      rw (keeps-each (brings keys classes) m a b n es, firsts-append (flatMap (brings keys classes) (fills m a b)) (brings keys classes (kept n) ++ flatMap (brings keys classes) es),
-      fills-keys a b)
+      rw (
+        keeps-each (brings keys classes) m a b n es,
+        firsts-append (flatMap (brings keys classes) (fills m a b)) (brings keys classes (kept n) ++ flatMap (brings keys classes) es),
+        fills-keys a b,
+      )
 
   pub result-follows : {n at : ℕ} {es : List Mend} → at ≤ 4 ^ m → Mends m keys n at es → Follow m at (firsts (flatMap (brings keys classes) es))
   unfolding brings flatMap

@@ -1,46 +1,70 @@
--- Taking a record: it is kept behind a gap that is filled, or it is dropped.
+-- Record n is dropped, or the gap before it is filled: so the loop goes on.
 -- Assumes nothing.
-use mathlib.Core.Path.{_≡_, refl, ap}
-use mathlib.Core.List.{List, [], _∷_, _++_}
-use Prim.Native.Nat.{ℕ, _+_, _*_, _≤_, _<_}
+use mathlib.Core.Path.{_≡_, ap, sym, _∙_}
+use mathlib.Core.List.{List, [], _∷_, _++_, append-assoc}
+use Prim.Native.Nat.{ℕ, suc, _+_, _*_, _≤_, _<_}
+use native.Mathlib.Decide.{decLt}
 use native.Mathlib.Omega.{arith}
-use lib.ListN.{length, getD, length-append}
+use lib.ListN.{length, getD, drop, length-append}
 use Rattle.answers.specs.Cells.{put}
+use Rattle.key.specs.declared.Spot.{Spot}
 use Rattle.key.specs.Blocks.{Names}
-use Rattle.salvage.specs.Salvage.{Mend, kept, dropped, fills, mendsOf}
-use Rattle.salvage.specs.Making.{Sheet, sheet, Makes, MakesAny, Countable}
-use Rattle.salvage.proofs.Making.{makes-none, makes-more, makes-kept, makes-dropped, makes-few}
+use Rattle.key.specs.declared.Fit.the-variants.{Other}
+use Rattle.key.specs.Along.{Stands, ToldFit}
+use Rattle.key.proofs.Laws.{fits-other}
+use Rattle.salvage.specs.Salvage.{Mend, kept, dropped, fills, mendsOf, reached, mendsFrom}
+use Rattle.salvage.specs.Making.{Sheet, sheet, MakesAny, Countable, Going}
+use Rattle.salvage.proofs.Making.{makes-more, makes-dropped}
 use Rattle.salvage.proofs.Filling.{fills-none}
 use Rattle.salvage.proofs.Steps.{step-kept}
+use Rattle.salvage.proofs.Mended.{mends-next}
+use Rattle.salvage.proofs.Going.{going-next}
 
--- where there is no gap, nothing is filled
-pub take-here : (m at : ℕ) (a : Sheet) → MakesAny (fills m at at) a a
-take-here m at a keys classes = rw (fills-none m {a = at} {b = at} (omega arith)) (makes-none keys classes a)
+-- ---- dropped
 
--- record n is kept, behind a gap: with what fills it all can be counted
-module _ (m n at k : ℕ) {i s : ℕ} (N : Names m k i s) (l : at ≤ s) {records entries : ℕ} (C : Countable records entries (mendsOf m n at k)) where
-  many : length (mendsOf m n at k) ≡ length (fills m at s) + 1
-  many = simp length-append at (ap length (step-kept m n at k N l .0))
-
-  pub take-fills : Countable records entries (fills m at s)
-  take-fills = record { records-few = omega (arith, C, many); entries-few = omega (arith, C, many) }
-
-  pub take-room : {K P L : List ℕ} {b : Sheet} → MakesAny (fills m at s) (sheet records entries K P L) b → b .records ≤ 2147483647
-  take-room M = omega (arith, C .records-few, many, makes-few (M [] []) .0)
-
-pub take-kept : (m n at : ℕ) (keys classes : List ℕ) {i s : ℕ} → Names m (getD keys n 0) i s → at ≤ s → {a b : Sheet} {r e : ℕ} {K P : List ℕ} → MakesAny (fills m at s) a b
-    → (r ≡ b .records + 1) × (e ≡ b .entries) → (K ≡ put (b .records) (getD keys n 0) (b .keys)) × (P ≡ put (b .records) (getD classes n 0) (b .classes))
-    → Makes keys classes (mendsOf m n at (getD keys n 0)) a (sheet r e K P (b .log))
-take-kept m n at keys classes N l {b = b} M c w =
-    rw (step-kept m n at (getD keys n 0) N l .0, c .0, c .1, w .0, w .1)
-    (makes-more keys classes (M keys classes) (makes-kept keys classes (b .records) (b .entries) (b .keys) (b .classes) (b .log) n))
-
--- record n is dropped: one entry more can be counted
+-- one entry more can be counted
 pub take-entry : {n number records entries : ℕ} {es : List Mend} → es ≡ dropped n number ∷ [] → Countable records entries es → entries < 2147483647
 take-entry e C = omega (arith, C .entries-few, ap length e)
 
-pub take-dropped : (n number : ℕ) (keys classes : List ℕ) {es : List Mend} → es ≡ dropped n number ∷ [] → (a : Sheet) {r e : ℕ} {L : List ℕ}
-    → (r ≡ a .records) × (e ≡ a .entries + 1) → L ≡ put (2 * a .entries + 1) number (put (2 * a .entries) n (a .log))
-    → Makes keys classes es a (sheet r e (a .keys) (a .classes) L)
-take-dropped n number keys classes s a c e =
-    rw (s, c .0, c .1, e) (makes-dropped keys classes (a .records) (a .entries) (a .keys) (a .classes) (a .log) n number)
+pub going-dropped : {m n number : ℕ} {keys classes : List ℕ} {a b : Sheet} {s t : Spot} {r e next : ℕ} {L : List ℕ} → Going m keys classes a b s n → n < length keys
+    → (mendsOf m n (s .place) (getD keys n 0) ≡ dropped n number ∷ []) × (reached m (s .place) (getD keys n 0) ≡ s .place)
+    → (t ≡ s) × (r ≡ b .records) × (e ≡ b .entries + 1) × (next ≡ n + 1) → L ≡ put (2 * b .entries + 1) number (put (2 * b .entries) n (b .log))
+    → Going m keys classes a (sheet r e (b .keys) (b .classes) L) t next
+going-dropped {n = n} {number = number} {keys = keys} {classes = classes} {b = b} {s = s} G h d c l =
+    rw (c .0, c .1, c .2, c .3, l)
+    (going-next G h {t = s} (sym (d .1), G .stands) (rw (d .0) (makes-dropped keys classes (b .records) (b .entries) (b .keys) (b .classes) (b .log) n number)))
+
+-- ---- behind a gap that is filled
+
+-- a record that does not start where the walk stands, and not before it, starts later
+pub other-later : {m at k i s : ℕ} → ToldFit m at k Other → Names m k i s → at ≤ s → at < s
+other-later {m} {at} {k} {i} {s} t N l = go (decLt at s)
+  where
+    go : Dec (at < s) → at < s
+    go (yes h) = h
+    go (no h) = let e : s ≡ at = omega arith in absurd (fits-other t i (rw e at N))
+
+-- with what fills it all can be counted
+pub take-fills : (m n at k : ℕ) {i s : ℕ} → Names m k i s → at ≤ s → {records entries : ℕ} → Countable records entries (mendsOf m n at k) → Countable records entries (fills m at s)
+take-fills m n at k {s = s} N l C =
+    let many : length (mendsOf m n at k) ≡ length (fills m at s) + 1 = simp length-append at (ap length (step-kept m n at k N l .0)) in
+    record { records-few = omega (arith, C, many); entries-few = omega (arith, C, many) }
+
+-- what is done from a place on is done when the gap is filled, and then from where the record starts on
+gap-first : (m n at : ℕ) (keys : List ℕ) {i s : ℕ} → n < length keys → Names m (getD keys n 0) i s → at ≤ s
+    → mendsFrom m n at (drop n keys) ≡ fills m at s ++ mendsFrom m n s (drop n keys)
+gap-first m n at keys {s = s} h N l =
+    let here = step-kept m n at (getD keys n 0) N l in
+    let there = step-kept m n s (getD keys n 0) N (omega arith) in
+    mends-next m n at keys h
+    ∙ rw (here .0, here .1, mends-next m n s keys h, there .0, there .1, fills-none m {a = s} {b = s} (omega arith)) (append-assoc (fills m at s) (kept n ∷ []) _)
+
+pub going-filled : {m n : ℕ} {keys classes : List ℕ} {a b c : Sheet} {s t : Spot} {i to : ℕ} → Going m keys classes a b s n → n < length keys → Names m (getD keys n 0) i to
+    → s .place ≤ to → (t .place ≡ to) × Stands m t → MakesAny (fills m (s .place) to) b c → Going m keys classes a c t n
+going-filled {m} {n} {keys} {classes} {s = s} {t = t} {to = to} G h N l r M = record {
+  stands = r .1;
+  within = G .within;
+  past = G .past ++ fills m (s .place) to;
+  all = G .all ∙ rw (gap-first m n (s .place) keys h N l, r .0) (sym (append-assoc (G .past) (fills m (s .place) to) _));
+  makes = makes-more keys classes (G .makes) (M keys classes);
+}

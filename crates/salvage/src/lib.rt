@@ -4,17 +4,16 @@ use key::Fit;
 use key::Form;
 use key::Spot;
 ghost use mathlib.Core.Path.{_≡_};
-ghost use Prim.Native.Nat.{_+_, _*_, _^_, _≤_, _<_};
+ghost use Prim.Native.Nat.{_+_, _-_, _*_, _^_, _≤_, _<_};
 ghost use lib.ListN.{length, getD};
 ghost use Rattle.answers.specs.Refusals.{verdict};
 ghost use Rattle.answers.specs.Cells.{put};
 ghost use Rattle.answers.specs.After.{after};
-ghost use Rattle.key.specs.Spread.{spreads};
+ghost use Rattle.key.specs.declared.Fit.the-variants.{Other};
 ghost use Rattle.key.specs.Form.{formOf};
-ghost use Rattle.key.specs.Blocks.{Names};
-ghost use Rattle.key.specs.Along.{onesTable, TellsOnes, Stands};
-ghost use Rattle.salvage.specs.Salvage.{fills, mendsOf, reached, mends, resultRefusals, salvageOf};
-ghost use Rattle.salvage.specs.Making.{sheet, Makes, MakesAny, Countable, KeepsAlong};
+ghost use Rattle.key.specs.Along.{onesTable, TellsOnes, Stands, ToldFit};
+ghost use Rattle.salvage.specs.Salvage.{fills, mendsOf, mends, resultRefusals, salvageOf};
+ghost use Rattle.salvage.specs.Making.{sheet, Makes, MakesAny, Countable, KeepsRun, KeepsAlong, MendsNext};
 
 // What is answered: how many records the mended map has and how many entries the log, or a refusal.
 pub enum Salvaged {
@@ -29,8 +28,8 @@ pub struct Mending {
     pub entries: u32,
 }
 
-// How far it has come along records that follow one another, and the next record.
-pub struct Kept {
+// How far it has come, and the next record.
+pub struct Progress {
     pub now: Mending,
     pub next: usize,
 }
@@ -57,7 +56,7 @@ fn put_entry(log: &mut [u32], n: u32, what: u32, number: u32)
     answers::put(log, at + 1, number);
 }
 
-// Fills the places from where the walk stands up to `end`.
+// Fills the places from where the walk stands up to `end`, where it stands then.
 fn fill(
     ones: &[u32; 13],
     m: u32,
@@ -67,7 +66,8 @@ fn fill(
     painted: &mut [u8],
     log: &mut [u32],
 ) -> Mending
-    requires { ⌜ (now ones ≡ onesTable) × (m ≤ 12) × Stands m (from .spot) × (end ≤ 4 ^ m) × Countable (from .records) (from .entries) (fills m (from .spot .place) end) ⌝ }
+    requires { ⌜ (now ones ≡ onesTable) × (m ≤ 12) × Stands m (from .spot) × (from .spot .place ≤ end) × (end ≤ 4 ^ m) × Countable (from .records) (from .entries) (fills m (from .spot .place) end) ⌝ }
+    ensures { λ r. ⌜ (r .spot .place ≡ end) × Stands m (r .spot) ⌝ }
     ensures { λ r. ⌜ MakesAny (fills m (from .spot .place) end) (sheet (from .records) (from .entries) (now (mended .entry)) (now (painted .entry)) (now (log .entry))) (sheet (r .records) (r .entries) (now (mended .exit)) (now (painted .exit)) (now (log .exit))) ⌝ }
 {
     let mut spot = from.spot;
@@ -88,36 +88,32 @@ fn fill(
     }
 }
 
-// Record n is kept: the block of its key, of this exponent and start.
+// Keeps the records from n up to `end`, behind so many others. Where there is no room for the first, there is none for any.
 fn keep(
-    ones: &[u32; 13],
-    m: u32,
     keys: &[u32],
     classes: &[u8],
     n: usize,
-    exponent: u32,
-    start: u32,
-    from: Mending,
+    end: usize,
+    records: u32,
     mended: &mut [u32],
     painted: &mut [u8],
-) -> Mending
-    requires { ⌜ (now ones ≡ onesTable) × (m ≤ 12) × (n < length (now keys)) × (n < length (now classes)) × Names m (getD (now keys) n 0) exponent start × (from .records ≤ 2147483647) ⌝ }
-    ensures { λ r. ⌜ (r .spot .place ≡ start + 4 ^ exponent) × Stands m (r .spot) ⌝ }
-    ensures { λ r. ⌜ (r .records ≡ from .records + 1) × (r .entries ≡ from .entries) ⌝ }
-    ensures { λ r. ⌜ now (mended .exit) ≡ put (from .records) (getD (now (keys .entry)) n 0) (now (mended .entry)) ⌝ }
-    ensures { λ r. ⌜ now (painted .exit) ≡ put (from .records) (getD (now (classes .entry)) n 0) (now (painted .entry)) ⌝ }
+)
+    requires { ⌜ (n ≤ end) × (end ≤ length (now keys)) × (length (now keys) ≡ length (now classes)) × (records + (end - n) ≤ 2147483647) ⌝ }
+    ensures { λ r. ⌜ KeepsRun (now (keys .entry)) (now (classes .entry)) n end records (now (mended .entry)) (now (painted .entry)) (now (mended .exit)) (now (painted .exit)) ⌝ }
 {
-    let key = keys[n];
-    put_record(mended, painted, from.records, key, classes[n]);
-    let spot = spots::advance(ones, m, key, exponent, start);
-    Mending {
-        spot,
-        records: from.records + 1,
-        entries: from.entries,
+    if (mended.len() <= (records as usize)) & (painted.len() <= (records as usize)) {
+        return;
+    }
+    let mut i = n;
+    let mut k = records;
+    while i < end {
+        put_record(mended, painted, k, keys[i], classes[i]);
+        i += 1;
+        k += 1;
     }
 }
 
-// Keeps the records from n on as long as each starts where the last one's span ended. Such a record is told by its key and the place reached, and none is decoded.
+// Keeps the records from n on as long as each starts where the last one's span ended. None of them is decoded.
 fn keep_along(
     ones: &[u32; 13],
     digits: &[u8; 16],
@@ -128,109 +124,89 @@ fn keep_along(
     from: Mending,
     mended: &mut [u32],
     painted: &mut [u8],
-) -> Kept
-    requires { ⌜ (now ones ≡ onesTable) × TellsOnes (now digits) × (m ≤ 12) × (length (now keys) ≡ length (now classes)) × (n ≤ length (now keys)) × Stands m (from .spot) × (from .records + length (now keys) ≤ 2147483647) ⌝ }
+) -> Progress
+    requires { ⌜ (now ones ≡ onesTable) × TellsOnes (now digits) × (m ≤ 12) × (length (now keys) ≡ length (now classes)) × (length (now keys) ≤ 65536) × (n ≤ length (now keys)) × Stands m (from .spot) × (from .records + length (now keys) ≤ 2147483647) ⌝ }
     ensures { λ r. ⌜ KeepsAlong m (now (keys .entry)) (now (classes .entry)) n from (now (mended .entry)) (now (painted .entry)) r (now (mended .exit)) (now (painted .exit)) ⌝ }
 {
-    let mut now = from;
-    let mut next = n;
-    while next < keys.len() {
-        let spot = now.spot;
-        let fit = spots::exponent_at(ones, digits, m, spot, keys[next]);
-        let Fit::Block { exponent } = fit else {
-            return Kept { now, next };
-        };
-        now = keep(
-            ones,
-            m,
-            keys,
-            classes,
-            next,
-            exponent,
-            spot.place,
-            now,
-            mended,
-            painted,
-        );
-        next += 1;
-    }
-    Kept { now, next }
+    let spot = from.spot;
+    let gone = records::along(ones, digits, m, keys, spot, n);
+    let next = gone.next;
+    let spot = gone.spot;
+    keep(keys, classes, n, next, from.records, mended, painted);
+    let now = Mending {
+        spot,
+        records: from.records + (next - n) as u32,
+        entries: from.entries,
+    };
+    Progress { now, next }
 }
 
 // Record n is dropped, by 3 or by 4.
-fn leave_out(n: u32, number: u32, from: Mending, log: &mut [u32]) -> Mending
-    requires { ⌜ from .entries < 2147483647 ⌝ }
-    ensures { λ r. ⌜ (r .spot ≡ from .spot) × (r .records ≡ from .records) × (r .entries ≡ from .entries + 1) ⌝ }
+fn leave_out(n: usize, number: u32, from: Mending, log: &mut [u32]) -> Progress
+    requires { ⌜ (n ≤ 65536) × (from .entries < 2147483647) ⌝ }
+    ensures { λ r. ⌜ (r .now .spot ≡ from .spot) × (r .now .records ≡ from .records) × (r .now .entries ≡ from .entries + 1) × (r .next ≡ n + 1) ⌝ }
     ensures { λ r. ⌜ now (log .exit) ≡ put (2 * from .entries + 1) number (put (2 * from .entries) n (now (log .entry))) ⌝ }
 {
-    put_entry(log, from.entries, n, number);
+    put_entry(log, from.entries, n as u32, number);
     let spot = from.spot;
-    Mending {
+    let now = Mending {
         spot,
         records: from.records,
         entries: from.entries + 1,
-    }
+    };
+    Progress { now, next: n + 1 }
 }
 
-// What a number is as a key. The block that its digits say has it as its key, or it is malformed. `digits::read_key` says the same, but stays compiled into the check as long as
-// nothing else calls it.
-fn form_of(table: &[u32; 256], m: u32, key: u32) -> Form
-    requires { ⌜ (now table ≡ spreads) × (m ≤ 12) ⌝ }
+// What a number is as a key. Its digits say where its block would start, and there it must be the key of one. `digits::read_key` says the same; it is compiled into the check as long
+// as nothing else calls it.
+fn form_of(ones: &[u32; 13], digits: &[u8; 16], m: u32, key: u32) -> Form
+    requires { ⌜ (now ones ≡ onesTable) × TellsOnes (now digits) × (m ≤ 12) ⌝ }
     ensures { λ r. ⌜ r ≡ formOf m key ⌝ }
 {
-    let square = digits::square_of(m, key);
-    let exponent = square.exponent;
-    if blocks::block_key(table, m, exponent, square.row, square.col) != key {
+    let starts = digits::starts_table();
+    let start = digits::start_of(&starts, key);
+    if blocks::pow4(m) <= start {
         return Form::Malformed;
     }
-    let start = blocks::place(square.row, square.col);
-    Form::Block { exponent, start }
+    let pixel = spots::pixel_of(m, start);
+    let spot = spots::begin(ones, m, pixel, 0, start);
+    let fit = spots::exponent_at(ones, digits, m, spot, key);
+    match fit {
+        Fit::Block { exponent } => Form::Block { exponent, start },
+        Fit::Other => Form::Malformed,
+    }
 }
 
-// What becomes of record n.
-fn take(
+// Record n, which does not start where the walk stands: it is dropped, or the gap before it is filled. The walk then stands where it starts.
+fn mend(
     ones: &[u32; 13],
-    table: &[u32; 256],
+    digits: &[u8; 16],
     m: u32,
     keys: &[u32],
-    classes: &[u8],
     n: usize,
     from: Mending,
     mended: &mut [u32],
     painted: &mut [u8],
     log: &mut [u32],
-) -> Mending
-    requires { ⌜ (now ones ≡ onesTable) × (now table ≡ spreads) × (m ≤ 12) × (n < length (now keys)) × (n < length (now classes)) × (n ≤ 65536) ⌝ }
-    requires { ⌜ Stands m (from .spot) × Countable (from .records) (from .entries) (mendsOf m n (from .spot .place) (getD (now keys) n 0)) ⌝ }
-    ensures { λ r. ⌜ (r .spot .place ≡ reached m (from .spot .place) (getD (now (keys .entry)) n 0)) × Stands m (r .spot) ⌝ }
-    ensures { λ r. ⌜ Makes (now (keys .entry)) (now (classes .entry)) (mendsOf m n (from .spot .place) (getD (now (keys .entry)) n 0)) (sheet (from .records) (from .entries) (now (mended .entry)) (now (painted .entry)) (now (log .entry))) (sheet (r .records) (r .entries) (now (mended .exit)) (now (painted .exit)) (now (log .exit))) ⌝ }
+) -> Progress
+    requires { ⌜ (now ones ≡ onesTable) × TellsOnes (now digits) × (m ≤ 12) × (n < length (now keys)) × (n ≤ 65536) × Stands m (from .spot) ⌝ }
+    requires { ⌜ ToldFit m (from .spot .place) (getD (now keys) n 0) Other × Countable (from .records) (from .entries) (mendsOf m n (from .spot .place) (getD (now keys) n 0)) ⌝ }
+    ensures { λ r. ⌜ MendsNext m (now (keys .entry)) n from (now (mended .entry)) (now (painted .entry)) (now (log .entry)) r (now (mended .exit)) (now (painted .exit)) (now (log .exit)) ⌝ }
 {
-    let form = form_of(table, m, keys[n]);
-    let Form::Block { exponent, start } = form else {
-        return leave_out(n as u32, 3, from, log);
+    let form = form_of(ones, digits, m, keys[n]);
+    let Form::Block { start, .. } = form else {
+        return leave_out(n, 3, from, log);
     };
     let spot = from.spot;
     if start < spot.place {
-        return leave_out(n as u32, 4, from, log);
+        return leave_out(n, 4, from, log);
     }
-    let filled = fill(ones, m, from, start, mended, painted, log);
-    keep(
-        ones,
-        m,
-        keys,
-        classes,
-        n,
-        exponent,
-        start,
-        filled,
-        mended,
-        painted,
-    )
+    let now = fill(ones, m, from, start, mended, painted, log);
+    Progress { now, next: n }
 }
 
 // Mends a map: the records of the mended one and the entries of the log are written as far as there is room, and counted.
 fn pass(
-    table: &[u32; 256],
     m: u32,
     keys: &[u32],
     classes: &[u8],
@@ -238,7 +214,7 @@ fn pass(
     painted: &mut [u8],
     log: &mut [u32],
 ) -> Mending
-    requires { ⌜ (now table ≡ spreads) × (m ≤ 12) × (length (now keys) ≡ length (now classes)) × (length (now keys) ≤ 65536) ⌝ }
+    requires { ⌜ (m ≤ 12) × (length (now keys) ≡ length (now classes)) × (length (now keys) ≤ 65536) ⌝ }
     ensures { λ r. ⌜ Makes (now (keys .entry)) (now (classes .entry)) (mends m (now (keys .entry))) (sheet 0 0 (now (mended .entry)) (now (painted .entry)) (now (log .entry))) (sheet (r .records) (r .entries) (now (mended .exit)) (now (painted .exit)) (now (log .exit))) ⌝ }
 {
     let ones = spots::ones_table();
@@ -256,19 +232,9 @@ fn pass(
         if next == keys.len() {
             return fill(&ones, m, so_far, blocks::pow4(m), mended, painted, log);
         }
-        now = take(
-            &ones,
-            table,
-            m,
-            keys,
-            classes,
-            next,
-            so_far,
-            mended,
-            painted,
-            log,
-        );
-        n = next + 1;
+        let done = mend(&ones, &digits, m, keys, next, so_far, mended, painted, log);
+        now = done.now;
+        n = done.next;
     }
 }
 
@@ -320,9 +286,7 @@ pub fn salvage(
     if let Verdict::Refused { number, place } = sizes {
         return Salvaged::Refused { number, place };
     }
-    let table = blocks::spread_table();
     let counted = pass(
-        &table,
         m,
         keys,
         classes,
@@ -336,6 +300,6 @@ pub fn salvage(
     if let Verdict::Refused { number, place } = verdict {
         return Salvaged::Refused { number, place };
     }
-    pass(&table, m, keys, classes, mended, painted, log);
+    pass(m, keys, classes, mended, painted, log);
     Salvaged::Done { records, entries }
 }

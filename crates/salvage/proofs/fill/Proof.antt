@@ -18,13 +18,13 @@ abbrev μ-loop : tie.MeasureT-loop
 μ-loop ones m end mended₀ painted₀ log₀ spot₀ records₀ entries₀ mended painted log spot records entries = end - spot .place
 
 loop-holds : tie.Need-loop-holds Inv-loop μ-loop
-loop-holds c = filling-first _ (c .before .before .before .before .pre .2)
+loop-holds c = let p = c .before .before .before .before .pre in filling-first _ (p .2) (p .3)
 
 next-block-requires : tie.Need-next-block-requires Inv-loop μ-loop
 next-block-requires c κs =
     let at = c .before .before in
     let p = at .before .before .before .before .before .pre in
-    (p .0, p .1, at .loop .inv .stands, c .if1 .taken, p .3)
+    (p .0, p .1, at .loop .inv .stands, c .if1 .taken, p .4)
 
 put-record-requires : tie.Need-put-record-requires Inv-loop μ-loop
 put-record-requires c κs = search needs
@@ -35,7 +35,7 @@ module _ (c : tie.After-next-block Inv-loop μ-loop) where
   turn = c .before .before .before
 
   roomy : (turn .loop .records < 2147483647) × (turn .loop .entries < 2147483647)
-  roomy = filling-room (turn .loop .inv) (c .next-block .ensures) (turn .before .before .before .before .before .pre .4)
+  roomy = filling-room (turn .loop .inv) (c .next-block .ensures) (turn .before .before .before .before .before .pre .5)
 
 put-entry-requires : tie.Need-put-entry-requires Inv-loop μ-loop
 put-entry-requires c κs = omega (arith, roomy (c .before .before .before .before .before .before .before .before) .1)

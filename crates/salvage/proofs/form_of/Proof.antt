@@ -1,30 +1,76 @@
 -- `salvage::form_of` meets its contract.
 -- Assumes nothing.
-use mathlib.Core.Path.{sym, _∙_}
+use mathlib.Core.Path.{_≡_, sym}
+use native.Mathlib.Omega.{arith}
 use borrow.Author.Needs.{needs}
-use Rattle.key.proofs.Laws.{square-block, square-malformed}
-use Rattle.key.proofs.Loops.{larger}
+use Rattle.key.specs.declared.Fit.{Fit}
+use Rattle.key.specs.Along.{ToldFit}
+use Rattle.key.proofs.Laws.{fits-block}
+use Rattle.salvage.proofs.Forms.{told-as, far-malformed, other-malformed}
 use Rattle.salvage.proofs.form_of.Statement.{statement}
 use Rattle.salvage.proofs.form_of.Tie as tie
 
-square-of-requires : tie.Need-square-of-requires
-square-of-requires c κs = search needs
+starts-table-requires : tie.Need-starts-table-requires
+starts-table-requires c κs = search needs
 
-block-key-requires : tie.Need-block-key-requires
-block-key-requires c κs = search needs
+start-of-requires : tie.Need-start-of-requires
+start-of-requires c κs = search needs
+
+pow4-requires : tie.Need-pow4-requires
+pow4-requires c κs = search needs
 
 returns : tie.Need-returns
 returns c =
-    let key = c .before in
-    sym (square-malformed (key .before .square-of .ensures) (λ e. c .if1 .taken (key .block-key .ensures ∙ e)))
+    let s = c .before .before in
+    sym (far-malformed _ (s .before .before .before .pre .2) (s .start-of .ensures) (omega (arith, c .if1 .taken, c .before .pow4 .ensures .is)))
 
-place-requires : tie.Need-place-requires
-place-requires c κs = let q = c .before .before in larger (q .before .pre .1) (q .square-of .ensures .pixel)
+pixel-of-requires : tie.Need-pixel-of-requires
+pixel-of-requires c κs = (c .before .before .before .before .before .pre .2, omega (arith, c .if1 .left, c .before .pow4 .ensures .is))
+
+begin-requires : tie.Need-begin-requires
+begin-requires c κs = search needs
+
+exponent-at-requires : tie.Need-exponent-at-requires
+exponent-at-requires c κs = search needs
+
+enum-known-fit : tie.Need-enum-known-fit
+enum-known-fit c = search needs
+
+enum-told : tie.Need-enum-told
+enum-told c = search needs
+
+-- what is told at the start that the digits say
+module _ (c : tie.After-exponent-at) where
+  abbrev begun : tie.After-begin
+  begun = c .before
+
+  abbrev told : tie.After-start-of
+  told = begun .before .before .before .before
+
+  fits : {t : Fit} → c .exponent-at .result ≡ t → ToldFit (told .before .before .before .args .m) (told .start-of .result) (told .before .before .before .args .key) t
+  fits e = told-as (begun .begin .ensures .0) e (c .exponent-at .ensures)
 
 returns-2 : tie.Need-returns-2
-returns-2 c =
-    let key = c .before .before in
-    rw (c .place .ensures) (sym (square-block (key .before .square-of .ensures) (sym (key .block-key .ensures) ∙ c .before .if1 .left)))
+returns-2 c = sym (fits-block (fits (c .before .before .before) (c .before .fit .given .1)) .is)
+
+returns-3 : tie.Need-returns-3
+returns-3 c =
+    let x = c .before .before in
+    let s = told x in
+    sym (other-malformed _ (s .before .before .before .pre .2) (s .start-of .ensures) (fits x (c .enum-told .given .1)))
 
 pub form-of-spec : {M : Type 1} → statement M
-form-of-spec = tie.close (tie.spec square-of-requires block-key-requires returns place-requires returns-2)
+form-of-spec =
+    tie.close
+    (tie.spec
+    starts-table-requires
+    start-of-requires
+    pow4-requires
+    returns
+    pixel-of-requires
+    begin-requires
+    exponent-at-requires
+    enum-known-fit
+    enum-told
+    returns-2
+    returns-3)

@@ -1,21 +1,21 @@
--- `salvage::pass` meets its contract. The invariant is `Going`, the measure the number of records left.
+-- `salvage::pass` meets its contract. The invariant is `Going`, the measure the number of records and of places left.
 -- Assumes nothing.
-use Prim.Native.Nat.{_-_, _<_}
+use Prim.Native.Nat.{_+_, _-_, _^_, _<_}
 use native.Mathlib.Omega.{arith}
 use lib.ListN.{length}
 use borrow.Author.Needs.{needs}
 use Rattle.salvage.specs.Making.{sheet, Going}
 use Rattle.salvage.proofs.Making.{makes-lengths}
-use Rattle.salvage.proofs.Going.{going-first, going-next, going-last, going-counted, going-rest, going-records}
+use Rattle.salvage.proofs.Going.{going-first, going-last, going-counted, going-rest, going-records}
 use Rattle.salvage.proofs.pass.Statement.{statement}
 use Rattle.salvage.proofs.pass.Tie as tie
 
 abbrev Inv-loop : tie.InvT-loop
-Inv-loop table m keys classes mended₀ painted₀ log₀ ones digits now₀ n₀ mended painted log now n =
+Inv-loop m keys classes mended₀ painted₀ log₀ ones digits now₀ n₀ mended painted log now n =
     Going m keys classes (sheet 0 0 mended₀ painted₀ log₀) (sheet (now .records) (now .entries) mended painted log) (now .spot) n
 
 abbrev μ-loop : tie.MeasureT-loop
-μ-loop table m keys classes mended₀ painted₀ log₀ ones digits now₀ n₀ mended painted log now n = length keys - n
+μ-loop m keys classes mended₀ painted₀ log₀ ones digits now₀ n₀ mended painted log now n = length keys - n + (4 ^ m - now .spot .place)
 
 ones-table-requires : tie.Need-ones-table-requires Inv-loop μ-loop
 ones-table-requires c κs = search needs
@@ -42,7 +42,7 @@ keep-along-requires c κs =
     let at = c .before .before .before .before in
     let p = start at .pre in
     let G = at .loop .inv in
-    (tables at .before .ones-table .ensures, tables at .digits-table .ensures, p .1, p .2, G .within, G .stands, going-records G (p .1) (p .3))
+    (tables at .before .ones-table .ensures, tables at .digits-table .ensures, p .0, p .1, p .2, G .within, G .stands, going-records G (p .0) (p .2))
 
 -- how far the records follow one another
 module _ (c : tie.After-so-far Inv-loop μ-loop) where
@@ -59,7 +59,7 @@ module _ (c : tie.After-so-far Inv-loop μ-loop) where
   going = kept .keep-along .ensures .goes _ _ (turn .loop .inv)
 
 pow4-requires : tie.Need-pow4-requires Inv-loop μ-loop
-pow4-requires c κs = start (turn (c .before .before)) .pre .1
+pow4-requires c κs = start (turn (c .before .before)) .pre .0
 
 fill-requires : tie.Need-fill-requires Inv-loop μ-loop
 fill-requires c κs =
@@ -69,14 +69,15 @@ fill-requires c κs =
     let t = turn (end .before) in
     let p = start t .pre in
     let e = power .pow4 .ensures .is in
-    (tables t .before .ones-table .ensures, p .1, g .stands, omega (arith, e), rw e (going-rest g (p .1) (p .3) (omega (arith, end .if1 .taken))))
+    let last = going-rest g (p .0) (p .2) (omega (arith, end .if1 .taken)) in
+    (tables t .before .ones-table .ensures, p .0, g .stands, omega (arith, e, g .stands .within), omega (arith, e), rw e last)
 
 returns : tie.Need-returns Inv-loop μ-loop
 returns c =
     let filled = c .before .before .before .before .before .before in
     let power = filled .before .before .before .before in
     let end = power .before .before in
-    going-last (going (end .before)) (omega (arith, end .if1 .taken)) (rw (power .pow4 .ensures .is) at (filled .fill .ensures))
+    going-last (going (end .before)) (omega (arith, end .if1 .taken)) (rw (power .pow4 .ensures .is) at (filled .fill .ensures .1))
 
 -- the slices stay as long as they were
 same-length : tie.Need-same-length Inv-loop μ-loop
@@ -92,30 +93,30 @@ same-length-3 c = makes-lengths (returns c) .2
 left : (c : tie.Else1 Inv-loop μ-loop) → kept (c .before) .keep-along .result .next < length (start (turn (c .before)) .args .keys .now)
 left c = omega (arith, c .if1 .left, kept (c .before) .keep-along .ensures .within)
 
-take-requires : tie.Need-take-requires Inv-loop μ-loop
-take-requires c κs =
-    let e = c .before .before .before .before in
+mend-requires : tie.Need-mend-requires Inv-loop μ-loop
+mend-requires c κs =
+    let e = c .before .before .before .before .before in
     let g = going (e .before) in
     let t = turn (e .before) in
     let p = start t .pre in
     let h = left e in
-    ((tables t .before .ones-table .ensures, p .0, p .1, h, omega (arith, h, p .2), omega (arith, h, p .3)), (g .stands, going-counted g (p .1) (p .3) h))
-
-add-n : tie.Need-add-n Inv-loop μ-loop
-add-n c =
-    let e = c .before .before .before .before .before .before .before .before .before .before .before in
-    omega (arith, left e, start (turn (e .before)) .pre .3)
-
-loop-less : tie.Need-loop-less Inv-loop μ-loop
-loop-less c =
-    let e = c .before .before .before .before .before .before .before .before .before .before .before in
-    omega (arith, left e, kept (e .before) .keep-along .ensures .onward)
+    let ends = kept (e .before) .keep-along .ensures .ends h in
+    ((tables t .before .ones-table .ensures, tables t .digits-table .ensures, p .0, h, omega (arith, h, p .2), g .stands), (ends, going-counted g (p .0) (p .2) h))
 
 loop-again : tie.Need-loop-again Inv-loop μ-loop
 loop-again c =
-    let taken = c .before .before .before .before .before .before in
-    let e = taken .before .before .before .before .before in
-    going-next (going (e .before)) (left e) (taken .take .ensures .0) (taken .take .ensures .1)
+    let done = c .before .before .before .before .before .before .before in
+    let e = done .before .before .before .before .before .before in
+    done .mend .ensures .goes _ _ (going (e .before))
+
+loop-less : tie.Need-loop-less Inv-loop μ-loop
+loop-less c =
+    let done = c .before .before .before .before .before .before .before in
+    let e = done .before .before .before .before .before .before in
+    let k = kept (e .before) .keep-along .ensures in
+    let m = done .mend .ensures in
+    let after = loop-again c in
+    omega (arith, left e, k .onward, k .forward, m .less, m .forward, after .within, after .stands .within)
 
 pub pass-spec : {M : Type 1} → statement M
 pass-spec =
@@ -134,7 +135,6 @@ pass-spec =
     same-length-2
     same-length-3
     returns
-    take-requires
-    add-n
+    mend-requires
     loop-less
     loop-again)

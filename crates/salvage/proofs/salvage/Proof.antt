@@ -38,9 +38,6 @@ module _ (c : tie.After-enum-told) where
   right : SizedIn false (start .args .m) (length (start .args .keys .now)) (length (start .args .classes .now))
   right = sized .0 passed
 
-spread-table-requires : tie.Need-spread-table-requires
-spread-table-requires c κs = search needs
-
 slice-relend-prefix-pass : tie.Need-slice-relend-prefix-pass
 slice-relend-prefix-pass c = search needs
 
@@ -61,17 +58,13 @@ slice-aggregate-pass-3 c = search needs
 
 pass-requires : tie.Need-pass-requires
 pass-requires c κs =
-    let t = c .before .before .before .before in
-    let r = right (t .before) in
-    (t .spread-table .ensures, r .small, r .same, r .most)
+    let r = right (c .before .before .before) in
+    (r .small, r .same, r .most)
 
 -- the pass that counts
 module _ (c : tie.After-pass) where
-  abbrev tabled : tie.After-spread-table
-  tabled = c .before .before .before .before .before
-
   abbrev told : tie.After-enum-told
-  told = tabled .before
+  told = c .before .before .before .before
 
 room-requires : tie.Need-room-requires
 room-requires c κs =
@@ -103,9 +96,9 @@ enum-told-2 c = search needs
 
 pass-requires-2 : tie.Need-pass-requires-2
 pass-requires-2 c κs =
-    let p = c .before .before .before .before .before .before .before .before .before .before .before .before .before in
+    let p = c .before .before .before .before .before .before .before .before .before .before .before .before in
     let r = right (told p) in
-    (tabled p .spread-table .ensures, r .small, r .same, r .most)
+    (r .small, r .same, r .most)
 
 same-length-4 : tie.Need-same-length-4
 same-length-4 c = search needs
@@ -119,7 +112,7 @@ same-length-6 c = search needs
 returns-3 : tie.Need-returns-3
 returns-3 c =
     let w = c .before .before .before .before .before .before in
-    let e = w .before .before .before .before .before in
+    let e = w .before .before .before .before in
     let v = e .before .before in
     let p = v .before .before .before .before .before .before .before in
     let t = told p in
@@ -134,7 +127,6 @@ salvage-spec =
     enum-known-sizes
     returns
     enum-told
-    spread-table-requires
     slice-relend-prefix-pass
     slice-aggregate-pass
     slice-relend-prefix-pass-2

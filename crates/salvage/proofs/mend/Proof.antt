@@ -1,8 +1,8 @@
--- `salvage::take` meets its contract: each way that a record may go has its law in `Steps` and `Taking`.
+-- `salvage::mend` meets its contract: each way that a record may go has its law in `Steps` and `Taking`.
 -- Assumes nothing.
 use mathlib.Core.Path.{_≡_, ap, sym, _∙_}
 use mathlib.Core.List.{[], _∷_}
-use Prim.Native.Nat.{ℕ}
+use Prim.Native.Nat.{ℕ, _<_}
 use native.Mathlib.Omega.{arith}
 use lib.ListN.{getD}
 use borrow.Author.Needs.{needs}
@@ -10,12 +10,12 @@ use Rattle.key.specs.declared.Form.{Form}
 use Rattle.key.specs.declared.Spot.{Spot}
 use Rattle.key.specs.Form.{formOf}
 use Rattle.key.specs.Blocks.{Names}
-use Rattle.key.proofs.Laws.{block-lies, pow-least}
+use Rattle.key.proofs.Laws.{block-lies}
 use Rattle.salvage.specs.Salvage.{dropped, mendsOf, reached}
-use Rattle.salvage.proofs.Steps.{step-garbled, step-early, step-kept}
-use Rattle.salvage.proofs.Taking.{take-entry, take-fills, take-room, take-kept, take-dropped}
-use Rattle.salvage.proofs.take.Statement.{statement}
-use Rattle.salvage.proofs.take.Tie as tie
+use Rattle.salvage.proofs.Steps.{step-garbled, step-early}
+use Rattle.salvage.proofs.Taking.{take-entry, other-later, take-fills, going-dropped, going-filled}
+use Rattle.salvage.proofs.mend.Statement.{statement}
+use Rattle.salvage.proofs.mend.Tie as tie
 
 mul-form-of : tie.Need-mul-form-of
 mul-form-of c = search needs
@@ -29,7 +29,7 @@ form-of-requires c κs = search needs
 -- what was there before, and what the key was read as
 module _ (c : tie.After-form-of) where
   abbrev start : tie.Start
-  start = c .before .before .before .before .before .before .before
+  start = c .before .before .before .before .before .before
 
   abbrev at : ℕ
   at = start .args .from .spot .place
@@ -51,11 +51,8 @@ garbled : (c : tie.After-enum-told) → let h = c .before .before in
     (mendsOf (start h .args .m) (start h .args .n) (at h) (key h) ≡ dropped (start h .args .n) 3 ∷ []) × (reached (start h .args .m) (at h) (key h) ≡ at h)
 garbled c = let h = c .before .before in step-garbled _ _ _ _ (read h (c .enum-told .given .1))
 
-cast-leave-out : tie.Need-cast-leave-out
-cast-leave-out c = search needs
-
 leave-out-requires : tie.Need-leave-out-requires
-leave-out-requires c κs = let g = c .before in take-entry (garbled g .0) (start (g .before .before) .pre .1 .1)
+leave-out-requires c κs = let g = c .before in let p = start (g .before .before) .pre in (p .0 .4, take-entry (garbled g .0) (p .1 .1))
 
 same-length : tie.Need-same-length
 same-length c = search needs
@@ -65,8 +62,12 @@ returns c =
     let out = c .before .before in
     let g = out .before .before in
     let e = out .leave-out .ensures in
-    let s = start (g .before .before) in
-    ((ap (λ (t : Spot). t .place) (e .0 .0) ∙ sym (garbled g .1), rw (e .0 .0) (s .pre .1 .0)), take-dropped _ 3 _ _ (garbled g .0) _ (e .0 .1, e .0 .2) (e .1))
+    let z = ap (λ (t : Spot). t .place) (e .0 .0) in
+    record {
+      forward = omega (arith, z);
+      less = omega (arith, z, e .0 .3);
+      goes = λ classes a G. going-dropped {number = 3} G (start (g .before .before) .pre .0 .3) (garbled g) (e .0) (e .1);
+    }
 
 -- a block
 module _ (c : tie.After-form) where
@@ -81,11 +82,8 @@ early : (c : tie.Then1) → let h = here (c .before .before .before .before) in
     (mendsOf (start h .args .m) (start h .args .n) (at h) (key h) ≡ dropped (start h .args .n) 4 ∷ []) × (reached (start h .args .m) (at h) (key h) ≡ at h)
 early c = step-early _ _ _ _ (named (c .before .before .before .before)) (c .if1 .taken)
 
-cast-leave-out-2 : tie.Need-cast-leave-out-2
-cast-leave-out-2 c = search needs
-
 leave-out-requires-2 : tie.Need-leave-out-requires-2
-leave-out-requires-2 c κs = let g = c .before in take-entry (early g .0) (start (here (g .before .before .before .before)) .pre .1 .1)
+leave-out-requires-2 c κs = let g = c .before in let p = start (here (g .before .before .before .before)) .pre in (p .0 .4, take-entry (early g .0) (p .1 .1))
 
 same-length-2 : tie.Need-same-length-2
 same-length-2 c = search needs
@@ -95,30 +93,28 @@ returns-2 c =
     let out = c .before .before in
     let g = out .before .before in
     let e = out .leave-out2 .ensures in
-    let s = start (here (g .before .before .before .before)) in
-    ((ap (λ (t : Spot). t .place) (e .0 .0) ∙ sym (early g .1), rw (e .0 .0) (s .pre .1 .0)), take-dropped _ 4 _ _ (early g .0) _ (e .0 .1, e .0 .2) (e .1))
+    let z = ap (λ (t : Spot). t .place) (e .0 .0) in
+    record {
+      forward = omega (arith, z);
+      less = omega (arith, z, e .0 .3);
+      goes = λ classes a G. going-dropped {number = 4} G (start (here (g .before .before .before .before)) .pre .0 .3) (early g) (e .0) (e .1);
+    }
+
+-- or behind it
+module _ (c : tie.Else1) where
+  abbrev block : tie.After-form
+  block = c .before .before .before .before
+
+  later : at (here block) < block .form .given .0 .1 .0
+  later = other-later (start (here block) .pre .1 .0) (named block) (c .if1 .left)
 
 fill-requires : tie.Need-fill-requires
 fill-requires c κs =
     let e = c .before .before .before in
-    let f = e .before .before .before .before in
+    let f = block e in
     let p = start (here f) .pre in
-    (p .0 .0, p .0 .2, p .1 .0, omega (arith, block-lies (named f) .span, pow-least 3 (f .form .given .0 .0)), take-fills _ _ _ _ (named f) (e .if1 .left) (p .1 .1))
-
--- a gap that is filled before it
-module _ (c : tie.After-fill) where
-  abbrev late : tie.Else1
-  late = c .before .before .before .before
-
-  abbrev block : tie.After-form
-  block = late .before .before .before .before
-
-keep-requires : tie.Need-keep-requires
-keep-requires c κs =
-    let filled = c .before .before .before .before .before .before .before .before in
-    let f = block filled in
-    let p = start (here f) .pre in
-    (p .0 .0, p .0 .2, p .0 .3, p .0 .4, named f, take-room _ _ _ _ (named f) (late filled .if1 .left) (p .1 .1) (filled .fill .ensures))
+    let l = later e in
+    (p .0 .0, p .0 .2, p .0 .5, omega (arith, l), omega (arith, block-lies (named f) .span), take-fills _ _ _ _ (named f) (omega (arith, l)) (p .1 .1))
 
 same-length-3 : tie.Need-same-length-3
 same-length-3 c = search needs
@@ -131,15 +127,18 @@ same-length-5 c = search needs
 
 returns-3 : tie.Need-returns-3
 returns-3 c =
-    let kept = c .before .before .before .before in
-    let filled = kept .before .before .before .before .before .before .before .before .before in
-    let b = named (block filled) in
-    let l = late filled .if1 .left in
-    let e = kept .keep .ensures in
-    ((e .0 .0 ∙ sym (step-kept _ 0 _ _ b l .1), e .0 .1), take-kept _ _ _ _ _ b l (filled .fill .ensures) (e .1 .0) (e .1 .1))
+    let filled = c .before .before .before .before .before .before in
+    let e = filled .before .before .before .before in
+    let l = later e in
+    let w = filled .fill .ensures in
+    record {
+      forward = omega (arith, l, w .0 .0);
+      less = omega (arith, l, w .0 .0);
+      goes = λ classes a G. going-filled G (start (here (block e)) .pre .0 .3) (named (block e)) (omega (arith, l)) (w .0) (w .1);
+    }
 
-pub take-spec : {M : Type 1} → statement M
-take-spec =
+pub mend-spec : {M : Type 1} → statement M
+mend-spec =
     tie.close
     (tie.spec
     mul-form-of
@@ -147,16 +146,13 @@ take-spec =
     form-of-requires
     enum-known-form
     enum-told
-    cast-leave-out
     leave-out-requires
     same-length
     returns
-    cast-leave-out-2
     leave-out-requires-2
     same-length-2
     returns-2
     fill-requires
-    keep-requires
     same-length-3
     same-length-4
     same-length-5
