@@ -6,6 +6,7 @@ pub use Rattle.map.proofs.Gapless.{gapless-same, sound-gapless}
 pub use Rattle.map.proofs.Order.{spaced, recorded-spaced, whole-sparse, record-at, apart, holder, find, keys-apart, keys-rise, one-holder}
 pub use Rattle.map.proofs.Holding.{exponent-record, tile-record, record-tile, record-of, record-none, exponent-of, tile-of, exponent-none}
 pub use Rattle.map.proofs.Holding.{tile-none, record-holder, tile-holder, tiles, pixel-holder, pixel-below, tile-whole, tiling, record-square}
+pub use Rattle.map.proofs.Unheld.{is-free, unfree, free-none, free-held, free-past, free-ahead}
 pub use Rattle.map.proofs.Classes.{class-held, class-free, over-whole}
 pub use Rattle.map.proofs.Tests.{exponent-is, start-is, end-is, holds-is, overlap-is, within-is}
 pub use Rattle.map.proofs.Found.{found-around, block-records}

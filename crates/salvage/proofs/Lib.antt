@@ -9,3 +9,7 @@ mod Along
 mod Answered
 mod Result
 mod Forms
+mod Each
+mod Early
+mod Gaps
+mod Painted

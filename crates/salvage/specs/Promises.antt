@@ -1,13 +1,16 @@
 -- The words in which the promises about salvage are said.
 -- Assumes nothing.
 use mathlib.Core.Path.{_≡_}
-use mathlib.Core.List.{List, [], _∷_, _++_, List·Memᴰ}
+use mathlib.Core.Bool.{Bool, _&&_}
+use mathlib.Core.List.{List, [], _∷_, _++_, flatMap, List·Memᴰ}
 use Prim.Native.Nat.{ℕ, suc, _+_, _^_, _≤_, _<_}
+use lib.Dec.{ltb}
 use lib.ListN.{length, getD}
 use Rattle.key.specs.declared.Form.the-variants.{Malformed}
 use Rattle.key.specs.Form.{formOf}
 use Rattle.key.specs.Blocks.{Names}
-use Rattle.salvage.specs.Salvage.{Mend, kept, dropped, filled, fills, mends}
+use Rattle.map.specs.Promises.{isFree}
+use Rattle.salvage.specs.Salvage.{Mend, kept, dropped, filled, fills}
 
 -- in plain words: so the records from n on are mended, where the last span kept ended at `at`
 pub data Mends (m : ℕ) (keys : List ℕ) : ℕ → ℕ → List Mend → Type 0 where
@@ -35,7 +38,16 @@ keyFilled (kept n) = []
 keyFilled (dropped n number) = []
 keyFilled (filled key) = key ∷ []
 
--- record n is kept, and it is the block of exponent i whose span starts at place s
-pub record Keeps (m : ℕ) (keys : List ℕ) (n i s : ℕ) : Type 0 where
-  pub is-kept : List·Memᴰ (kept n) (mends m keys)
-  pub names : Names m (getD keys n 0) i s
+-- by these mends a record before record n is kept whose span ends behind place s
+pub record Reached (m : ℕ) (keys : List ℕ) (es : List Mend) (n s : ℕ) : Type 0 where
+  pub by : ℕ
+  pub exponent : ℕ
+  pub start : ℕ
+  pub earlier : by < n
+  pub is-kept : List·Memᴰ (kept by) es
+  pub names : Names m (getD keys by 0) exponent start
+  pub over : s < start + 4 ^ exponent
+
+-- of the picture, the places in no record that is kept
+unfoldable pub unkept : ℕ → List ℕ → List Mend → ℕ → Bool
+unkept m keys es q = ltb q (4 ^ m) && isFree m (flatMap (keyKept keys) es) q

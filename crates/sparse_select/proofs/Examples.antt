@@ -16,13 +16,14 @@ use Rattle.window.proofs.P1.{W}
 use Rattle.map.specs.Spans as spans
 use Rattle.map.specs.Records.{recordOf, exponentOf}
 use Rattle.map.specs.Runs.{runOf}
+use Rattle.map.specs.Promises.{isFree}
 use Rattle.pick.specs.Picked.{pickedAround}
 use Rattle.stretch.specs.Sets.{base, full, fitsIn, exponentIn, starts, between}
 use Rattle.stretch.specs.Fewest.{maximalIn, keyFrom, fewest, stretch}
 use Rattle.border.specs.Openings.{opening}
 use Rattle.select.specs.Select as select
 use Rattle.sparse_select.specs.Select.{blank, merged, sparseSelected, sparseSelection}
-use Rattle.sparse_select.specs.Promises.{isFree, bare, held}
+use Rattle.sparse_select.specs.Promises.{bare, held}
 
 abbrev keys : List ℕ
 keys = 7 ∷ 10 ∷ 23 ∷ []

@@ -23,7 +23,8 @@ use Rattle.stretch.specs.Sets.{between}
 use Rattle.stretch.specs.Fewest.{fewest, stretch}
 use Rattle.stretch.proofs.Laws.{between-is, stretch-makes, gap-last, gap-next, cut-out, cut-behind, fewest-empty, not-start, fewest-makes, fewest-least}
 use Rattle.sparse_select.specs.Select.{merged, sparseSelected}
-use Rattle.sparse_select.specs.Promises.{isFree, freeIn, bare, held}
+use Rattle.map.specs.Promises.{isFree}
+use Rattle.sparse_select.specs.Promises.{freeIn, bare, held}
 use Rattle.sparse_select.proofs.Pieces.{Gap, Pieces, last, next, block-pieces}
 use Rattle.sparse_select.proofs.Merged.{blank-own, merged-last, merged-next}
 use Rattle.sparse_select.proofs.Block.{Case, whole, other, parts, case}
@@ -31,22 +32,12 @@ use Rattle.sparse_select.proofs.Block.{Case, whole, other, parts, case}
 module _ {m : ℕ} {keys : List ℕ} (F : Spaced m 0 keys) where
   -- ---- places in no record
 
-  free-is : {q : ℕ} → Free m keys q → isFree m keys q ≡ true
-  unfolding isFree
-  free-is f = eq-eqb _ _ (record-none F f)
-
-  held-not : {n i s q : ℕ} → Record m keys n i s → Among s (4 ^ i) q → isFree m keys q ≡ false
-  unfolding isFree
-  held-not {n} {i} {s} {q} R h =
-      let H : Holder m keys q = record { index = n; exponent = i; start = s; is = R; has = h } in
-      refuted _ (λ e. let d : recordOf m keys q ≡ length keys = eqb-true _ _ e in omega (arith, record-of F H, R .within))
-
   in-is : (a b q : ℕ) → (freeIn m keys a b q ≡ true) ↔ ((between a b q ≡ true) × (isFree m keys q ≡ true))
   unfolding freeIn
   in-is a b q = both (between a b q) (isFree m keys q)
 
   in-not : (a b : ℕ) {n i s q : ℕ} → Record m keys n i s → Among s (4 ^ i) q → freeIn m keys a b q ≡ false
-  in-not a b {q = q} R h = refuted _ (λ e. never (sym (in-is a b q .0 e .1) ∙ held-not R h))
+  in-not a b {q = q} R h = refuted _ (λ e. never (sym (in-is a b q .0 e .1) ∙ unfree F R h))
 
   -- by a block's first place
   bare-is : {x i s : ℕ} → Names m x i s → bare m keys x ≡ isFree m keys s
@@ -59,7 +50,7 @@ module _ {m : ℕ} {keys : List ℕ} (F : Spaced m 0 keys) where
   gap-bare {a} {b} room G x l =
       let L = stretch-makes m a b room .inside x l in
       let h = between-is a b (L .start) .0 (L .inside (L .start) (omega (arith, pow-least 3 (L .exponent)))) in
-      bare-is (L .names) ∙ free-is (G .free (L .start) (h .0) (h .1))
+      bare-is (L .names) ∙ is-free F (G .free (L .start) (h .0) (h .1))
 
   gap-kept : {a b : ℕ} → b ≤ 4 ^ m → Gap m keys a b → keep (bare m keys) (stretch m a b) ≡ stretch m a b
   gap-kept {a} {b} room G = keep-all (bare m keys) (stretch m a b) (gap-bare room G)
@@ -67,7 +58,7 @@ module _ {m : ℕ} {keys : List ℕ} (F : Spaced m 0 keys) where
   -- and what starts in a record
   pub starts-held : {x i s : ℕ} → Names m x i s → Holder m keys s → held m keys x ≡ true
   unfolding held
-  starts-held b H = rw (bare-is b ∙ held-not (H .is) (H .has))
+  starts-held b H = rw (bare-is b ∙ unfree F (H .is) (H .has))
 
   pub gap-dropped : {a b : ℕ} → b ≤ 4 ^ m → Gap m keys a b → keep (held m keys) (stretch m a b) ≡ []
   unfolding held
@@ -77,7 +68,7 @@ module _ {m : ℕ} {keys : List ℕ} (F : Spaced m 0 keys) where
   record-kept classes class {n} {i} {s} R = go (ℕ-discrete (getD classes n 0) class)
     where
       out : bare m keys (getD keys n 0) ≡ false
-      out = bare-is (R .names) ∙ held-not R (omega (arith, pow-least 3 i))
+      out = bare-is (R .names) ∙ unfree F R (omega (arith, pow-least 3 i))
 
       go : Dec (getD classes n 0 ≡ class) → keep (bare m keys) (pickedAround classes class (getD keys n 0) n) ≡ []
       go (yes e) = rw (around-has classes class (getD keys n 0) n e, keep-passed (bare m keys) {x = getD keys n 0} [] out, keep-empty (bare m keys))
@@ -88,7 +79,7 @@ module _ {m : ℕ} {keys : List ℕ} (F : Spaced m 0 keys) where
     P = freeIn m keys low to
 
     along : {a b : ℕ} → low ≤ a → b ≤ to → Gap m keys a b → (q : ℕ) → a ≤ q → q < b → freeIn m keys low to q ≡ true
-    along l h G q u v = in-is low to q .1 (between-is low to q .1 (omega arith), free-is (G .free q u v))
+    along l h G q u v = in-is low to q .1 (between-is low to q .1 (omega arith), is-free F (G .free q u v))
 
     end-cut : Cut (freeIn m keys low to) to
     end-cut = cut-out (refuted _ (λ e. omega (arith, between-is low to to .0 (in-is low to to .0 e .0))))
@@ -131,7 +122,7 @@ module _ {m : ℕ} {keys : List ℕ} (F : Spaced m 0 keys) where
       where
         go : Case F background classes same class key i s → keep (bare m keys) (sparseSelected m background keys classes class key) ≡ fewest m (freeIn m keys s (s + 4 ^ i)) s (4 ^ i)
         go (whole R c e d) =
-            let out : bare m keys key ≡ false = bare-is B ∙ held-not R (omega (arith, pow-least 3 i)) in
+            let out : bare m keys key ≡ false = bare-is B ∙ unfree F R (omega (arith, pow-least 3 i)) in
             rw (d, keep-passed (bare m keys) {x = key} [] out, keep-empty (bare m keys)) (sym (none-free R (c .least) (c .most)))
         go (other R c e d) = rw (d, keep-empty (bare m keys)) (sym (none-free R (c .least) (c .most)))
         go (parts e d) =

@@ -3,16 +3,10 @@
 use mathlib.Core.Bool.{Bool, not, _&&_}
 use mathlib.Core.List.{List}
 use Prim.Native.Nat.{ℕ}
-use lib.Dec.{eqb}
-use lib.ListN.{length}
 use Rattle.key.specs.Form.{formOf}
 use Rattle.map.specs.Spans.{start}
-use Rattle.map.specs.Records.{recordOf}
+use Rattle.map.specs.Promises.{isFree}
 use Rattle.stretch.specs.Sets.{between}
-
--- place q is in no record
-unfoldable pub isFree : ℕ → List ℕ → ℕ → Bool
-isFree m keys q = eqb (recordOf m keys q) (length keys)
 
 -- place q is one from a up to b, and in no record
 unfoldable pub freeIn : ℕ → List ℕ → ℕ → ℕ → ℕ → Bool
