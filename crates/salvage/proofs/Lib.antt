@@ -1,15 +1,16 @@
+mod Steps
 mod Making
 mod Table
-mod Steps
 mod Filling
 mod Mended
+mod Forms
 mod Going
 mod Taking
 mod Along
 mod Answered
 mod Result
-mod Forms
 mod Each
 mod Early
 mod Gaps
 mod Painted
+pub mod Laws

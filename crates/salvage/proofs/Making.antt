@@ -34,7 +34,7 @@ pub seconds-length : (ps : List (ℕ × ℕ)) → length (seconds ps) ≡ length
 unfolding seconds
 seconds-length ps = length-map ps (λ (p : ℕ × ℕ). p .1)
 
-cells-length : (ps : List (ℕ × ℕ)) → length (cells ps) ≡ 2 * length ps
+pub cells-length : (ps : List (ℕ × ℕ)) → length (cells ps) ≡ 2 * length ps
 unfolding cells
 cells-length ps = flat-length (λ (p : ℕ × ℕ). p .0 ∷ p .1 ∷ []) 2 (λ p. refl) ps
 

@@ -1,11 +1,12 @@
 -- The result of salvage is a map without gaps; and a map without gaps comes back the same, with an empty log.
 -- Assumes nothing.
 use mathlib.Core.Path.{_≡_, refl, sym, ap, _∙_}
+use mathlib.Core.Logic.{_↔_}
 use mathlib.Core.List.{List, [], _∷_, _++_, append-nil, map, flatMap}
 use Prim.Native.Nat.{ℕ, zero, suc, _+_, _^_, _≤_, _<_}
 use native.Mathlib.Decide.{decLt}
 use native.Mathlib.Omega.{arith}
-use lib.ListN.{length, getD, drop, drop-of-length-le}
+use lib.ListN.{length, getD, drop, length-append, length-map, drop-of-length-le}
 use lib.Seq.{drop-cons}
 use Rattle.lists.proofs.Laws.{flat-append}
 use Rattle.key.specs.declared.Form.the-variants.{Malformed}
@@ -137,6 +138,33 @@ module _ (m : ℕ) (keys classes : List ℕ) (same : length keys ≡ length clas
       let c = drop-cons classes n 0 (omega (arith, h, same)) in
       record { keys-same = rw (none, k, R .keys-same); classes-same = rw (none, c, R .classes-same); log-empty = rw (none, R .log-empty) }
 
+-- ---- an empty log
+
+-- a gap that nothing fills is none
+no-gap : (m : ℕ) {a b : ℕ} → a ≤ b → length (stretch m a b) ≡ 0 → a ≡ b
+no-gap m {a} {b} l z = go (decLt a b)
+  where
+    go : Dec (a < b) → a ≡ b
+    go (yes h) = absurd (omega (arith, z, ap length (stretch-next m h)))
+    go (no h) = omega arith
+
+module _ (m : ℕ) (keys : List ℕ) where
+  fills-logs : (a b : ℕ) → length (flatMap logs (fills m a b)) ≡ length (stretch m a b)
+  unfolding logs
+  fills-logs a b = ap length (fills-each logs (λ k. (k, 5)) (λ k. refl) m a b) ∙ length-map (stretch m a b) (λ k. (k, 5))
+
+  unlogged : {n at : ℕ} {es : List Mend} → at ≤ 4 ^ m → Mends m keys n at es → length (flatMap logs es) ≡ 0 → Follow m at (drop n keys)
+  unfolding logs flatMap
+  unlogged {n} {at} l (ends e) z = rw (drop-of-length-le keys {i = n} (omega arith)) (full (no-gap m l (omega (arith, z, fills-logs at (4 ^ m)))))
+  unlogged l (garbled h e M) z = absurd (omega arith)
+  unlogged l (early h b d M) z = absurd (omega arith)
+  unlogged {n} {at} l (keeps {i = i} {s = s} {end = end} {es = es} h b g e M) z =
+      let k = ap length (keeps-each logs m at s n es) ∙ length-append (flatMap logs (fills m at s)) (flatMap logs es) in
+      let none = no-gap m g (omega (arith, z, k, fills-logs at s)) in
+      let rest = unlogged (omega (arith, block-lies b .span)) M (omega (arith, z, k)) in
+      let own : Names m (getD keys n 0) i at = rw none b in
+      rw (drop-cons keys n 0 h) (next {end = end} own (omega (arith, e)) rest)
+
 -- ---- of the whole map
 
 pub salvaged-follows : (m : ℕ) (keys classes : List ℕ) → Follow m 0 (firsts (salvaged m keys classes))
@@ -147,3 +175,8 @@ pub salvaged-same : (m : ℕ) (keys classes : List ℕ) → length keys ≡ leng
     → (firsts (salvaged m keys classes) ≡ keys) × (seconds (salvaged m keys classes) ≡ classes) × (entries m keys ≡ [])
 unfolding salvaged entries
 salvaged-same m keys classes same F = let S = all-kept m keys classes same F (mends-are m keys) in (S .keys-same, S .classes-same, S .log-empty)
+
+-- the log is empty exactly for a map without gaps
+pub log-empty : (m : ℕ) (keys classes : List ℕ) → length keys ≡ length classes → (entries m keys ≡ []) ↔ Follow m 0 keys
+unfolding entries
+log-empty m keys classes same = (λ e. unlogged m keys (omega arith) (mends-are m keys) (ap length e), λ F. salvaged-same m keys classes same F .2)

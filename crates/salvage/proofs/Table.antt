@@ -1,15 +1,24 @@
--- The table of the result's refusals, refusal by refusal.
+-- The tables of salvage, refusal by refusal, and what they pass.
 -- Assumes nothing.
-use mathlib.Core.Path.{_≡_, _∙_}
-use mathlib.Core.List.{_++_}
+use mathlib.Core.Path.{_≡_, refl, _∙_}
+use mathlib.Core.Logic.{_↔_}
+use mathlib.Core.Bool.{false}
+use mathlib.Core.List.{List, _++_}
 use Prim.Native.Nat.{ℕ, _*_, _≤_, _<_}
+use native.Mathlib.Omega.{arith}
 use lib.Dec.{ltb}
+use lib.ListN.{length}
 use borrow.Author.Tests.{ltb-false, lt-ltb, le-ltb}
 use Rattle.answers.specs.declared.Verdict.the-variants.{Passed, Refused}
 use Rattle.answers.specs.Refusals.{verdict}
-use Rattle.answers.specs.After.{roomRefusals}
-use Rattle.answers.proofs.Laws.{refusal-held, refusal-clear, append-passed, append-refused, passed-next, passed-append, room-passed, room-refused}
-use Rattle.salvage.specs.Salvage.{resultRefusals}
+use Rattle.answers.specs.Sizes.{sizeRefusalsIn}
+use Rattle.answers.specs.Cells.{overwrite}
+use Rattle.answers.specs.After.{after, unless, roomRefusals}
+use Rattle.answers.proofs.Laws.{refusal-held, refusal-clear, append-passed, append-refused, passed-next, passed-append, room-passed, room-refused, sized}
+use Rattle.answers.proofs.Laws.{Numbered, numbered-next, numbered-append, numbered-sizes, numbered-room}
+use Rattle.salvage.specs.declared.Salvaged.the-variants as salvaged-as
+use Rattle.salvage.specs.Salvage.{firsts, seconds, cells, salvaged, entries, resultRefusals, salvageRefusals, salvageOf}
+use Rattle.salvage.specs.Promises.{Salvageable}
 
 -- a result of q records, with n entries
 module _ (q n keys classes log : ℕ) where
@@ -50,3 +59,32 @@ module _ (q n keys classes log : ℕ) where
       let k = passed-append (roomRefusals keys q) _ .0 (t .1) in
       let c = passed-append (roomRefusals classes q) _ .0 (k .1) in
       (ltb-false 65536 q (t .0), room-passed keys q .0 (k .0), room-passed classes q .0 (c .0), room-passed log (2 * n) .0 (c .1))
+
+-- ---- all refusals
+
+module _ (m : ℕ) (keys classes : List ℕ) (out-keys out-classes log : ℕ) where
+  pub numbered-salvage : Numbered 8 (salvageRefusals m keys classes out-keys out-classes log)
+  unfolding salvageRefusals resultRefusals
+  numbered-salvage =
+      numbered-append (numbered-sizes false m (length keys) (length classes) (omega arith))
+      (numbered-next 2 (omega arith) (omega arith)
+      (numbered-append (numbered-room out-keys _ (omega arith)) (numbered-append (numbered-room out-classes _ (omega arith)) (numbered-room log _ (omega arith)))))
+
+  pub salvage-passed : (verdict (salvageRefusals m keys classes out-keys out-classes log) ≡ Passed) ↔ Salvageable m keys classes out-keys out-classes log
+  unfolding salvageRefusals
+  salvage-passed = (
+    λ e.
+        let t = passed-append (sizeRefusalsIn false m (length keys) (length classes)) _ .0 e in
+        let r = result-room _ _ _ _ _ (t .1) in
+        record { sizes = sized .0 (t .0); few = r .0; keys-room = r .1; classes-room = r .2; log-room = r .3 },
+    λ s. passed-append (sizeRefusalsIn false m (length keys) (length classes)) _ .1
+        (sized .1 (s .sizes), result-passed _ _ _ _ _ (s .few) (s .keys-room) (s .classes-room) (s .log-room)),
+  )
+
+-- an outcome behind them
+pub salvage-is : (m : ℕ) (keys classes K P L : List ℕ) → salvageOf m keys classes K P L ≡
+    unless salvaged-as.Refused (salvageRefusals m keys classes (length K) (length P) (length L)) (K, P, L)
+    (after (salvaged-as.Done (length (salvaged m keys classes)) (length (entries m keys)))
+    (overwrite (firsts (salvaged m keys classes)) K, overwrite (seconds (salvaged m keys classes)) P, overwrite (cells (entries m keys)) L))
+unfolding salvageOf
+salvage-is m keys classes K P L = refl

@@ -1,16 +1,17 @@
 -- The words in which the promises about salvage are said.
 -- Assumes nothing.
 use mathlib.Core.Path.{_≡_}
-use mathlib.Core.Bool.{Bool, _&&_}
+use mathlib.Core.Bool.{Bool, false, _&&_}
 use mathlib.Core.List.{List, [], _∷_, _++_, flatMap, List·Memᴰ}
-use Prim.Native.Nat.{ℕ, suc, _+_, _^_, _≤_, _<_}
+use Prim.Native.Nat.{ℕ, suc, _+_, _*_, _^_, _≤_, _<_}
 use lib.Dec.{ltb}
 use lib.ListN.{length, getD}
+use Rattle.answers.specs.Sizes.{SizedIn}
 use Rattle.key.specs.declared.Form.the-variants.{Malformed}
 use Rattle.key.specs.Form.{formOf}
 use Rattle.key.specs.Blocks.{Names}
 use Rattle.map.specs.Promises.{isFree}
-use Rattle.salvage.specs.Salvage.{Mend, kept, dropped, filled, fills}
+use Rattle.salvage.specs.Salvage.{Mend, kept, dropped, filled, fills, salvaged, entries}
 
 -- in plain words: so the records from n on are mended, where the last span kept ended at `at`
 pub data Mends (m : ℕ) (keys : List ℕ) : ℕ → ℕ → List Mend → Type 0 where
@@ -51,3 +52,11 @@ pub record Reached (m : ℕ) (keys : List ℕ) (es : List Mend) (n s : ℕ) : Ty
 -- of the picture, the places in no record that is kept
 unfoldable pub unkept : ℕ → List ℕ → List Mend → ℕ → Bool
 unkept m keys es q = ltb q (4 ^ m) && isFree m (flatMap (keyKept keys) es) q
+
+-- what salvage answers: slices of one length with no more records than a map may have, a result with no more either, and room for its keys, its classes and its log
+pub record Salvageable (m : ℕ) (keys classes : List ℕ) (out-keys out-classes log : ℕ) : Type 0 where
+  pub sizes : SizedIn false m (length keys) (length classes)
+  pub few : length (salvaged m keys classes) ≤ 65536
+  pub keys-room : length (salvaged m keys classes) ≤ out-keys
+  pub classes-room : length (salvaged m keys classes) ≤ out-classes
+  pub log-room : 2 * length (entries m keys) ≤ log
