@@ -22,11 +22,14 @@ typedef struct {
     uint16_t r0, c0, h, w;
 } window;
 
+/* lutniorad_read, or lutniorad_sparse_read, which takes a file of no record too. */
+typedef lutniorad_answer reading(const uint8_t *, size_t, uint32_t *, size_t, uint8_t *, size_t);
+
 /*
  * Reads a house file. False where the file cannot be opened or read, which is said on standard error. Otherwise
- * `answer` is what lutniorad_read says of its bytes.
+ * `answer` is what the call says of its bytes.
  */
-static inline int read_picture(const char *name, picture *to, lutniorad_answer *answer)
+static inline int read_picture_by(reading *call, const char *name, picture *to, lutniorad_answer *answer)
 {
     FILE *in = fopen(name, "rb");
     if (in == NULL) {
@@ -40,10 +43,15 @@ static inline int read_picture(const char *name, picture *to, lutniorad_answer *
         fprintf(stderr, "%s: cannot be read\n", name);
         return 0;
     }
-    *answer = lutniorad_read(to->file, length, to->keys, LUTNIORAD_MOST_RECORDS, to->classes, LUTNIORAD_MOST_RECORDS);
+    *answer = call(to->file, length, to->keys, LUTNIORAD_MOST_RECORDS, to->classes, LUTNIORAD_MOST_RECORDS);
     to->m = answer->first;
     to->q = answer->second;
     return 1;
+}
+
+static inline int read_picture(const char *name, picture *to, lutniorad_answer *answer)
+{
+    return read_picture_by(lutniorad_read, name, to, answer);
 }
 
 /* False where the text is no number, or one that is over `most`. */

@@ -10,7 +10,8 @@
  * key 7 (digits 1 2) the pixel in row 0, column 1.
  *
  * A CLASS is what was seen in a block, one byte. 255 marks what the camera did not see. lutniorad_exist and
- * lutniorad_sparse_exist know that, and say where they cannot tell; for all other calls 255 is a class like any other.
+ * lutniorad_sparse_exist know that, and say where they cannot tell, and lutniorad_salvage fills gaps with it; for all
+ * other calls 255 is a class like any other.
  *
  * A MAP is m and a list of RECORDS, a key and a class each: two slices of the same length Q, from 1 to 65,536. A map is
  * sound when its blocks, in the order of the list, go through all pixels once in the order of their keys: the first
@@ -119,10 +120,10 @@
  * one call takes what the loader needs besides: up to 6,504 bytes together were seen, and elsewhere it may be more.
  * Link with `-static`, or with `-Wl,-z,now`, where stacks are small, as for a signal handler or a thread.
  *
- * WHAT A CALL COSTS. Each call that takes a map, but for those that write a file, checks the whole of it first,
- * whatever was checked before: some 21 instructions for each record, 1.4 million for the longest map, which take a
- * fraction of a millisecond. On a sparse map each record behind a gap takes some 180 more. Behind that it goes by the
- * records and blocks of the window and not by its pixels; but with tiles of one pixel each of these is a block.
+ * WHAT A CALL COSTS. Each call that takes a map, but for lutniorad_salvage and those that write a file, checks all of
+ * it first, whatever was checked before: some 21 instructions for each record, 1.4 million for the longest map, which
+ * take a fraction of a millisecond. On a sparse map each record behind a gap takes some 180 more. Behind that it goes
+ * by the records and blocks of the window and not by its pixels; but with tiles of one pixel each of these is a block.
  * lutniorad_windows checks the map once for up to 256 windows.
  *
  * CLASSES are numbers of the caller's own. Which of them is scum the library does not know; 255 alone has a meaning.
@@ -137,9 +138,9 @@
 
 /* The version of this header and of the library that belongs to it, as numbers and as text. */
 #define LUTNIORAD_VERSION_MAJOR 1 /* rises when a program made for the last one may have to be changed */
-#define LUTNIORAD_VERSION_MINOR 4 /* rises when there are more calls */
+#define LUTNIORAD_VERSION_MINOR 5 /* rises when there are more calls */
 #define LUTNIORAD_VERSION_PATCH 0
-#define LUTNIORAD_VERSION "1.4.0"
+#define LUTNIORAD_VERSION "1.5.0"
 
 /* The limits. */
 #define LUTNIORAD_MOST_M 12
@@ -167,6 +168,7 @@
 #define LUTNIORAD_SELECT_TILED_CELLS(tile, q, h, w) ((size_t)(q) + LUTNIORAD_DECOMPOSE_TILED_CELLS(tile, h, w))
 #define LUTNIORAD_FILE_BYTES(q) (20 + 5 * (size_t)(q)) /* just so many */
 #define LUTNIORAD_WINDOWS_CELLS(windows) (5 * (size_t)(windows)) /* just so many, for so many windows */
+#define LUTNIORAD_SALVAGE_LOG_CELLS(q) (2 * (LUTNIORAD_MOST_RECORDS + (size_t)(q))) /* of a broken map of q records */
 
 #ifdef __cplusplus
 extern "C" {
@@ -197,7 +199,7 @@ typedef struct {
  */
 #define LUTNIORAD_REFUSALS(REFUSAL) \
     REFUSAL(LUTNIORAD_BAD_M, 1, "m is over 12") \
-    REFUSAL(LUTNIORAD_BAD_COUNT, 2, "keys and classes differ in number, are over 65,536, or a complete map has none") \
+    REFUSAL(LUTNIORAD_BAD_COUNT, 2, "keys and classes differ in number, go over 65,536, or a complete map has none") \
     REFUSAL(LUTNIORAD_BAD_KEY, 3, "the key of a record names no block") /* index, from 0 */ \
     REFUSAL(LUTNIORAD_OVERLAP, 4, "a record starts before the last one ended") /* index, from 0 */ \
     REFUSAL(LUTNIORAD_GAP, 5, "a record starts after the last one ended, or the list ends early") /* index, or Q */ \
@@ -708,6 +710,42 @@ lutniorad_answer lutniorad_sparse_write(uint32_t m,
                                         const uint32_t *keys, size_t n_keys,
                                         const uint8_t *classes, size_t n_classes,
                                         uint8_t *out, size_t n_out);
+
+/*
+ * Makes a sound map of a broken one, of which a fault on its way has left records missing or garbled.
+ *
+ * Goes through the records in their order. One whose key names no block is dropped, by 3. One that starts before the
+ * end of the last record kept is dropped, by 4. Any other is kept, key and class as they are; and where it starts
+ * behind that end, the gap before it is filled first, by 5: with the fewest blocks that make it up, all of class 255.
+ * So is what is left of the picture behind the last record kept. A map of no record becomes one block. Nothing is
+ * guessed: a garbled key that names some block further on is kept, and then right records that start before the end of
+ * that block are dropped.
+ *
+ * Answers `first` = Q of the map so made, `second` = the number of entries in the log. The first Q cells of `out_keys`
+ * and of `out_classes` are then that map, and the first 2 * `second` cells of `log` are the entries, one after another,
+ * in the order in which all this was done:
+ *
+ *     index, 3 or 4     for a record dropped, as they came, from 0
+ *     key, 5            for a block filled in
+ *
+ * The map so made is sound. A sound map comes back the same, with no entry; and where there is no entry the map was
+ * sound. `out_keys` and `out_classes` of LUTNIORAD_MOST_RECORDS cells each are always long enough, and so is a `log` of
+ * 2 * (65,536 + n_keys) cells, which is LUTNIORAD_SALVAGE_LOG_CELLS(n_keys). Any of them may be longer than is needed.
+ *
+ * With the keys 5, 11, 26, 11, 14, 20 and the classes 1, 2, 2, 3, 1, 2 at m = 2, `first` is 7 and `second` is 5: the
+ * map has the keys 5, 11, 12, 13, 14, 15, 20 and the classes 1, 2, 255, 255, 1, 255, 2, and the log is 2 3, 3 4, 12 5,
+ * 13 5, 15 5.
+ *
+ * Refuses by 1; 2 when `n_keys` and `n_classes` differ or are over 65,536, or when Q would be over 65,536; 8, with
+ * place Q, when `out_keys` or `out_classes` has fewer than Q cells; and 8, with twice the number of entries as place,
+ * when `log` is shorter than that. A refusal writes nothing.
+ */
+lutniorad_answer lutniorad_salvage(uint32_t m,
+                                   const uint32_t *keys, size_t n_keys,
+                                   const uint8_t *classes, size_t n_classes,
+                                   uint32_t *out_keys, size_t n_out_keys,
+                                   uint8_t *out_classes, size_t n_out_classes,
+                                   uint32_t *log, size_t n_log);
 
 #ifdef __cplusplus
 }

@@ -15,6 +15,7 @@
 #include "months.h"
 #include "pairs.h"
 #include "queries.h"
+#include "salvage.h"
 #include "sparse.h"
 #include "tiles.h"
 #include "views.h"
@@ -204,23 +205,9 @@ static void group_written_out(void)
 
 /* ---- Group: key lists ---- */
 
-/* Every list of up to `longest` keys from 0 to `values` - 1. */
-static void every_list(uint32_t m, size_t values, size_t longest)
+static void check_list(void)
 {
-    size_t lists = 1;
-    for (size_t q = 0; q <= longest; q++) {
-        for (size_t list = 0; list < lists; list++) {
-            if (!begin_case())
-                continue;
-            damaged.m = m;
-            damaged.q = q;
-            for (size_t i = 0, rest = list; i < q; i++, rest /= values)
-                damaged.keys[i] = (uint32_t)(rest % values);
-            paint(&damaged, RANDOM);
-            compare_check(&damaged, q, q);
-        }
-        lists *= values;
-    }
+    compare_check(&damaged, damaged.q, damaged.q);
 }
 
 /* Keys about each power of 5, alone and two together: all digits 0, 1 or 4; one digit among zeros; 5^m and beyond. */
@@ -244,9 +231,9 @@ static void keys_about_powers(uint32_t m)
 
 static void group_key_lists(void)
 {
-    every_list(0, 4, 4);
-    every_list(1, 7, 5);
-    every_list(2, 27, 3);
+    for_key_lists(&damaged, 0, 4, 4, check_list);
+    for_key_lists(&damaged, 1, 7, 5, check_list);
+    for_key_lists(&damaged, 2, 27, 3, check_list);
     for (uint32_t m = 0; m <= 12; m++)
         if (begin_case())
             keys_about_powers(m);
@@ -267,27 +254,19 @@ static void every_m(void)
     }
 }
 
-/* Each key set to each number up to beyond 5^m, and to some far beyond. */
+static void try_damaged(void)
+{
+    try_map(&damaged);
+}
+
 static void every_key(void)
 {
-    const uint32_t beyond = power_of_5(sound.m) + 7;
-    const uint32_t far[] = {125, 625, 65536, 1u << 31, (1u << 31) + 5, UINT32_MAX - 1, UINT32_MAX};
-    for (size_t i = 0; i < sound.q; i++)
-        for (uint32_t k = 0; k < beyond + COUNT(far); k++) {
-            copy_map(&damaged, &sound);
-            damaged.keys[i] = k < beyond ? k : far[k - beyond];
-            try_map(&damaged);
-        }
+    for_every_key(&sound, &damaged, try_damaged);
 }
 
 static void every_damage(void)
 {
-    for (size_t i = 0; i < sound.q; i++)
-        for (size_t k = 0; k < n_damages; k++) {
-            copy_map(&damaged, &sound);
-            damage(&damaged, k, i);
-            try_map(&damaged);
-        }
+    for_every_damage(&sound, &damaged, try_damaged);
 }
 
 static void group_small_maps(void)
@@ -636,6 +615,16 @@ static const group groups[] = {
     {"large sparse maps", group_large_sparse_maps, true},
     {"random sparse maps", group_random_sparse_maps, true},
     {"single pixels", group_single_pixels, true},
+    {"salvage written out", group_salvage_written_out, false},
+    {"salvage of key lists", group_salvage_of_key_lists, false},
+    {"lengths of salvage", group_salvage_lengths, false},
+    {"refusals of salvage", group_salvage_refusals, false},
+    {"salvage of small maps", group_salvage_of_small_maps, false},
+    {"salvage of broken maps", group_salvage_of_broken_maps, true},
+    {"salvage of digits", group_salvage_of_digits, true},
+    {"most records of salvage", group_most_salvaged, true},
+    {"vast slices of salvage", group_vast_salvage, false},
+    {"random salvage", group_random_salvage, true},
 };
 
 int main(int argc, char **argv)

@@ -269,14 +269,8 @@ static void count_openings(const map *a, uint32_t tile, window at)
 /* Of four keys in the list: are they the quadrants of a block that a tile and the window have room for? */
 static bool might_be_one(uint32_t m, const uint32_t *keys, uint32_t tile, window at)
 {
-    const size_t side = side_of_block(m, keys[0]);
-    uint32_t place = 1;
-    for (size_t i = 1; i < side; i *= 2)
-        place *= 5;
-    for (uint32_t i = 1; i < 4; i++)
-        if (keys[i] != keys[0] + i * place)
-            return false;
-    return keys[0] / place % 5 == 1 && 2 * side <= side_of(tile) && reference_lies_in(m, keys[0] - place, at);
+    return are_quadrants(m, keys) && 2 * side_of_block(m, keys[0]) <= side_of(tile)
+           && reference_lies_in(m, parent_of(m, keys[0]), at);
 }
 
 /* The keys of a map rise. */

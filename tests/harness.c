@@ -85,6 +85,8 @@ typedef struct {
                                       size_t);
     lutniorad_answer (*sparse_read)(const uint8_t *, size_t, uint32_t *, size_t, uint8_t *, size_t);
     lutniorad_answer (*sparse_write)(uint32_t, const uint32_t *, size_t, const uint8_t *, size_t, uint8_t *, size_t);
+    lutniorad_answer (*salvage)(uint32_t, const uint32_t *, size_t, const uint8_t *, size_t, uint32_t *, size_t,
+                                uint8_t *, size_t, uint32_t *, size_t);
 } program;
 
 static const program library = {
@@ -95,7 +97,7 @@ static const program library = {
     lutniorad_select_tiled, lutniorad_windows,         lutniorad_why_record,
     lutniorad_why_block,    lutniorad_sparse_check,    lutniorad_sparse_open,
     lutniorad_sparse_exist, lutniorad_sparse_report,   lutniorad_sparse_select,
-    lutniorad_sparse_read,  lutniorad_sparse_write,
+    lutniorad_sparse_read,  lutniorad_sparse_write,    lutniorad_salvage,
 };
 static const program reference = {
     reference_check,        reference_decompose,       reference_open,
@@ -105,7 +107,7 @@ static const program reference = {
     reference_select_tiled, reference_windows,         reference_why_record,
     reference_why_block,    reference_sparse_check,    reference_sparse_open,
     reference_sparse_exist, reference_sparse_report,   reference_sparse_select,
-    reference_sparse_read,  reference_sparse_write,
+    reference_sparse_read,  reference_sparse_write,    reference_salvage,
 };
 
 uint32_t over(uint8_t background, uint8_t of_class)
@@ -243,6 +245,12 @@ static lutniorad_answer run_sparse_write(const program *p, const call *c, const 
     return p->sparse_write(c->m, s[0].cells, s[0].length, s[1].cells, s[1].length, s[2].cells, s[2].length);
 }
 
+static lutniorad_answer run_salvage(const program *p, const call *c, const slice *s)
+{
+    return p->salvage(c->m, s[0].cells, s[0].length, s[1].cells, s[1].length, s[2].cells, s[2].length, s[3].cells,
+                      s[3].length, s[4].cells, s[4].length);
+}
+
 static lutniorad_reason explain(const program *p, const call *c, const slice *s)
 {
     explanation *why = c->operation == &WHY_RECORD ? p->why_record : p->why_block;
@@ -308,12 +316,14 @@ const operation SPARSE_SELECT = {"sparse_select",
                                  {{"keys", 4}, {"classes", 1}, {"border", 2}, {"out", 4}}};
 const operation SPARSE_READ = {"sparse_read", run_sparse_read, 0, 3, {{"file", 1}, {"keys", 4}, {"classes", 1}}};
 const operation SPARSE_WRITE = {"sparse_write", run_sparse_write, M, 3, {{"keys", 4}, {"classes", 1}, {"out", 1}}};
+const operation SALVAGE = {
+    "salvage", run_salvage, M, 5, {{"keys", 4}, {"classes", 1}, {"out_keys", 4}, {"out_classes", 1}, {"log", 4}}};
 
 static const operation *const operations[] = {
     &CHECK,        &DECOMPOSE,     &OPEN,          &EXIST,       &REPORT,          &SELECT,
     &MONTH_CLEAR,  &MONTH_ADD,     &READ,          &WRITE,       &DECOMPOSE_TILED, &OPEN_TILED,
     &SELECT_TILED, &WINDOWS,       &WHY_RECORD,    &WHY_BLOCK,   &SPARSE_CHECK,    &SPARSE_OPEN,
-    &SPARSE_EXIST, &SPARSE_REPORT, &SPARSE_SELECT, &SPARSE_READ, &SPARSE_WRITE};
+    &SPARSE_EXIST, &SPARSE_REPORT, &SPARSE_SELECT, &SPARSE_READ, &SPARSE_WRITE,    &SALVAGE};
 
 /* What a call returned, number by number: the four of an answer, or the five of a reason. */
 enum { NUMBERS_OF_ANSWER = 4, NUMBERS_OF_REASON = 5 };
@@ -476,7 +486,8 @@ void require_reason(lutniorad_reason stated)
  * no reason to touch more than its first cells, and these are what is laid out and compared.
  */
 enum { LIBRARY, REFERENCE, SIDES };
-enum { ROUNDS = 2, GUARD = 17, ROOM = PAINTED /* the garbage paints stacks too */, FENCE = 1 << 16, WIDEST_CELL = 8 };
+enum { ROUNDS = 2, GUARD = 17, FENCE = 1 << 16, WIDEST_CELL = 8 };
+enum { ROOM = 3 * PAINTED }; /* twice the longest log, and more; and the garbage, which paints stacks too, is as long */
 
 static unsigned char *rooms[SIDES][MOST_SLICES];
 static unsigned char *vast_rooms[MOST_SLICES];

@@ -43,6 +43,7 @@ typedef struct operation operation;
 extern const operation CHECK, DECOMPOSE, OPEN, EXIST, REPORT, SELECT, MONTH_CLEAR, MONTH_ADD, READ, WRITE;
 extern const operation DECOMPOSE_TILED, OPEN_TILED, SELECT_TILED, WINDOWS, WHY_RECORD, WHY_BLOCK;
 extern const operation SPARSE_CHECK, SPARSE_OPEN, SPARSE_EXIST, SPARSE_REPORT, SPARSE_SELECT, SPARSE_READ, SPARSE_WRITE;
+extern const operation SALVAGE;
 
 enum { MOST_SLICES = 5 };
 

@@ -22,8 +22,7 @@ static uint32_t pixels(uint32_t exponent)
     return (uint32_t)1 << 2 * exponent;
 }
 
-/* The key of the block of an exponent that starts at a place. */
-static uint32_t key_at(uint32_t m, uint32_t exponent, uint32_t place)
+uint32_t key_at(uint32_t m, uint32_t exponent, uint32_t place)
 {
     uint32_t key = 0;
     for (uint32_t k = m; k-- > 0;)
@@ -80,8 +79,7 @@ void group_every_number(void)
 
 /* ---- Group: digits ---- */
 
-/* A number of m digits, from 1 to 4 at random, but for those that are 0. */
-static uint32_t number_without(uint32_t m, uint32_t zeros)
+uint32_t number_without(uint32_t m, uint32_t zeros)
 {
     uint32_t number = 0;
     for (uint32_t k = m; k-- > 0;)

@@ -124,6 +124,24 @@ void for_small_maps(map *a, void (*run)(void), int paints)
                 }
 }
 
+void for_key_lists(map *a, uint32_t m, size_t values, size_t longest, void (*run)(void))
+{
+    size_t lists = 1;
+    for (size_t q = 0; q <= longest; q++) {
+        for (size_t list = 0; list < lists; list++) {
+            if (!begin_case())
+                continue;
+            a->m = m;
+            a->q = q;
+            for (size_t i = 0, rest = list; i < q; i++, rest /= values + 1)
+                a->keys[i] = rest % (values + 1) < values ? (uint32_t)(rest % (values + 1)) : UINT32_MAX;
+            paint(a, FEW);
+            run();
+        }
+        lists *= values + 1;
+    }
+}
+
 /* ---- Damaged maps ---- */
 
 static void insert_record(map *a, size_t i, uint32_t key)
@@ -135,7 +153,7 @@ static void insert_record(map *a, size_t i, uint32_t key)
     a->q++;
 }
 
-static void drop(map *a, size_t i)
+void drop(map *a, size_t i)
 {
     a->q--;
     memmove(a->keys + i, a->keys + i + 1, (a->q - i) * sizeof *a->keys);
@@ -182,6 +200,21 @@ size_t side_of_block(uint32_t m, uint32_t key)
     return side;
 }
 
+bool are_quadrants(uint32_t m, const uint32_t keys[4])
+{
+    const uint32_t place = last_place(m, keys[0]);
+    for (uint32_t i = 1; i < 4; i++)
+        if (keys[i] != keys[0] + i * place)
+            return false;
+    return keys[0] / place % 5 == 1;
+}
+
+uint32_t parent_of(uint32_t m, uint32_t key)
+{
+    const uint32_t place = last_place(m, key);
+    return key - key / place % 5 * place;
+}
+
 bool cut_record(map *a, size_t i)
 {
     const uint32_t key = a->keys[i], place = last_place(a->m, key) / 5;
@@ -199,15 +232,11 @@ bool cut_record(map *a, size_t i)
 
 bool merge_record(map *a, size_t i)
 {
-    const uint32_t key = a->keys[i], place = last_place(a->m, key), digit = key / place % 5;
-    const uint32_t parent = key - digit * place;
+    const uint32_t key = a->keys[i], digit = key / last_place(a->m, key) % 5;
     const size_t first = i + 1 - digit; /* of the four */
-    if (digit == 0 || i + 1 < digit || first + 4 > a->q)
+    if (digit == 0 || i + 1 < digit || first + 4 > a->q || !are_quadrants(a->m, a->keys + first))
         return false;
-    for (uint32_t k = 0; k < 4; k++)
-        if (a->keys[first + k] != parent + (k + 1) * place)
-            return false;
-    a->keys[first] = parent;
+    a->keys[first] = parent_of(a->m, key);
     a->classes[first] = a->classes[i];
     for (int times = 0; times < 3; times++)
         drop(a, first + 1);
@@ -216,11 +245,10 @@ bool merge_record(map *a, size_t i)
 
 static void take_parent(map *a, size_t i)
 {
-    uint32_t place = last_place(a->m, a->keys[i]);
-    a->keys[i] -= a->keys[i] / place % 5 * place;
+    a->keys[i] = parent_of(a->m, a->keys[i]);
 }
 
-static void take_first_child(map *a, size_t i)
+void take_first_child(map *a, size_t i)
 {
     a->keys[i] += last_place(a->m, a->keys[i]) / 5;
 }
@@ -279,6 +307,28 @@ const size_t n_damages = COUNT(damages);
 void damage(map *a, size_t how, size_t i)
 {
     damages[how](a, i);
+}
+
+void for_every_damage(const map *a, map *damaged, void (*run)(void))
+{
+    for (size_t i = 0; i < a->q; i++)
+        for (size_t k = 0; k < n_damages; k++) {
+            copy_map(damaged, a);
+            damage(damaged, k, i);
+            run();
+        }
+}
+
+void for_every_key(const map *a, map *damaged, void (*run)(void))
+{
+    const uint32_t beyond = power_of_5(a->m) + 7;
+    const uint32_t far[] = {125, 625, 65536, 1u << 31, (1u << 31) + 5, UINT32_MAX - 1, UINT32_MAX};
+    for (size_t i = 0; i < a->q; i++)
+        for (uint32_t k = 0; k < beyond + COUNT(far); k++) {
+            copy_map(damaged, a);
+            damaged->keys[i] = k < beyond ? k : far[k - beyond];
+            run();
+        }
 }
 
 /* Some record of a map, often one of the first or the last. */

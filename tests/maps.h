@@ -64,11 +64,23 @@ void paint(map *a, int how);
 /* Makes every picture up to m = 2, in the first so many paints, and calls `run` after each. That is one case. */
 void for_small_maps(map *a, void (*run)(void), int paints);
 
+/*
+ * Makes every list of up to `longest` keys, from 0 to `values` - 1 and 2^32 - 1, in few classes, and calls `run` after
+ * each. That is one case.
+ */
+void for_key_lists(map *a, uint32_t m, size_t values, size_t longest, void (*run)(void));
+
 /* A class to ask about: mostly that of a record, or else any, and often 0 or 255. */
 uint8_t some_class(const map *a);
 
 /* The side of a key's block. */
 size_t side_of_block(uint32_t m, uint32_t key);
+
+/* Are these four, in their order, the quadrants of one block? */
+bool are_quadrants(uint32_t m, const uint32_t keys[4]);
+
+/* The key of the block of twice the side around this one; of key 0 itself. */
+uint32_t parent_of(uint32_t m, uint32_t key);
 
 /*
  * Cuts the block of record i in four, or merges the four of which it is one. The class of the record is that of all
@@ -87,8 +99,19 @@ void damage(map *a, size_t how, size_t i);
 /* One or two damages at some records, often at one of the first or the last. */
 void damage_at_random(map *a);
 
-/* Two of the damages. The first appends the key of record i. */
+/* Does to a sound map each damage at each record, by turns, and calls `run` after each. */
+void for_every_damage(const map *a, map *damaged, void (*run)(void));
+
+/* Sets each key of a sound map, by turns, to each number up to beyond 5^m and to some far beyond, and calls `run`. */
+void for_every_key(const map *a, map *damaged, void (*run)(void));
+
+/* Some of the damages. The first appends the key of record i. */
 void append(map *a, size_t i);
+
+void drop(map *a, size_t i);
+
+/* The record becomes the north-west quadrant of its block. A pixel stays as it is. */
+void take_first_child(map *a, size_t i);
 
 /* The same records in a quadrant of a picture of twice the side. */
 void become_a_quadrant(map *a, size_t i);

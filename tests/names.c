@@ -42,7 +42,7 @@ static uint16_t r0, border[WIDTH];
 static const uint16_t list[] = {0, 1, 3, WIDTH, 3, 0, 1, 1};
 static uint8_t classes[Q], file[LUTNIORAD_FILE_BYTES(Q)];
 static uint64_t table[LUTNIORAD_MONTH_CELLS];
-static size_t n_keys, n_classes, n_list, n_border, n_totals;
+static size_t n_keys, n_classes, n_list, n_border, n_totals, n_mended, n_log;
 
 static void begin(void)
 {
@@ -58,6 +58,8 @@ static void begin(void)
     n_list = COUNT(list);
     n_border = WIDTH;
     n_totals = LUTNIORAD_CLASSES;
+    n_mended = Q;
+    n_log = 2;
     lutniorad_write(m, keys, Q, classes, Q, file, sizeof file);
     lutniorad_month_clear(m, r0, 1, 3, WIDTH, table, COUNT(table));
 }
@@ -88,6 +90,15 @@ static lutniorad_answer sparse_open(void)
 static lutniorad_answer sparse_read(void)
 {
     return lutniorad_sparse_read(file, sizeof file, keys, n_keys, classes, n_classes);
+}
+
+/* The first record is missing: it is filled in, and that is the only entry. */
+static lutniorad_answer salvage(void)
+{
+    static uint32_t mended[Q], log_of_one[2];
+    static uint8_t mended_classes[Q];
+    return lutniorad_salvage(m, keys + 1, n_keys - 1, classes + 1, n_classes - 1, mended, n_mended, mended_classes,
+                             n_mended, log_of_one, n_log);
 }
 
 static lutniorad_answer many(void)
@@ -168,6 +179,16 @@ static void short_totals(void)
     n_totals = LUTNIORAD_CLASSES - 1;
 }
 
+static void short_map(void)
+{
+    n_mended = Q - 1;
+}
+
+static void short_log(void)
+{
+    n_log = 1;
+}
+
 static void keys_elsewhere(void)
 {
     file[12]++;
@@ -239,6 +260,10 @@ static const struct {
     {LUTNIORAD_SHORT_ROOM, LUTNIORAD_CLASSES, short_totals, sparse_report},
     {LUTNIORAD_BAD_LAYOUT, 12, keys_elsewhere, sparse_read},
     {LUTNIORAD_BAD_TILE, 0, tile_beyond_picture, sparse_open},
+    {LUTNIORAD_BAD_M, 0, no_such_m, salvage},
+    {LUTNIORAD_BAD_COUNT, 0, fewer_classes, salvage},
+    {LUTNIORAD_SHORT_ROOM, Q, short_map, salvage},
+    {LUTNIORAD_SHORT_ROOM, 2, short_log, salvage},
 };
 
 #define NAMED(name, number, sentence) {#name, number, sentence},
@@ -349,6 +374,15 @@ static lutniorad_answer sparse_check(size_t q)
     return lutniorad_sparse_check(a.m, a.keys, q, a.classes, q);
 }
 
+/* The first q records, into a map and a log that are always long enough. */
+static uint32_t longest_log[LUTNIORAD_SALVAGE_LOG_CELLS(LUTNIORAD_MOST_RECORDS)];
+
+static lutniorad_answer salvage_first(size_t q)
+{
+    return lutniorad_salvage(a.m, a.keys, q, a.classes, q, b.keys, LUTNIORAD_MOST_RECORDS, b.classes,
+                             LUTNIORAD_MOST_RECORDS, longest_log, LUTNIORAD_SALVAGE_LOG_CELLS(q));
+}
+
 static lutniorad_answer decompose(uint16_t h, uint16_t w)
 {
     static uint32_t one[1];
@@ -383,6 +417,8 @@ static void hold_longest(void)
     hold_answer(check(a.m, (size_t)q + 1), LUTNIORAD_BAD_COUNT, 0, 0, "LUTNIORAD_MOST_RECORDS");
     hold_answer(sparse_check(q), 0, 0, q, "LUTNIORAD_MOST_RECORDS");
     hold_answer(sparse_check((size_t)q + 1), LUTNIORAD_BAD_COUNT, 0, 0, "LUTNIORAD_MOST_RECORDS");
+    hold_answer(salvage_first(q), 0, 0, q, "LUTNIORAD_MOST_RECORDS");
+    hold_answer(salvage_first((size_t)q + 1), LUTNIORAD_BAD_COUNT, 0, 0, "LUTNIORAD_MOST_RECORDS");
     hold_answer(lutniorad_write(a.m, a.keys, q, a.classes, q, bytes, sizeof bytes), 0, 0, n,
                 "LUTNIORAD_MOST_FILE_BYTES");
     hold_answer(lutniorad_read(bytes, n, a.keys, q, a.classes, q), 0, 0, a.m, "LUTNIORAD_MOST_FILE_BYTES");
@@ -448,6 +484,31 @@ static void hold_windows(void)
     hold_answer(windows(most + 1, COUNT(counted)), LUTNIORAD_BAD_WINDOW_LIST, 0, 0, "LUTNIORAD_MOST_WINDOWS");
 }
 
+/*
+ * Nearly as many entries as there can be: as many records as a map may have, of which one in twenty is the first pixel
+ * of the next block of side 64, and the others name no block. In each of these blocks 18 are filled in.
+ */
+static void hold_longest_log(void)
+{
+    enum { TO_PIXEL = (15625 - 1) / 4, APART = 20 };
+    make_even_map(&b, LUTNIORAD_MOST_M, 6, 1);
+    make_even_map(&a, LUTNIORAD_MOST_M, 8, 1);
+    for (size_t i = 0; i < LUTNIORAD_MOST_RECORDS; i++)
+        a.keys[i] = i % APART == 0 ? b.keys[i / APART] + TO_PIXEL : UINT32_MAX;
+    const lutniorad_answer made = salvage_first(LUTNIORAD_MOST_RECORDS);
+    hold_answer(made, 0, 0, 62272, "LUTNIORAD_SALVAGE_LOG_CELLS");
+    hold(made.second == 121254, "LUTNIORAD_SALVAGE_LOG_CELLS", "there are not 121,254 entries");
+}
+
+/* Of the longest map the first record has become a quarter of its block: the other three would be filled in. */
+static void hold_most_mended(void)
+{
+    make_even_map(&a, LUTNIORAD_MOST_M, 8, 1);
+    hold_answer(salvage_first(a.q), 0, 0, LUTNIORAD_MOST_RECORDS, "LUTNIORAD_MOST_RECORDS");
+    a.keys[0] += 125;
+    hold_answer(salvage_first(a.q), LUTNIORAD_BAD_COUNT, 0, 0, "LUTNIORAD_MOST_RECORDS");
+}
+
 static void hold_arguments(void)
 {
     int q = 1, h = 2, w = 3;
@@ -456,7 +517,9 @@ static void hold_arguments(void)
     hold(2 * LUTNIORAD_SELECT_CELLS(q++, h++, w++) == 74, "LUTNIORAD_SELECT_CELLS", "of 1, 4 and 5 it is not 37");
     hold(2 * LUTNIORAD_FILE_BYTES(q++) == 60, "LUTNIORAD_FILE_BYTES", "of 2 it is not 30");
     hold(2 * LUTNIORAD_WINDOWS_CELLS(1 + q++) == 40, "LUTNIORAD_WINDOWS_CELLS", "of 4 it is not 20");
-    hold(q == 4 && h == 5 && w == 6, "room", "an argument is not taken once");
+    hold(2 * LUTNIORAD_SALVAGE_LOG_CELLS(1 + q++) == 4 * 65541, "LUTNIORAD_SALVAGE_LOG_CELLS",
+         "of 5 it is not 2 * 65,541");
+    hold(q == 5 && h == 5 && w == 6, "room", "an argument is not taken once");
 }
 
 /* Those with a tile take h and w twice, and the others once. */
@@ -600,6 +663,8 @@ int main(void)
     hold_not_seen();
     hold_version();
     hold_windows();
+    hold_longest_log();
+    hold_most_mended();
     hold_arguments();
     hold_arguments_with_tile();
     for (uint32_t of_m = 0; of_m <= 4; of_m++)

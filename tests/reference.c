@@ -377,23 +377,38 @@ bool reference_raster(uint32_t m, const uint32_t *keys, size_t q, window at, uin
 /* The raster of the window at hand: for each pixel the record that it lies in, or NO_RECORD. */
 static uint32_t records[MOST_PIXELS];
 
+/* A map and a window that something was made for, so that it need not be made again. */
+typedef struct {
+    bool is_kept;
+    uint32_t m, keys[MOST_RECORDS];
+    uint64_t q;
+    window at;
+} made_for;
+
+static bool is_for(const made_for *kept, lent_map on, window at)
+{
+    return kept->is_kept && on.m == kept->m && on.n_keys == kept->q && same_window(at, kept->at)
+           && memcmp(on.keys, kept->keys, on.n_keys * sizeof *on.keys) == 0;
+}
+
+static void keep_for(made_for *kept, lent_map on, window at)
+{
+    kept->is_kept = true;
+    kept->m = on.m;
+    kept->q = on.n_keys;
+    kept->at = at;
+    memcpy(kept->keys, on.keys, on.n_keys * sizeof *on.keys);
+}
+
 /* Paints the records of a sound map. As with the maximal blocks, what was painted last is kept. */
 static void paint_records(lent_map on, window at)
 {
-    static bool is_kept;
-    static uint32_t kept_m, kept_keys[MOST_RECORDS];
-    static uint64_t kept_q;
-    static window kept_at;
-    bool same = is_kept && on.m == kept_m && on.n_keys == kept_q && same_window(at, kept_at);
-    if (same && memcmp(on.keys, kept_keys, on.n_keys * sizeof *on.keys) == 0)
+    static made_for last;
+    if (is_for(&last, on, at))
         return;
     if (!(on.kind == COMPLETE ? reference_raster : reference_sparse_raster)(on.m, on.keys, on.n_keys, at, records))
         abort();
-    is_kept = true;
-    kept_m = on.m;
-    kept_q = on.n_keys;
-    kept_at = at;
-    memcpy(kept_keys, on.keys, on.n_keys * sizeof *on.keys);
+    keep_for(&last, on, at);
 }
 
 /* What every answer about a window on a sound map has: the records painted, and the border as it is in the end. */
@@ -810,11 +825,16 @@ lutniorad_answer reference_sparse_report(uint32_t m, uint8_t background,
                          n_totals);
 }
 
-/* Room for the keys of as many blocks as have room in any window. */
+/* A block that lies in one record, or with all its pixels in none: then that is NO_RECORD. */
+typedef struct {
+    uint32_t key, record;
+} piece;
+
+/* Room for as many as any window has pixels. */
 typedef struct {
     uint64_t n;
-    uint64_t keys[MOST_PIXELS];
-} key_list;
+    piece pieces[MOST_PIXELS];
+} piece_list;
 
 /* Has the block no pixel in a record? */
 static bool lies_in_gap(square block, window at)
@@ -827,40 +847,51 @@ static bool lies_in_gap(square block, window at)
 }
 
 /*
- * Lists what the block has of the class. Where it lies in one record, or in none with all its pixels, that is the block
- * itself or nothing. Otherwise it is cut in four, and so on. What comes of that, in the order of the keys, are the
- * records inside it, for no record is cut; and the largest blocks in its gaps, of which each gap has the fewest.
+ * Lists the pieces of a block. Where it lies in one record, or in none with all its pixels, that is the block itself.
+ * Otherwise it is cut in four, and so on. What comes of that, in the order of the keys, are the records inside it, for
+ * no record is cut; and the largest blocks in its gaps, of which each gap has the fewest.
  */
-static void select_from(lent_map on, square block, window at, uint8_t of_class, key_list *list)
+static void list_pieces(uint32_t m, square block, window at, piece_list *list)
 {
     uint32_t around = record_around(block, at);
     uint64_t half = block.side / 2;
     if (around != NO_RECORD || lies_in_gap(block, at)) {
-        if (class_of(on, around) == of_class)
-            list->keys[list->n++] = key_of(block, side_of_picture(on.m));
+        piece whole = {(uint32_t)key_of(block, side_of_picture(m)), around};
+        list->pieces[list->n++] = whole;
         return;
     }
     for (uint64_t i = 0; i < 4; i++) {
         square quadrant = {block.row + i / 2 * half, block.col + i % 2 * half, half};
-        select_from(on, quadrant, at, of_class, list);
+        list_pieces(m, quadrant, at, list);
     }
+}
+
+/* Leaves those of the class in the list. */
+static void keep_class(lent_map on, uint8_t of_class, piece_list *list)
+{
+    uint64_t kept = 0;
+    for (uint64_t i = 0; i < list->n; i++)
+        if (class_of(on, list->pieces[i].record) == of_class)
+            list->pieces[kept++] = list->pieces[i];
+    list->n = kept;
 }
 
 static lutniorad_answer select_in(lent_map on, uint32_t tile, window at, uint8_t of_class, uint16_t *border,
                                   size_t n_border, uint32_t *out, size_t n_out)
 {
-    static key_list list;
+    static piece_list list;
     lutniorad_answer begun = begin_question(on, tile, at, border, n_border);
     if (begun.refusal != 0)
         return begun;
     const block_list *maximal = list_maximal(at, side_of_tile(tile));
     list.n = 0;
     for (uint64_t i = 0; i < maximal->n; i++)
-        select_from(on, maximal->blocks[i], at, of_class, &list);
+        list_pieces(on.m, maximal->blocks[i], at, &list);
+    keep_class(on, of_class, &list);
     if (n_out < list.n)
         return refused(8, list.n);
     for (uint64_t i = 0; i < list.n; i++)
-        out[i] = (uint32_t)list.keys[i];
+        out[i] = list.pieces[i].key;
     return answered(list.n, 0);
 }
 
@@ -1103,4 +1134,159 @@ lutniorad_answer reference_sparse_write(uint32_t m,
                                         uint8_t *out, size_t n_out)
 {
     return write_map(sparse_map(m, keys, n_keys, classes, n_classes, 0), out, n_out);
+}
+
+/* ---- Salvage ---- */
+
+enum { DROPPED_FOR_KEY = 3, DROPPED_FOR_PLACE = 4, FILLED = 5, CELLS_OF_ENTRY = 2 };
+
+/*
+ * The pixels of the largest picture, numbered in the order of their keys: of each block first those of its quadrant NW,
+ * then NE, SW, SE. The pixels of a smaller picture have the numbers that they have in the corner of this one.
+ */
+static uint32_t numbers[MOST_PIXELS];
+enum { MOST_SIDE = 4096 };
+
+static void number_pixels(square block, uint32_t *next)
+{
+    uint64_t half = block.side / 2;
+    if (block.side == 1) {
+        numbers[block.row * MOST_SIDE + block.col] = (*next)++;
+        return;
+    }
+    for (uint64_t i = 0; i < 4; i++) {
+        square quadrant = {block.row + i / 2 * half, block.col + i % 2 * half, half};
+        number_pixels(quadrant, next);
+    }
+}
+
+static uint64_t number_of(uint64_t row, uint64_t col)
+{
+    static uint32_t numbered;
+    square picture = {0, 0, MOST_SIDE};
+    if (numbered == 0)
+        number_pixels(picture, &numbered);
+    return numbers[row * MOST_SIDE + col];
+}
+
+/* The greatest number of the block's pixels. */
+static uint64_t last_number(square block)
+{
+    uint64_t last = 0;
+    for (uint64_t row = block.row; row < block.row + block.side; row++)
+        for (uint64_t col = block.col; col < block.col + block.side; col++)
+            last = greater(last, number_of(row, col));
+    return last;
+}
+
+/* What is made of a broken map. */
+typedef struct {
+    uint64_t dropped_for[MOST_RECORDS]; /* of each record, or 0 where it is kept */
+    uint64_t kept;                      /* how many are, and of each of these its index and its key */
+    uint64_t indices[MOST_RECORDS];
+    uint32_t keys[MOST_RECORDS];
+    piece_list list; /* of the whole picture: the records that are kept, and the blocks that are filled */
+} salvaged;
+
+/* A record is dropped where a pixel of one that is kept comes behind its first pixel, which is its corner, or is it. */
+static uint64_t judge(uint32_t m, uint32_t key, uint64_t *beyond_kept)
+{
+    uint64_t digits[MOST_DIGITS];
+    if (!digits_of(key, m, digits) || !has_the_form(digits, m))
+        return DROPPED_FOR_KEY;
+    square block = block_of(digits, m);
+    if (number_of(block.row, block.col) < *beyond_kept)
+        return DROPPED_FOR_PLACE;
+    *beyond_kept = last_number(block) + 1;
+    return 0;
+}
+
+static void keep_records(lent_map on, salvaged *to)
+{
+    uint64_t beyond_kept = 0;
+    to->kept = 0;
+    for (uint64_t i = 0; i < on.n_keys; i++) {
+        to->dropped_for[i] = judge(on.m, on.keys[i], &beyond_kept);
+        if (to->dropped_for[i] == 0) {
+            to->indices[to->kept] = i;
+            to->keys[to->kept++] = on.keys[i];
+        }
+    }
+}
+
+/* By the keys alone. As with what is painted, what was made last is kept. */
+static const salvaged *salvage_keys(lent_map on)
+{
+    static salvaged made;
+    static made_for last;
+    uint16_t side = (uint16_t)side_of_picture(on.m);
+    window all = {0, 0, side, side};
+    square picture = {0, 0, side};
+    if (is_for(&last, on, all))
+        return &made;
+    keep_records(on, &made);
+    paint_records(sparse_map(on.m, made.keys, made.kept, on.classes, made.kept, NOT_SEEN), all);
+    made.list.n = 0;
+    list_pieces(on.m, picture, all, &made.list);
+    keep_for(&last, on, all);
+    return &made;
+}
+
+static void put_entry(uint32_t *log, uint64_t *entries, uint64_t of, uint64_t number)
+{
+    log[CELLS_OF_ENTRY * *entries] = (uint32_t)of;
+    log[CELLS_OF_ENTRY * *entries + 1] = (uint32_t)number;
+    (*entries)++;
+}
+
+/* Logs the blocks that are filled, from a piece on up to one that is kept. Returns that one, or the end. */
+static uint64_t log_filled(const piece_list *list, uint64_t from, uint32_t *log, uint64_t *entries)
+{
+    while (from < list->n && list->pieces[from].record == NO_RECORD)
+        put_entry(log, entries, list->pieces[from++].key, FILLED);
+    return from;
+}
+
+/* For each record in turn why it is dropped; or it is kept, and before that what is filled before it. */
+static void write_log(const salvaged *made, uint64_t n, uint32_t *log)
+{
+    uint64_t entries = 0, next = 0;
+    for (uint64_t i = 0; i < n; i++)
+        if (made->dropped_for[i] != 0)
+            put_entry(log, &entries, i, made->dropped_for[i]);
+        else
+            next = log_filled(&made->list, next, log, &entries) + 1;
+    log_filled(&made->list, next, log, &entries);
+}
+
+static void write_pieces(const salvaged *made, const uint8_t *classes, uint32_t *out_keys, uint8_t *out_classes)
+{
+    for (uint64_t i = 0; i < made->list.n; i++) {
+        piece p = made->list.pieces[i];
+        out_keys[i] = p.key;
+        out_classes[i] = p.record == NO_RECORD ? NOT_SEEN : classes[made->indices[p.record]];
+    }
+}
+
+lutniorad_answer reference_salvage(uint32_t m,
+                                   const uint32_t *keys, size_t n_keys,
+                                   const uint8_t *classes, size_t n_classes,
+                                   uint32_t *out_keys, size_t n_out_keys,
+                                   uint8_t *out_classes, size_t n_out_classes,
+                                   uint32_t *log, size_t n_log)
+{
+    lutniorad_answer size = size_of_map(SPARSE, m, n_keys, n_classes);
+    if (size.refusal != 0)
+        return size;
+    const salvaged *made = salvage_keys(sparse_map(m, keys, n_keys, classes, n_classes, NOT_SEEN));
+    uint64_t q = made->list.n, dropped = n_keys - made->kept, filled = q - made->kept, entries = dropped + filled;
+    if (q > MOST_RECORDS)
+        return refused(2, 0);
+    if (n_out_keys < q || n_out_classes < q)
+        return refused(8, q);
+    if (n_log < CELLS_OF_ENTRY * entries)
+        return refused(8, CELLS_OF_ENTRY * entries);
+    write_pieces(made, classes, out_keys, out_classes);
+    write_log(made, n_keys, log);
+    return answered(q, entries);
 }

@@ -154,6 +154,13 @@ lutniorad_answer reference_sparse_write(uint32_t m,
                                         const uint8_t *classes, size_t n_classes,
                                         uint8_t *out, size_t n_out);
 
+lutniorad_answer reference_salvage(uint32_t m,
+                                   const uint32_t *keys, size_t n_keys,
+                                   const uint8_t *classes, size_t n_classes,
+                                   uint32_t *out_keys, size_t n_out_keys,
+                                   uint8_t *out_classes, size_t n_out_classes,
+                                   uint32_t *log, size_t n_log);
+
 /* The most pixels that a picture has, how many classes there are, and the class of what the camera did not see. */
 enum { MOST_PIXELS = 4096 * 4096, CLASSES = 256, NOT_SEEN = 255 };
 

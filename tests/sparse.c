@@ -430,16 +430,16 @@ void group_sparse_refusals(void)
 
 /* ---- Group: damaged sparse maps ---- */
 
+static void ask_damaged(void)
+{
+    check(&damaged, damaged.q, damaged.q);
+    for (size_t i = 0; i < COUNT(asked_of_sparse); i++)
+        ask_inside_and_outside(asked_of_sparse[i], &damaged);
+}
+
 static void every_damage(void)
 {
-    for (size_t i = 0; i < sparse.q; i++)
-        for (size_t k = 0; k < n_damages; k++) {
-            copy_map(&damaged, &sparse);
-            damage(&damaged, k, i);
-            check(&damaged, damaged.q, damaged.q);
-            for (size_t o = 0; o < COUNT(asked_of_sparse); o++)
-                ask_inside_and_outside(asked_of_sparse[o], &damaged);
-        }
+    for_every_damage(&sparse, &damaged, ask_damaged);
 }
 
 void group_damaged_sparse_maps(void)

@@ -26,7 +26,7 @@ enum { MOST_BOUND = 20000 };
 /* ---- The calls ---- */
 
 enum { TILE = 4 };
-static even_map a;
+static even_map a, mended;
 static window at;
 static uint16_t twice[8]; /* the window, as a list */
 static lutniorad_answer answer;
@@ -177,6 +177,12 @@ static void run_sparse_write(void)
     answer = lutniorad_sparse_write(a.m, a.keys + 1, a.q - 1, a.classes + 1, a.q - 1, file, sizeof file);
 }
 
+static void run_salvage(void)
+{
+    answer = lutniorad_salvage(a.m, a.keys + 1, a.q - 1, a.classes + 1, a.q - 1, mended.keys, COUNT(mended.keys),
+                               mended.classes, COUNT(mended.classes), out, COUNT(out));
+}
+
 static const struct {
     const char *name;
     void (*run)(void);
@@ -204,6 +210,7 @@ static const struct {
     {"sparse_select", run_sparse_select},
     {"sparse_read", run_sparse_read},
     {"sparse_write", run_sparse_write},
+    {"salvage", run_salvage},
 };
 
 /* ---- The depths ---- */

@@ -3,6 +3,7 @@
 #include "many.h"
 #include "months.h"
 #include "questions.h"
+#include "salvage.h"
 #include "sparse.h"
 #include "why.h"
 
@@ -479,6 +480,7 @@ static void call_everything(void)
     for (int i = 0; i < 2; i++)
         try_more(random_window(sound.m, (size_t)1 << 16));
     try_many(&sound);
+    try_salvage_of(&sound);
 }
 
 void group_stack(void)

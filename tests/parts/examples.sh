@@ -556,6 +556,68 @@ step 'sparse sees that there is a number too many' example_says '' "$usage" 2 sp
 step 'sparse sees that it cannot write' sees_failed_output sparse sound 1 0 1 3 3 1
 step 'sparse sees that it cannot write a refusal' sees_failed_output sparse short 1 0 1 3 3 1
 
+map_of '5 11 26 11 14 20' '1 2 2 3 1 2' >"$files/broken"
+map_of '5 11 12 13 14 15 20' '1 2 255 255 1 255 2' >"$files/filled"
+map_of '' '' >"$files/no-record"
+map_of '0' '255' >"$files/not-seen"
+one_record 13 0 >"$files/too-large"
+usage='usage: salvage FILE [MENDED], with a house file that may be broken'
+mended='record 2 is dropped: its key 26 names no block
+record 3 is dropped: its block 11 starts before the last one kept ended
+block 12 is filled in as not seen
+block 13 is filled in as not seen
+block 15 is filled in as not seen
+mended: m 2, 7 records, 2 dropped, 3 filled in'
+from_nothing='block 0 is filled in as not seen
+mended: m 2, 1 records, 0 dropped, 1 filled in'
+
+writes_map() { # LINES WANTED FILE: what it says of the file, and the one that it must write
+    rm -f "$files/mended"
+    example_says "$1" '' 0 salvage "$3" mended && cmp "$files/$2" "$files/mended"
+}
+
+# Of 65,536 records, the first of which is the picture.
+mends_longest() {
+    run salvage "$files/longest" "$files/mended" >"$files/log" || return 1
+    counted=$(awk '/^record .* is dropped: its block 0 starts / { n++ } END { print n, $0 }' "$files/log")
+    [ "$counted" = '65535 mended: m 8, 1 records, 65535 dropped, 0 filled in' ] \
+        && (cd "$files" && run check mended >checked) && return 0
+    echo "salvage longest said $counted"
+    return 1
+}
+
+# What was there stays where a map is refused.
+writes_nothing() { # FILE
+    echo mine >"$files/mended"
+    (cd "$files" && run salvage "$1" mended >log)
+    [ "$?" = 1 ] && [ "$(cat "$files/mended")" = mine ]
+}
+
+step 'the example salvage is built' build salvage examples/salvage.c
+step 'salvage says what it drops and fills in' example_says "$mended" '' 0 salvage broken
+step 'salvage says of a sound map that it is sound' example_says 'sound: m 2, 7 records' '' 0 salvage sound
+step 'salvage mends a map of no record' example_says "$from_nothing" '' 0 salvage no-record
+step 'salvage writes the map mended' writes_map "$mended" filled broken
+step 'salvage mends what it mended no more' example_says 'sound: m 2, 7 records' '' 0 salvage mended
+step 'salvage writes a sound map as it was' writes_map 'sound: m 2, 7 records' sound sound
+step 'salvage writes what it makes of no record' writes_map "$from_nothing" not-seen no-record
+step 'salvage mends the longest file' mends_longest
+step 'salvage refuses a file cut short' example_says "$bad_layout" '' 1 salvage short
+step 'salvage refuses a file that is too long' example_says "$bad_layout" '' 1 salvage longer
+step 'salvage refuses a picture that is too large' \
+    example_says 'refused 1 at 0: m is over 12' '' 1 salvage too-large
+step 'salvage writes nothing where a file is refused' writes_nothing short
+step 'salvage sees that a file is missing' example_says '' 'missing: cannot be opened' 2 salvage missing
+step 'salvage sees that a file cannot be read' example_says '' 'folder: cannot be read' 2 salvage folder
+step 'salvage sees that a file cannot be opened for writing' \
+    example_says "$mended" 'folder: cannot be written' 2 salvage broken folder
+step 'salvage sees that a file cannot be written' \
+    example_says "$mended" '/dev/full: cannot be written' 2 salvage broken /dev/full
+step 'salvage sees that no file is named' example_says '' "$usage" 2 salvage
+step 'salvage sees that there is a file too many' example_says '' "$usage" 2 salvage broken mended more
+step 'salvage sees that it cannot write' sees_failed_output salvage broken
+step 'salvage sees that it cannot write a refusal' sees_failed_output salvage short
+
 house_file 5 1 3 3 1 1 1 2 >"$files/second"
 house_file 5 1 2 2 2 1 2 255 >"$files/third"
 one_record 12 1 >"$files/garbled"
@@ -665,7 +727,7 @@ $of_lake" "$cut" 1 acquire cut lake
 step 'acquire knows a wrong layout as no house file' no_house_file "$bad_layout" cut
 step 'acquire knows a wrong m as no house file' no_house_file 'refused 1 at 0: m is over 12' vast
 step 'acquire knows a wrong count as no house file' no_house_file \
-    'refused 2 at 0: keys and classes differ in number, are over 65,536, or a complete map has none' empty
+    'refused 2 at 0: keys and classes differ in number, go over 65,536, or a complete map has none' empty
 step 'acquire knows a wrong key as a broken map' broken_map "$bad_key" keyless
 step 'acquire knows an overlap as a broken map' broken_map "$overlap" twice
 step 'acquire knows a gap as a broken map' \
