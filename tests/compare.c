@@ -621,7 +621,7 @@ static const group groups[] = {
     {"refusals of salvage", group_salvage_refusals, false},
     {"salvage of small maps", group_salvage_of_small_maps, false},
     {"salvage of broken maps", group_salvage_of_broken_maps, true},
-    {"salvage of digits", group_salvage_of_digits, true},
+    {"salvage of blocks and pixels", group_salvage_of_blocks, true},
     {"most records of salvage", group_most_salvaged, true},
     {"vast slices of salvage", group_vast_salvage, false},
     {"random salvage", group_random_salvage, true},

@@ -460,6 +460,17 @@ window window_about(uint32_t m, window pixel, size_t reach, size_t number)
     return at;
 }
 
+window nth_pixel(uint32_t m, size_t number)
+{
+    const uint16_t last = (uint16_t)(side_of(m) - 1), middle = (uint16_t)(side_of(m) / 2);
+    const uint16_t row = (uint16_t)below(side_of(m)), col = (uint16_t)below(side_of(m));
+    const window pixels[CHOSEN_PIXELS + 1] = {
+        {0, 0, 1, 1},     {0, last, 1, 1}, {last, 0, 1, 1}, {last, last, 1, 1}, {(uint16_t)(middle - 1), middle, 1, 1},
+        {row, col, 1, 1},
+    };
+    return pixels[number < CHOSEN_PIXELS ? number : CHOSEN_PIXELS];
+}
+
 uint32_t some_tile(uint32_t m, window at)
 {
     enum { MOST_TILES = 1 << 13 };

@@ -154,6 +154,11 @@ enum { WAYS = 6, WINDOWS_ABOUT = WAYS * WAYS };
 
 window window_about(uint32_t m, window pixel, size_t reach, size_t number);
 
+/* A pixel by number: the first are in the corners and in the middle of the picture, the others anywhere. m is over 0. */
+enum { CHOSEN_PIXELS = 5 };
+
+window nth_pixel(uint32_t m, size_t number);
+
 /* A tile from 0 to m, any of which the window does not have so many that they take long. */
 uint32_t some_tile(uint32_t m, window at);
 

@@ -606,7 +606,7 @@ void group_salvage_of_broken_maps(void)
     }
 }
 
-/* ---- Group: salvage of digits ---- */
+/* ---- Group: salvage of blocks and pixels ---- */
 
 static int by_value(const void *a, const void *b)
 {
@@ -627,9 +627,21 @@ static void every_pattern(uint32_t m)
     try_salvage(&broken);
 }
 
+static void begin_blocks(uint32_t m)
+{
+    broken.m = m;
+    broken.q = 0;
+}
+
 static void append_block(uint32_t exponent, uint32_t place)
 {
     broken.keys[broken.q++] = key_at(broken.m, exponent, place);
+}
+
+static void try_blocks(void)
+{
+    paint(&broken, RANDOM);
+    try_salvage(&broken);
 }
 
 /*
@@ -650,15 +662,13 @@ static void append_behind_pixel(uint32_t exponent, uint32_t place, size_t which)
 static void blocks_behind_pixels(uint32_t m)
 {
     const uint32_t of_part = m - 3;
-    broken.m = m;
-    broken.q = 0;
+    begin_blocks(m);
     for (uint32_t part = 0; part < 64; part++) {
         const uint32_t exponent = part % (of_part + 1);
         const uint32_t number = (uint32_t)below((size_t)1 << 2 * (of_part - exponent));
         append_behind_pixel(exponent, (part << 2 * of_part) + (number << 2 * exponent), below(PIXELS_BEFORE));
     }
-    paint(&broken, RANDOM);
-    try_salvage(&broken);
+    try_blocks();
 }
 
 /* The last block of a larger size, alone. */
@@ -666,15 +676,43 @@ static void large_block_behind_pixels(uint32_t m, uint32_t exponent)
 {
     const uint32_t place = ((uint32_t)1 << 2 * m) - ((uint32_t)1 << 2 * exponent);
     for (size_t which = 0; which < PIXELS_BEFORE; which++) {
-        broken.m = m;
-        broken.q = 0;
+        begin_blocks(m);
         append_behind_pixel(exponent, place, which);
-        paint(&broken, RANDOM);
-        try_salvage(&broken);
+        try_blocks();
     }
 }
 
-void group_salvage_of_digits(void)
+/* Some pixel in one quarter of the picture, and some in a later one. */
+static void pixels_far_apart(uint32_t m)
+{
+    const uint32_t of_quarter = (uint32_t)1 << 2 * (m - 1);
+    for (uint32_t first = 0; first < 3; first++)
+        for (uint32_t second = first + 1; second < 4; second++) {
+            begin_blocks(m);
+            append_block(0, first * of_quarter + (uint32_t)below(of_quarter));
+            append_block(0, second * of_quarter + (uint32_t)below(of_quarter));
+            try_blocks();
+        }
+}
+
+/* All that is missing is a pixel; and a pixel is all that came. */
+static void single_pixel(uint32_t m, window pixel)
+{
+    size_t i = 0;
+    make_map_around(&sound, m, pixel, 0);
+    while (!reference_lies_in(m, sound.keys[i], pixel))
+        i++;
+    copy_map(&broken, &sound);
+    drop(&broken, i);
+    try_salvage(&broken);
+    require(mended.q == sound.q && is_filled[i], "a map without a pixel is not mended by that");
+    copy_map(&broken, &sound);
+    keep_inside(&broken, pixel);
+    try_salvage(&broken);
+    require(mended.q == sound.q && mended.keys[i] == sound.keys[i], "a pixel is not kept where it was");
+}
+
+void group_salvage_of_blocks(void)
 {
     for (uint32_t m = 1; m <= 12; m++)
         for (int i = 0; i < 3; i++)
@@ -688,6 +726,13 @@ void group_salvage_of_digits(void)
         for (uint32_t exponent = m - 2; exponent <= m; exponent++)
             if (begin_case())
                 large_block_behind_pixels(m, exponent);
+    for (uint32_t m = 1; m <= 12; m++) {
+        if (begin_case())
+            pixels_far_apart(m);
+        for (size_t number = 0; number <= CHOSEN_PIXELS; number++)
+            if (begin_case())
+                single_pixel(m, nth_pixel(m, number));
+    }
 }
 
 /* ---- Group: most records of salvage ---- */

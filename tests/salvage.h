@@ -14,7 +14,7 @@ void group_salvage_lengths(void);
 void group_salvage_refusals(void);
 void group_salvage_of_small_maps(void);
 void group_salvage_of_broken_maps(void);
-void group_salvage_of_digits(void);
+void group_salvage_of_blocks(void);
 void group_most_salvaged(void);
 void group_vast_salvage(void);
 void group_random_salvage(void);

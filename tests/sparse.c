@@ -683,19 +683,7 @@ void group_random_sparse_maps(void)
 
 /* ---- Group: single pixels ---- */
 
-enum { CHOSEN_PIXELS = 5, PIXELS = 8 };
-
-/* In the corners and in the middle of the picture, and the others anywhere. */
-static window nth_pixel(uint32_t m, size_t number)
-{
-    const uint16_t last = (uint16_t)(side_of(m) - 1), middle = (uint16_t)(side_of(m) / 2);
-    const uint16_t row = (uint16_t)below(side_of(m)), col = (uint16_t)below(side_of(m));
-    const window pixels[CHOSEN_PIXELS + 1] = {
-        {0, 0, 1, 1},     {0, last, 1, 1}, {last, 0, 1, 1}, {last, last, 1, 1}, {(uint16_t)(middle - 1), middle, 1, 1},
-        {row, col, 1, 1},
-    };
-    return pixels[number < CHOSEN_PIXELS ? number : CHOSEN_PIXELS];
-}
+enum { PIXELS = 8 };
 
 /* The windows about the pixel that have no more pixels than the longest strip, without a tile and with some. */
 static void try_windows_about(window pixel, size_t reach, uint8_t background)
