@@ -725,7 +725,7 @@ lutniorad_answer lutniorad_sparse_write(uint32_t m,
  * and of `out_classes` are then that map, and the first 2 * `second` cells of `log` are the entries, one after another,
  * in the order in which all this was done:
  *
- *     index, 3 or 4     for a record dropped, as they came, from 0
+ *     index, 3 or 4     for a record dropped, its index among all, from 0
  *     key, 5            for a block filled in
  *
  * The map so made is sound. A sound map comes back the same, with no entry; and where there is no entry the map was
