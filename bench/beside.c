@@ -5,7 +5,7 @@
 #include <inttypes.h>
 #include <stdio.h>
 
-static void print_beside(int decimals, double other, double ours, double most)
+void print_beside(int decimals, double other, double ours, double most)
 {
     double times = ours / other;
     printf(" %9.*f | %6.3f%s |", decimals, other, times, times > most ? "*" : " ");

@@ -8,14 +8,15 @@ enum { MOST_CELLS = OPERATIONS * MAPS * BATCHES };
 
 /*
  * Instructions. Those past the check are 0 where a call checks no map or does nothing else, and of adding a map to a
- * month. Of that, of many windows and of asking why those of fastest C are 0, and those before too unless the file has
- * them. Opening: what opening the same window takes, or many windows one by one; 0 but of many windows and of asking
- * why.
+ * month. Of that, of many windows, of asking why and of salvage those of fastest C are 0, and those before too unless
+ * the file has them. Opening: what opening the same window takes, or many windows one by one; 0 but of many windows and
+ * of asking why. Check: what the check of the same map takes; 0 but of salvage of a sound map. Salvage takes no window:
+ * of a broken lake, there is its fault.
  */
 typedef struct {
     int operation, map, window;
     size_t records;
-    int64_t library, plain, fastest, before, opening;
+    int64_t library, plain, fastest, before, opening, check;
     int64_t past_library, past_plain, past_opening;
 } cell;
 
@@ -26,16 +27,19 @@ void read_before(const char *file);
 /* What such a line says; -1 where there is none. */
 int64_t told_before(const char *operation, const char *on, const char *window);
 
-/* The same of a cell; 0 where it is not told, as it need not be of a month, of many windows or of asking why. */
+/* The same of a cell; 0 where it is not told, as it need not be of a month, many windows, asking why or salvage. */
 int64_t cell_before(const cell *c, const char *where);
 
-/* The map is that of the number. */
+/* One of which nothing is measured yet. The map is that of the number. */
+cell begin_cell(int operation, const map *a, int map_number, int window_number);
+
+/* One that is measured. */
 cell measure_cell(int operation, const map *a, int map_number, int window_number);
 
 /* One that was measured. */
 const cell *find_cell(const cell *cells, int n, int operation, int map_number, int window_number);
 
-/* Decomposing takes no map: of it, there is m. Some calls take no window. */
+/* Decomposing takes no map: of it, there is m. Some calls take no window: of a broken lake, there is its fault. */
 const char *map_name(const cell *c);
 const char *window_name(const cell *c);
 

@@ -1,6 +1,7 @@
 /*
- * Reading and writing a house file for as few instructions as can be. This processor has its numbers little-endian, as
- * the file has: so all of them are copied, and not by memcpy, whose instruction that repeats would count once.
+ * Reading and writing a house file, and copying a map, for as few instructions as can be. This processor has its
+ * numbers little-endian, as the file has: so all of them are copied, and not by memcpy, whose instruction that repeats
+ * would count once.
  */
 #include "parts.h"
 #include "programs.h"
@@ -40,6 +41,12 @@ static inline void move(void *to_cells, const void *from_cells, size_t n)
     for (; i + 16 < n; i += 16)
         move_sixteen(to + i, from + i);
     move_sixteen(to + n - 16, from + n - 16);
+}
+
+void fastest_copy(const uint32_t *keys, const uint8_t *classes, size_t q, uint32_t *out_keys, uint8_t *out_classes)
+{
+    move(out_keys, keys, 4 * q);
+    move(out_classes, classes, q);
 }
 
 enum { SIZE, M, Q, KEYS_AT, CLASSES_AT, HEADER = 20 };

@@ -63,11 +63,7 @@ static int64_t measure_list(const program *p, uint32_t cells, const result *must
     static result r;
     asked = p;
     measure_direct(ask, &a, make_window(a.m, TINY), cells, ROOM, &r);
-    if (!same_answers(&r, must)) {
-        char why[60];
-        snprintf(why, sizeof why, "many windows of %s are not what they must be", p->name);
-        wrong(why, where);
-    }
+    hold_answers(p, &r, must, where);
     return r.instructions;
 }
 
@@ -116,7 +112,7 @@ static int64_t measure_singles(result *must, const char *where)
 static cell print_batch(int number, int kind)
 {
     static result must;
-    cell c = {MANY, number, kind, a.q, 0, 0, 0, 0, 0, 0, 0, 0};
+    cell c = begin_cell(MANY, &a, number, kind);
     char name[LONGEST_NAME];
     name_cell(&c, name);
     make_windows(kind);

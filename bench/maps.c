@@ -142,6 +142,20 @@ static int corner(int row, int col, int side)
 
 /* ---- Maps ---- */
 
+static void begin_map(map *a, uint32_t m)
+{
+    a->m = m;
+    a->q = 0;
+}
+
+static void add_record(map *a, uint32_t key, uint8_t class)
+{
+    if (a->q == MOST_RECORDS)
+        abort();
+    a->keys[a->q] = key;
+    a->classes[a->q++] = class;
+}
+
 /* Appends the records of the block of this key, whose keys, with those of all blocks in it, are `keys` many. */
 static void cut(map *a, shape *is, uint32_t key, uint32_t keys, int row, int col, int side)
 {
@@ -153,10 +167,7 @@ static void cut(map *a, shape *is, uint32_t key, uint32_t keys, int row, int col
         }
         return;
     }
-    if (a->q == MOST_RECORDS)
-        abort();
-    a->keys[a->q] = key;
-    a->classes[a->q++] = (uint8_t)class;
+    add_record(a, key, (uint8_t)class);
 }
 
 static void make(map *a, uint32_t m, shape *is)
@@ -164,8 +175,7 @@ static void make(map *a, uint32_t m, shape *is)
     uint32_t keys = 1;
     for (uint32_t i = 0; i < m; i++)
         keys *= 5;
-    a->m = m;
-    a->q = 0;
+    begin_map(a, m);
     cut(a, is, 0, keys, 0, 0, 1 << m);
 }
 
@@ -179,4 +189,50 @@ void make_corner(map *a, uint32_t exponent)
 {
     corner_side = 1 << exponent;
     make(a, 12, corner);
+}
+
+void leave_out(map *left, const map *complete, uint8_t class)
+{
+    begin_map(left, complete->m);
+    for (size_t i = 0; i < complete->q; i++)
+        if (complete->classes[i] != class)
+            add_record(left, complete->keys[i], complete->classes[i]);
+}
+
+/* ---- Broken maps ---- */
+
+const char *const fault_names[FAULTS] = {"missing", "garbled", "twice", "no clear water", "no record"};
+
+bool is_tenth(size_t record)
+{
+    return record % 10 == 9;
+}
+
+/* By turns without its first digit, so that a zero stands before others, and too large, with the topmost bit set. */
+static uint32_t garbled(uint32_t key, size_t record)
+{
+    const uint32_t power = 48828125, top = (uint32_t)1 << 31; /* power is 5^11 */
+    return record / 10 % 2 == 0 ? key % power : key | top;
+}
+
+static void add_tenth(map *broken, const map *sound, size_t i, int fault)
+{
+    int times = fault == MISSING ? 0 : fault == TWICE ? 2 : 1;
+    for (int n = 0; n < times; n++)
+        add_record(broken, fault == GARBLED ? garbled(sound->keys[i], i) : sound->keys[i], sound->classes[i]);
+}
+
+void break_map(map *broken, const map *sound, int fault)
+{
+    size_t q = fault == EMPTY ? 0 : sound->q;
+    if (fault == NO_CLEAR) {
+        leave_out(broken, sound, CLEAR);
+        return;
+    }
+    begin_map(broken, sound->m);
+    for (size_t i = 0; i < q; i++)
+        if (is_tenth(i))
+            add_tenth(broken, sound, i, fault);
+        else
+            add_record(broken, sound->keys[i], sound->classes[i]);
 }

@@ -1,4 +1,4 @@
-/* The maps that are measured, and the windows on them. */
+/* The maps that are measured, broken ones among them, and the windows on them. */
 #ifndef BENCH_MAPS_H
 #define BENCH_MAPS_H
 
@@ -23,6 +23,19 @@ void make_map(map *a, int number);
 
 /* A map whose north-west corner, of side 2^exponent, is cut into blocks of 16 x 16, and the rest as few as can be. */
 void make_corner(map *a, uint32_t exponent);
+
+/* What is left of a map without the records of a class. */
+void leave_out(map *left, const map *complete, uint8_t class);
+
+/* Each tenth record is gone, has a malformed key, or stands there twice; those of clear water are gone; or all are. */
+enum { MISSING, GARBLED, TWICE, NO_CLEAR, EMPTY, FAULTS };
+extern const char *const fault_names[FAULTS];
+
+/* By its index, from 0. */
+bool is_tenth(size_t record);
+
+/* The lake with a fault. */
+void break_map(map *broken, const map *sound, int fault);
 
 typedef struct {
     uint16_t r0, c0, h, w;

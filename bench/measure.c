@@ -14,15 +14,15 @@
 const program library = {
     "library",         lutniorad_check,      lutniorad_decompose, lutniorad_open,  lutniorad_exist,
     lutniorad_report,  lutniorad_select,     lutniorad_read,      lutniorad_write, lutniorad_month_add,
-    lutniorad_windows, lutniorad_why_record, lutniorad_why_block,
+    lutniorad_windows, lutniorad_why_record, lutniorad_why_block, lutniorad_salvage,
 };
 const program plain = {
     "plain C",  plain_check, plain_decompose, plain_open,    plain_exist,      plain_report,    plain_select,
-    plain_read, plain_write, plain_month_add, plain_windows, plain_why_record, plain_why_block,
+    plain_read, plain_write, plain_month_add, plain_windows, plain_why_record, plain_why_block, plain_salvage,
 };
 const program fastest = {
     "fastest C",  fastest_check, fastest_decompose, fastest_open, fastest_exist, fastest_report, fastest_select,
-    fastest_read, fastest_write, NULL,              NULL,         NULL,          NULL,
+    fastest_read, fastest_write, NULL,              NULL,         NULL,          NULL,           NULL,
 };
 const program growing = {.name = "growing list", .open = growing_open};
 const program every = {.name = "every block", .open = every_open};
@@ -43,11 +43,13 @@ const char *const operation_names[OPERATIONS] = {
     "why_record, outside",
     "why_block, opened",
     "why_block, skipped",
+    "salvage",
+    "salvage, broken",
 };
 
 bool takes_window(int operation)
 {
-    return operation != CHECK && operation != READ && operation != WRITE;
+    return operation != CHECK && operation != READ && operation != WRITE && operation < SALVAGE;
 }
 
 bool checks_first(int operation)
@@ -192,12 +194,32 @@ void measure_direct(direct_call *f, const map *a, rectangle at, uint32_t number,
     measure_either(&library, NOTHING, &with, a, at, r);
 }
 
+lutniorad_answer direct_check(const map *a, rectangle at, uint32_t number, size_t room, result *r)
+{
+    (void)at, (void)number, (void)room, (void)r;
+    return lutniorad_check(a->m, a->keys, a->q, a->classes, a->q);
+}
+
 bool same_answers(const result *x, const result *y)
 {
     return memcmp(&x->answer, &y->answer, sizeof x->answer) == 0 &&
            memcmp(&x->reason, &y->reason, sizeof x->reason) == 0 &&
            memcmp(x->border, y->border, sizeof x->border) == 0 && memcmp(x->out, y->out, sizeof x->out) == 0 &&
            memcmp(x->table, y->table, sizeof x->table) == 0 && memcmp(x->bytes, y->bytes, sizeof x->bytes) == 0;
+}
+
+bool has_records(const result *r, const map *a)
+{
+    return memcmp(r->out, a->keys, a->q * sizeof *a->keys) == 0 && memcmp(r->bytes, a->classes, a->q) == 0;
+}
+
+void hold_answers(const program *p, const result *is, const result *must, const char *where)
+{
+    if (!same_answers(is, must)) {
+        char why[60];
+        snprintf(why, sizeof why, "%s does not answer or leave what it must", p->name);
+        wrong(why, where);
+    }
 }
 
 static result other;

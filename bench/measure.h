@@ -19,9 +19,10 @@ typedef struct {
     month_add_function *month_add;
     windows_function *windows;
     why_function *why_record, *why_block;
+    salvage_function *salvage;
 } program;
 
-/* Fastest adds no map, takes no list of windows and does not say why, and the last two only open. */
+/* Fastest adds no map, takes no list of windows, does not say why and salvages no map, and the last two only open. */
 extern const program library, plain, fastest, growing, every;
 
 /* Of asking why there is one for each kind of answer. */
@@ -41,6 +42,8 @@ enum {
     WHY_OUTSIDE,
     WHY_OPENED,
     WHY_SKIPPED,
+    SALVAGE,
+    SALVAGE_BROKEN, /* of a broken lake */
     OPERATIONS,
     NOTHING
 };
@@ -55,16 +58,16 @@ bool checks_first(int operation);
  * The widest border, and out cells enough for one pass of opening with tiles of 32 x 32 pixels, and so of any other
  * call that is made.
  */
-enum { CELLS = 4096, ROOM = LUTNIORAD_OPEN_TILED_CELLS(5, 4096, 4096) };
+enum { CELLS = 4096, ROOM = LUTNIORAD_OPEN_TILED_CELLS(5, 4096, 4096), LOG = MOST_RECORDS };
 
 typedef struct {
     int64_t instructions, divisions;
     lutniorad_answer answer;
     lutniorad_reason reason; /* what a call says that returns one, and no answer */
     uint16_t border[CELLS];
-    uint32_t out[ROOM];
+    uint32_t out[ROOM]; /* of salvage: the keys and, from LOG on, the log */
     uint64_t table[MONTH_CELLS];
-    uint8_t bytes[LUTNIORAD_MOST_FILE_BYTES]; /* a file that was written, or the classes that were read */
+    uint8_t bytes[LUTNIORAD_MOST_FILE_BYTES]; /* a file that was written, or the classes that were read or salvaged */
 } result;
 
 /* Opens the file in which the plugin leaves its counts. */
@@ -86,7 +89,16 @@ typedef lutniorad_answer direct_call(const map *a, rectangle at, uint32_t number
 /* As measure, of such a call. */
 void measure_direct(direct_call *f, const map *a, rectangle at, uint32_t number, size_t room, result *r);
 
+/* The library's check, made so. */
+direct_call direct_check;
+
 bool same_answers(const result *x, const result *y);
+
+/* Ends the run where a program answers or leaves anything else than it must. */
+void hold_answers(const program *p, const result *is, const result *must, const char *where);
+
+/* Are the first out cells the keys of a map, and the first bytes its classes? */
+bool has_records(const result *r, const map *a);
 
 /* As measure, of a program that must answer as the library did, in every cell. Returns the instructions. */
 int64_t measure_same(const program *p, int operation, const map *a, rectangle at, const result *as, const char *where);

@@ -62,6 +62,13 @@ typedef lutniorad_reason why_function(uint32_t m,
                                       uint32_t number, /* the index of a record, or the key of a block */
                                       uint16_t *border, size_t n_border);
 
+typedef lutniorad_answer salvage_function(uint32_t m,
+                                          const uint32_t *keys, size_t n_keys,
+                                          const uint8_t *classes, size_t n_classes,
+                                          uint32_t *out_keys, size_t n_out_keys,
+                                          uint8_t *out_classes, size_t n_out_classes,
+                                          uint32_t *log, size_t n_log);
+
 typedef lutniorad_answer read_function(const uint8_t *file, size_t n,
                                        uint32_t *keys, size_t n_keys,
                                        uint8_t *classes, size_t n_classes);
@@ -82,5 +89,9 @@ write_function plain_write, fastest_write;
 month_add_function plain_month_add;
 windows_function plain_windows;
 why_function plain_why_record, plain_why_block;
+salvage_function plain_salvage;
+
+/* Copies the keys and the classes of a map, and looks at none. */
+void fastest_copy(const uint32_t *keys, const uint8_t *classes, size_t q, uint32_t *out_keys, uint8_t *out_classes);
 
 #endif

@@ -27,12 +27,6 @@ static const char *class_name(uint8_t class)
 
 /* ---- The calls: the number is the class of select, and else counts for nothing ---- */
 
-static lutniorad_answer check(const map *on, rectangle at, uint32_t number, size_t room, result *r)
-{
-    (void)at, (void)number, (void)room, (void)r;
-    return lutniorad_check(on->m, on->keys, on->q, on->classes, on->q);
-}
-
 static lutniorad_answer sparse_check(const map *on, rectangle at, uint32_t number, size_t room, result *r)
 {
     (void)at, (void)number, (void)room, (void)r;
@@ -158,7 +152,7 @@ typedef struct {
 } pair;
 
 static const pair pairs[] = {
-    {"check", false, false, check, sparse_check, hold_checked},
+    {"check", false, false, direct_check, sparse_check, hold_checked},
     {"open", true, false, open, sparse_open, hold_opened},
     {"exist", true, false, exist, sparse_exist, hold_same},
     {"report", true, false, report, sparse_report, hold_same},
@@ -166,16 +160,10 @@ static const pair pairs[] = {
     {"select, background", true, true, select, sparse_select, hold_background},
 };
 
-static void leave_out(uint8_t class)
+static void make_sparse(uint8_t class)
 {
     background = class;
-    left.m = complete.m;
-    left.q = 0;
-    for (size_t i = 0; i < complete.q; i++)
-        if (complete.classes[i] != class) {
-            left.keys[left.q] = complete.keys[i];
-            left.classes[left.q++] = complete.classes[i];
-        }
+    leave_out(&left, &complete, class);
 }
 
 static void print_files(uint8_t class)
@@ -241,7 +229,7 @@ void print_sparse(void)
            "| left out | of the pixels | records | file bytes |  ratio |\n"
            "| :------- | ------------: | ------: | ---------: | -----: |\n");
     for (int i = 0; i < CLASSES; i++) {
-        leave_out(classes[i]);
+        make_sparse(classes[i]);
         print_files(classes[i]);
     }
     printf(
@@ -250,7 +238,7 @@ void print_sparse(void)
         "| left out | call               | window | complete |   sparse |  ratio | past check |   sparse |  ratio |\n"
         "| :------- | :----------------- | :----- | -------: | -------: | -----: | ---------: | -------: | -----: |\n");
     for (int i = 0; i < CLASSES; i++) {
-        leave_out(classes[i]);
+        make_sparse(classes[i]);
         print_pairs();
     }
 }

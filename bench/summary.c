@@ -156,6 +156,20 @@ static void print_want_of_many(const cell *cells, int n)
     print_want("windows, past the check: of opening", "times", MOST_OF_SINGLES, most);
 }
 
+/* How many times its check the salvage of a sound map takes where that is most: of maps whose check takes few
+ * instructions, or of the others. */
+static double most_of_check(const cell *cells, int n, bool few)
+{
+    double most = 0;
+    for (const cell *c = cells; c < cells + n; c++)
+        if (c->operation == SALVAGE) {
+            double times = (double)c->library / (double)c->check;
+            if ((c->check < FEW) == few && times > most)
+                most = times;
+        }
+    return most;
+}
+
 void print_wanted(const cell *cells, int n)
 {
     static const struct {
@@ -170,10 +184,12 @@ void print_wanted(const cell *cells, int n)
     printf("\nTotals that are wanted. Each record: the whole call by the number of records. Each further record: "
            "without what the call takes on a map of one. Beyond report: what adding a map takes beyond %.2f times "
            "report of the same map and window, where that is most. Of opening: how many times what opening the windows "
-           "one by one takes past the check, where that is most.\n\n"
+           "one by one takes past the check, where that is most. Of its check: how many times what the check of the "
+           "map takes, where that is most, of maps whose check takes %d instructions or more; of those whose check "
+           "takes fewer it is %.3f times.\n\n"
            "| wanted                                     | in           | at most |      is |         |\n"
            "| :----------------------------------------- | :----------- | ------: | ------: | :------ |\n",
-           MOST_OF_REPORT);
+           MOST_OF_REPORT, FEW, most_of_check(cells, n, true));
     for (int number = PIXELS; number <= LAKE; number++)
         print_want_of_check(cells, n, number);
     for (size_t i = 0; i < sizeof wants / sizeof *wants; i++)
@@ -182,4 +198,5 @@ void print_wanted(const cell *cells, int n)
     for (int operation = ADD_FIRST; operation <= ADD_NEXT; operation++)
         print_want_of_adding(cells, n, operation);
     print_want_of_many(cells, n);
+    print_want("salvage of a sound map: of its check", "times", MOST_OF_CHECK, most_of_check(cells, n, false));
 }

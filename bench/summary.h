@@ -13,6 +13,9 @@ enum { FEW = 1000 };
 /* Many windows in one call: at most so many times what opening them one by one takes, past the check, on every map. */
 #define MOST_OF_SINGLES 1.05
 
+/* Salvage of a sound map: at most so many times its check, unless that takes fewer than FEW instructions. */
+#define MOST_OF_CHECK 3.0
+
 /* The ratios of each operation. */
 void print_summaries(const cell *cells, int n);
 

@@ -158,11 +158,7 @@ static int64_t measure_why(const program *p, int operation, rectangle at, questi
         memcpy(must.border, opened.border, sizeof must.border);
     asked = p;
     measure_direct(operation < WHY_OPENED ? ask_record : ask_block, &a, at, q.number, ROOM, &r);
-    if (!same_answers(&r, &must)) {
-        char why[60];
-        snprintf(why, sizeof why, "%s does not say or leave what it must", p->name);
-        wrong(why, where);
-    }
+    hold_answers(p, &r, &must, where);
     return r.instructions;
 }
 
@@ -219,7 +215,7 @@ int print_why(cell *cells, int n)
         for (int number = 0; number < MAPS; number++) {
             make_map(&a, number);
             for (int window = 0; window < WINDOWS; window++) {
-                cell c = {operation, number, window, a.q, 0, 0, 0, 0, 0, 0, 0, 0};
+                cell c = begin_cell(operation, &a, number, window);
                 if (print_question(&c, find_cell(cells, before, OPEN, number, window)))
                     cells[n++] = c;
             }
