@@ -9,14 +9,15 @@ use native.Mathlib.Nat.{eq-or-lt-of-le}
 use native.Mathlib.Omega.{arith}
 use lib.ListN.{length, getD}
 use Rattle.lists.specs.Lists.{upFrom}
-use Rattle.lists.proofs.Laws.{up-none, up-next, flat-in, in-flat, up-in}
+use Rattle.lists.proofs.Laws.{up-none, up-next, flat-in, in-flat, up-in, up-length}
 use Rattle.key.specs.declared.Form.the-variants.{Malformed}
 use Rattle.key.specs.Form.{formOf}
 use Rattle.key.specs.Blocks.{Names}
 use Rattle.key.proofs.Laws.{no-names, one-block}
 use Rattle.stretch.specs.Fewest.{stretch}
-use Rattle.salvage.specs.Salvage.{Mend, kept, dropped, filled, fills, mends}
+use Rattle.salvage.specs.Salvage.{Mend, kept, dropped, filled, fills, mends, salvaged, entries}
 use Rattle.salvage.specs.Promises.{Mends, ends, garbled, early, keeps, numberOf}
+use Rattle.salvage.proofs.Making.{logs-most}
 use Rattle.salvage.proofs.Mended.{mends-are}
 use Rattle.salvage.proofs.Result.{fills-nothing, keeps-each}
 
@@ -99,3 +100,8 @@ all-numbers m keys = let z : length keys - 0 ≡ length keys = omega arith in rw
 
 pub dropped-malformed : (m : ℕ) (keys : List ℕ) (n : ℕ) → List·Memᴰ (dropped n 3) (mends m keys) ↔ ((n < length keys) × (formOf m (getD keys n 0) ≡ Malformed))
 dropped-malformed m keys n = (garbled-malformed m keys (mends-are m keys), λ h. malformed-garbled m keys (mends-are m keys) (omega arith) (h .0) (h .1))
+
+-- so there are no more entries of the log than records of the result and of the broken map
+pub entries-most : (m : ℕ) (keys classes : List ℕ) → length (entries m keys) ≤ length (salvaged m keys classes) + length keys
+unfolding entries salvaged
+entries-most m keys classes = omega (arith, logs-most keys classes (mends m keys), ap length (all-numbers m keys), up-length 0 (length keys))

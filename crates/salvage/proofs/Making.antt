@@ -11,6 +11,7 @@ use Rattle.answers.proofs.Laws.{listed-none, listed-one, listed-more, listed-sa
 use Rattle.map.specs.Classes.{notSeen}
 use Rattle.salvage.specs.Salvage.{Mend, kept, dropped, filled, brings, logs, firsts, seconds, cells}
 use Rattle.salvage.specs.Making.{Sheet, sheet, Makes}
+use Rattle.salvage.specs.Promises.{numberOf}
 
 -- ---- pairs
 
@@ -21,6 +22,10 @@ firsts-append a b = map-append (λ (p : ℕ × ℕ). p .0) a b
 pub seconds-append : (a b : List (ℕ × ℕ)) → seconds (a ++ b) ≡ seconds a ++ seconds b
 unfolding seconds
 seconds-append a b = map-append (λ (p : ℕ × ℕ). p .1) a b
+
+pub cells-none : cells [] ≡ []
+unfolding cells flatMap
+cells-none = refl
 
 cells-append : (a b : List (ℕ × ℕ)) → cells (a ++ b) ≡ cells a ++ cells b
 unfolding cells
@@ -34,7 +39,7 @@ pub seconds-length : (ps : List (ℕ × ℕ)) → length (seconds ps) ≡ length
 unfolding seconds
 seconds-length ps = length-map ps (λ (p : ℕ × ℕ). p .1)
 
-pub cells-length : (ps : List (ℕ × ℕ)) → length (cells ps) ≡ 2 * length ps
+cells-length : (ps : List (ℕ × ℕ)) → length (cells ps) ≡ 2 * length ps
 unfolding cells
 cells-length ps = flat-length (λ (p : ℕ × ℕ). p .0 ∷ p .1 ∷ []) 2 (λ p. refl) ps
 
@@ -138,3 +143,11 @@ makes-all {keys} {classes} {es} M k p l =
       listed-all (M .classes-listed) (omega (arith, seconds-length rs)),
       listed-all (M .log-listed) (omega (arith, cells-length (flatMap logs es))),
     )
+
+-- no mend brings an entry that brings no record and is of none
+pub logs-most : (keys classes : List ℕ) (es : List Mend) → length (flatMap logs es) ≤ length (flatMap (brings keys classes) es) + length (flatMap numberOf es)
+unfolding logs brings numberOf flatMap
+logs-most keys classes [] = omega arith
+logs-most keys classes (kept n ∷ es) = omega (arith, logs-most keys classes es)
+logs-most keys classes (dropped n number ∷ es) = omega (arith, logs-most keys classes es)
+logs-most keys classes (filled key ∷ es) = omega (arith, logs-most keys classes es)

@@ -14,8 +14,7 @@ use Rattle.lists.proofs.Laws.{never, refuted, both, keep-empty, keep-passed, ke
 use Rattle.key.specs.Blocks.{Names, Among}
 use Rattle.key.proofs.Laws.{block-lies, pow-least}
 use Rattle.map.specs.Sound.{Spaced}
-use Rattle.map.specs.Records.{recordOf}
-use Rattle.map.proofs.Laws.{Record, Holder, Free, record-of, record-none, start-is}
+use Rattle.map.proofs.Laws.{Record, Holder, start-is, is-free, unfree}
 use Rattle.pick.specs.Picked.{pickedAround}
 use Rattle.pick.proofs.Laws.{around-has, around-not}
 use Rattle.stretch.specs.Promises.{Cut, MakesUp}
