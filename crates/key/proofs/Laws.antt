@@ -2,7 +2,7 @@
 -- Assumes nothing.
 pub use Rattle.key.proofs.Named.{one-block, one-key, block-named, pixel-named, whole-named, block-lies, blocks-stand, nested}
 pub use Rattle.key.proofs.Named.{ordered, starts-order, key-order, holds-key, holds-own, same-block, holds-same, covers, span-pixel}
-pub use Rattle.key.proofs.Squares.{no-names, square-names, square-block, square-malformed, span-square, square-inside}
+pub use Rattle.key.proofs.Squares.{no-names, square-names, span-square, square-inside}
 pub use Rattle.key.proofs.Standing.{Lies, Covers, Stand, within, around, after, before, PixelAt}
 pub use Rattle.key.proofs.Bits.{spread-entry, spread-twice}
 pub use Rattle.key.proofs.Powers.{pow-least, pow-most, power, four, size-le}

@@ -15,7 +15,6 @@ use Rattle.key.specs.declared.Square.{Square}
 use Rattle.key.specs.declared.Form.{Form}
 use Rattle.key.specs.declared.Form.the-variants.{Block, Malformed}
 use Rattle.key.specs.Picture.{Pixel, place}
-use Rattle.key.specs.Key.{blockKey}
 use Rattle.key.specs.Form.{formOf, from}
 use Rattle.key.specs.Blocks.{Names, SquareOf, Among}
 use Rattle.key.proofs.Powers.{pow-least}
@@ -31,20 +30,6 @@ square i r c = record { exponent = i; row = r; col = c }
 
 pub square-names : {m key i s : ℕ} {q : Square} → SquareOf m key q → Names m key i s → Names m key (q .exponent) (place (q .row) (q .col))
 square-names S n = let e = S .is n in rw (e .0, e .1) n
-
--- the number is the key of a block exactly when it is that of the block at the square: so it can be told what it is
-module _ {m key : ℕ} {q : Square} (S : SquareOf m key q) where
-  pub square-block : blockKey m (q .exponent) (q .row) (q .col) ≡ key → formOf m key ≡ Block (q .exponent) (place (q .row) (q .col))
-  square-block e = square-names S (rw e at (block-named m (q .exponent) (q .row) (q .col) (S .small) (S .pixel))) .is
-
-  pub square-malformed : ¬ (blockKey m (q .exponent) (q .row) (q .col) ≡ key) → formOf m key ≡ Malformed
-  square-malformed other = go (formOf m key) refl
-    where
-      go : (f : Form) → formOf m key ≡ f → f ≡ Malformed
-      go Malformed e = refl
-      go (Block i s) e =
-          let n = square-names S (record { is = e }) in
-          absurd (other (sym (holds-own n (S .pixel) .0 (omega (arith, pow-least 3 (q .exponent))))))
 
 -- ---- a block's corner
 

@@ -2,9 +2,9 @@
 -- Assumes nothing.
 use mathlib.Core.Path.{_≡_, refl, sym, ap, _∙_}
 use mathlib.Core.Logic.{_↔_}
-use mathlib.Core.Bool.{false, true}
+use mathlib.Core.Bool.{false}
 use mathlib.Core.List.{List, [], _∷_}
-use Prim.Native.Nat.{ℕ, _+_, _*_, _^_, _≤_}
+use Prim.Native.Nat.{ℕ, _+_, _*_, _≤_}
 use native.Mathlib.Omega.{arith}
 use lib.ListN.{length, take}
 use Rattle.answers.specs.declared.Verdict.the-variants as verdict-of
@@ -16,7 +16,7 @@ use Rattle.answers.proofs.Laws.{on-passed, sized-sparse, take-overwrite, overwr
 use Rattle.key.proofs.Laws.{pow-least}
 use Rattle.map.specs.Sound.{Follow, full, next, SoundMap}
 use Rattle.salvage.specs.declared.Salvaged.the-variants as salvaged-as
-use Rattle.salvage.specs.Salvage.{Mend, mends, brings, logs, firsts, seconds, cells, salvaged, entries, salvageRefusals}
+use Rattle.salvage.specs.Salvage.{mends, firsts, seconds, cells, salvaged, entries, salvageRefusals}
 use Rattle.salvage.specs.Promises.{Salvageable}
 use Rattle.salvage.proofs.Laws.{numbered-salvage, salvage-passed, salvage-is, firsts-length, seconds-length, cells-none, mends-are, salvaged-follows, salvaged-same, log-empty}
 use Rattle.salvage.proofs.Laws.{all-numbers, dropped-malformed, entries-most, dropped-early, kept-spaced, filled-makes, filled-least, kept-class, blank-class}

@@ -14,8 +14,14 @@ use Rattle.key.specs.Blocks.{Names}
 use Rattle.key.proofs.Laws.{block-lies}
 use Rattle.map.specs.declared.Taken.the-variants.{Behind, Refused}
 use Rattle.map.specs.Check.{late, refusalsFrom}
-use Rattle.map.specs.Walk.{Takes, behind, refused, CheckedTo, Row, none, more}
+use Rattle.map.specs.Walk.{Takes, behind, refused, Row, none, more}
 use Rattle.map.proofs.Steps.{late-not, step-next}
+
+-- the table says of all records what it says of those from n on, where the last span ended at `at`
+pub record CheckedTo (whole : Bool) (m : ℕ) (keys : List ℕ) (at n : ℕ) : Type 0 where
+  pub within : n ≤ length keys
+  pub most : at ≤ 4 ^ m
+  pub same : verdict (refusalsFrom whole m 0 0 keys) ≡ verdict (refusalsFrom whole m n at (drop n keys))
 
 -- what a record was taken for
 module _ {whole : Bool} {m at key place : ℕ} where

@@ -4,7 +4,7 @@ use mathlib.Core.Path.{_≡_}
 use mathlib.Core.Bool.{Bool, false}
 use mathlib.Core.List.{List, _∷_}
 use Prim.Native.Nat.{ℕ, _+_, _^_, _≤_, _<_}
-use lib.ListN.{length, getD, drop}
+use lib.ListN.{length, getD}
 use Rattle.answers.specs.declared.Verdict.the-variants as refusal
 use Rattle.answers.specs.Refusals.{verdict}
 use Rattle.key.specs.declared.Fit.the-variants.{Other}
@@ -19,12 +19,6 @@ use Rattle.map.specs.Check.{refusalsFrom}
 pub data Takes (whole : Bool) (m at key place : ℕ) : Taken → Type 0 where
   behind : {i s : ℕ} → whole ≡ false → at ≤ s → Names m key i s → Takes whole m at key place (Behind i s)
   refused : {n p : ℕ} → ((ks : List ℕ) → verdict (refusalsFrom whole m place at (key ∷ ks)) ≡ refusal.Refused n p) → Takes whole m at key place (Refused n p)
-
--- the table says of all records what it says of those from n on, where the last span ended at `at`
-pub record CheckedTo (whole : Bool) (m : ℕ) (keys : List ℕ) (at n : ℕ) : Type 0 where
-  pub within : n ≤ length keys
-  pub most : at ≤ 4 ^ m
-  pub same : verdict (refusalsFrom whole m 0 0 keys) ≡ verdict (refusalsFrom whole m n at (drop n keys))
 
 -- the records from n up to `next` follow one another, from place `at` up to `end`
 pub data Row (m : ℕ) (keys : List ℕ) (n at : ℕ) : ℕ → ℕ → Type 0 where

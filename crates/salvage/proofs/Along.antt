@@ -1,20 +1,19 @@
 -- Records that follow one another are kept, and nothing is filled.
 -- Assumes nothing.
-use mathlib.Core.Path.{_≡_, refl, sym, ap, _∙_}
+use mathlib.Core.Path.{_≡_, refl, sym, _∙_}
 use mathlib.Core.List.{List, [], _∷_, _++_, append-assoc, map, map-append, flatMap}
 use Prim.Native.Nat.{ℕ, _+_, _-_, _*_, _≤_}
 use native.Mathlib.Numerals.{add-one}
 use native.Mathlib.Omega.{arith}
-use lib.ListN.{length, getD, drop, length-map}
+use lib.ListN.{length, getD, drop}
 use Rattle.lists.specs.Lists.{upFrom}
 use Rattle.lists.proofs.Laws.{up-none, up-one, up-append, up-length, flat-map, flat-length}
 use Rattle.answers.specs.Cells.{put}
 use Rattle.answers.proofs.Laws.{listed-none, listed-beyond}
 use Rattle.key.specs.declared.Spot.{Spot}
 use Rattle.key.specs.Along.{Stands}
-use Rattle.key.proofs.Laws.{pow-least}
 use Rattle.map.specs.Walk.{Row, none, more}
-use Rattle.salvage.specs.Salvage.{Mend, kept, mends, mendsFrom, brings, logs, firsts, seconds, cells}
+use Rattle.salvage.specs.Salvage.{kept, mendsFrom, brings, logs, firsts, seconds, cells}
 use Rattle.salvage.specs.Making.{Sheet, sheet, KeepsRun, Going}
 use Rattle.salvage.proofs.Making.{makes-none, makes-more, makes-kept, firsts-length, seconds-length}
 use Rattle.salvage.proofs.Filling.{fills-none}

@@ -4,10 +4,9 @@ use mathlib.Core.Path.{_≡_, sym, _∙_}
 use mathlib.Core.Bool.{false}
 use mathlib.Core.List.{List}
 use Prim.Native.Nat.{ℕ}
-use native.Mathlib.Omega.{arith}
 use lib.ListN.{length}
 use Rattle.answers.specs.declared.Verdict.the-variants.{Passed, Refused}
-use Rattle.answers.specs.Refusals.{Refusal, verdict}
+use Rattle.answers.specs.Refusals.{verdict}
 use Rattle.answers.specs.Sizes.{sizeRefusalsIn}
 use Rattle.answers.specs.After.{after}
 use Rattle.answers.proofs.Laws.{on-passed, append-passed, append-refused, on-refused}

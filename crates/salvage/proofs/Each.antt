@@ -1,6 +1,6 @@
 -- Each record of the map is kept or dropped, in its order: dropped by 3 exactly where its key is malformed, by 4 exactly where it starts before the end of a record that is kept.
 -- Assumes nothing.
-use mathlib.Core.Path.{_≡_, refl, sym, ap, _∙_}
+use mathlib.Core.Path.{_≡_, refl, sym, ap}
 use mathlib.Core.Logic.{_↔_, _⊎_, inl, inr, ⊎-elim}
 use mathlib.Core.List.{List, [], _∷_, _++_, map, flatMap}
 use mathlib.Core.List.{List·Memᴰ, List·Memᴰ·head, List·Memᴰ·tail, List·Memᴰ·not-nil, List·Memᴰ·append-cases, Memᴰ·append-right}
@@ -9,11 +9,10 @@ use native.Mathlib.Nat.{eq-or-lt-of-le}
 use native.Mathlib.Omega.{arith}
 use lib.ListN.{length, getD}
 use Rattle.lists.specs.Lists.{upFrom}
-use Rattle.lists.proofs.Laws.{up-none, up-next, flat-in, in-flat, up-in, up-length}
+use Rattle.lists.proofs.Laws.{up-none, up-next, up-length}
 use Rattle.key.specs.declared.Form.the-variants.{Malformed}
 use Rattle.key.specs.Form.{formOf}
-use Rattle.key.specs.Blocks.{Names}
-use Rattle.key.proofs.Laws.{no-names, one-block}
+use Rattle.key.proofs.Laws.{no-names}
 use Rattle.stretch.specs.Fewest.{stretch}
 use Rattle.salvage.specs.Salvage.{Mend, kept, dropped, filled, fills, mends, salvaged, entries}
 use Rattle.salvage.specs.Promises.{Mends, ends, garbled, early, keeps, numberOf}
@@ -69,12 +68,6 @@ past-fill m a b {n} {es} {e} l other = go (List·Memᴰ·append-cases (fills m a
     go (inr t) = rest t
 
 module _ (m : ℕ) (keys : List ℕ) where
-  -- a mend of a record from n on is of one from n on
-  pub not-earlier : {n at k : ℕ} {es : List Mend} → n ≤ length keys → Mends m keys n at es → List·Memᴰ (kept k) es → n ≤ k
-  unfolding numberOf
-  not-earlier {n} {k = k} {es = es} l M i =
-      up-in n (length keys - n) k .0 (rw (numbers-from m keys l M) at (in-flat numberOf {xs = es} {x = kept k} i (List·Memᴰ·head refl))) .0
-
   -- ---- dropped by 3
 
   pub garbled-malformed : {n at k : ℕ} {es : List Mend} → Mends m keys n at es → List·Memᴰ (dropped k 3) es → (k < length keys) × (formOf m (getD keys k 0) ≡ Malformed)

@@ -12,7 +12,7 @@ use Rattle.key.proofs.Laws.{no-names, one-block, pow-least}
 use Rattle.salvage.specs.Salvage.{Mend, kept, dropped, fills, mends}
 use Rattle.salvage.specs.Promises.{Mends, ends, garbled, early, keeps, Reached}
 use Rattle.salvage.proofs.Mended.{mends-are}
-use Rattle.salvage.proofs.Each.{what, why, fill-why, past-fill, not-earlier}
+use Rattle.salvage.proofs.Each.{what, why, fill-why, past-fill}
 
 module _ (m : ℕ) (keys : List ℕ) where
   -- ---- what is dropped so starts so

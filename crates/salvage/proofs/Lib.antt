@@ -14,3 +14,4 @@ mod Early
 mod Gaps
 mod Painted
 pub mod Laws
+pub mod Examples

@@ -1,7 +1,7 @@
 -- A map is mended record by record, as it is said in plain words; and so there are few mends.
 -- Assumes nothing.
-use mathlib.Core.Path.{_≡_, refl, ap, _∙_, subst}
-use mathlib.Core.List.{List, [], _∷_, _++_, append-assoc, map}
+use mathlib.Core.Path.{_≡_, refl, ap, _∙_}
+use mathlib.Core.List.{List, [], _∷_, _++_, append-assoc}
 use Prim.Native.Nat.{ℕ, zero, suc, _+_, _*_, _^_, _≤_, _<_}
 use native.Mathlib.Decide.{decLt}
 use native.Mathlib.Omega.{arith}
@@ -13,7 +13,7 @@ use Rattle.key.specs.Form.{formOf}
 use Rattle.key.specs.Blocks.{Names}
 use Rattle.key.proofs.Laws.{block-lies, pow-least}
 use Rattle.stretch.proofs.Laws.{stretch-few}
-use Rattle.salvage.specs.Salvage.{Mend, kept, dropped, filled, fills, mendsOf, reached, mendsFrom}
+use Rattle.salvage.specs.Salvage.{Mend, kept, filled, fills, mendsOf, reached, mendsFrom}
 use Rattle.salvage.specs.Promises.{Mends, ends, garbled, early, keeps}
 use Rattle.salvage.proofs.Steps.{step-garbled, step-early, step-kept}
 

@@ -1,6 +1,6 @@
 -- The result of salvage is a map without gaps; and a map without gaps comes back the same, with an empty log.
 -- Assumes nothing.
-use mathlib.Core.Path.{_≡_, refl, sym, ap, _∙_}
+use mathlib.Core.Path.{_≡_, refl, ap, _∙_}
 use mathlib.Core.Logic.{_↔_}
 use mathlib.Core.List.{List, [], _∷_, _++_, append-nil, map, flatMap}
 use Prim.Native.Nat.{ℕ, zero, suc, _+_, _^_, _≤_, _<_}
@@ -9,8 +9,6 @@ use native.Mathlib.Omega.{arith}
 use lib.ListN.{length, getD, drop, length-append, length-map, drop-of-length-le}
 use lib.Seq.{drop-cons}
 use Rattle.lists.proofs.Laws.{flat-append}
-use Rattle.key.specs.declared.Form.the-variants.{Malformed}
-use Rattle.key.specs.Form.{formOf}
 use Rattle.key.specs.Blocks.{Names}
 use Rattle.key.proofs.Laws.{no-names, one-block, block-lies, pow-least}
 use Rattle.map.specs.Sound.{Follow, full, next}
@@ -18,9 +16,9 @@ use Rattle.map.specs.Classes.{notSeen}
 use Rattle.stretch.specs.Sets.{exponentIn, between}
 use Rattle.stretch.specs.Fewest.{stretch}
 use Rattle.stretch.proofs.Laws.{stretch-none, stretch-next, next-room, next-named}
-use Rattle.salvage.specs.Salvage.{Mend, kept, dropped, filled, fills, mends, brings, logs, firsts, seconds, salvaged, entries}
+use Rattle.salvage.specs.Salvage.{Mend, kept, filled, fills, brings, logs, firsts, seconds, salvaged, entries}
 use Rattle.salvage.specs.Promises.{Mends, ends, garbled, early, keeps}
-use Rattle.salvage.proofs.Making.{firsts-append, seconds-append}
+use Rattle.salvage.proofs.Making.{firsts-append}
 use Rattle.salvage.proofs.Filling.{fills-none}
 use Rattle.salvage.proofs.Mended.{mends-are}
 

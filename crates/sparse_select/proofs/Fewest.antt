@@ -8,7 +8,6 @@ use Prim.Native.Nat.{ℕ, suc, _+_, _-_, _^_, _≤_, _<_}
 use native.Mathlib.Decide.{ℕ-discrete}
 use native.Mathlib.Omega.{arith}
 use lib.ListN.{length, getD}
-use borrow.Author.Tests.{eqb-true, eq-eqb}
 use Rattle.lists.specs.Lists.{upFrom, keep}
 use Rattle.lists.proofs.Laws.{never, refuted, both, keep-empty, keep-passed, keep-all, keep-none, keep-append}
 use Rattle.key.specs.Blocks.{Names, Among}

@@ -9,8 +9,7 @@ use borrow.Author.Needs.{needs}
 use Rattle.key.specs.Blocks.{Names}
 use Rattle.key.specs.Along.{onesTable, Stands}
 use Rattle.map.specs.declared.Gone.{Gone}
-use Rattle.map.specs.Walk.{CheckedTo}
-use Rattle.map.proofs.Loops.{late-never, walked-first, walked-here, walked-next, walked-end, walked-row, taken-behind, taken-refused}
+use Rattle.map.proofs.Loops.{CheckedTo, late-never, walked-first, walked-here, walked-next, walked-end, walked-row, taken-behind, taken-refused}
 use Rattle.records.proofs.records.Statement.{statement}
 use Rattle.records.proofs.records.Tie as tie
 
