@@ -16,6 +16,7 @@ mod Around
 mod Strips
 mod Reading
 mod Upward
+mod Downward
 mod Along
 mod Here
 mod Examples

@@ -5,7 +5,7 @@ pub use Rattle.key.proofs.Strips.{strips-few, strips-off}
 pub use Rattle.key.proofs.Reading.{pairs-listed, pairs-entry, place-most, pixel-told, digit-told}
 pub use Rattle.key.proofs.Reading.{Reading, reading-first, reading-few, reading-small, reading-gap, reading-next, reading-room, reading-last}
 pub use Rattle.key.proofs.Upward.{Ending, ending-first, ending-next, ending-some, ending-all, ends-exponent, starts-listed, starts-entry, pair-most}
-pub use Rattle.key.proofs.Upward.{Digits, digits-first, digits-next, digits-most, digits-last}
+pub use Rattle.key.proofs.Downward.{Digits, digits-first, digits-next, digits-most, digits-last}
 pub use Rattle.key.proofs.Upward.{Starting, starting-first, starting-next, starting-small, starting-last, start-told}
 pub use Rattle.key.proofs.Corners.{pixel-key-ones, ones-pow, ones-entry, ones-listed, corner-pixel, corner-key, spread-is-ones, ones-most}
 pub use Rattle.key.proofs.Around.{Grown, grown-first, grown-next, below-room, grown-most, reached, unreached, reached-all}

@@ -2,7 +2,7 @@
 -- Assumes nothing.
 use mathlib.Core.Path.{_≡_, refl, sym, ap, _∙_}
 use mathlib.Core.Bool.{Bool, true, false}
-use mathlib.Core.List.{List, [], _∷_, _++_, List·Memᴰ, List·Memᴰ·head, List·Memᴰ·tail}
+use mathlib.Core.List.{List, [], _∷_, _++_, List·Memᴰ, List·Memᴰ·head, List·Memᴰ·tail, List·Memᴰ·not-nil}
 use Prim.Native.Nat.{ℕ, suc, _+_, _<_}
 use native.Mathlib.Omega.{arith}
 use lib.ListN.{length, getD}
@@ -49,6 +49,11 @@ module _ {A : Type 0} where
   pub nth-middle : (l : List A) {x : A} (s : List A) → Nth (l ++ x ∷ s) (length l) x
   nth-middle [] s = here refl refl
   nth-middle (y ∷ l) s = later refl (nth-middle l s)
+
+-- the only element
+pub only : {A : Type 0} {x y : A} → List·Memᴰ x (y ∷ []) → x ≡ y
+only (List·Memᴰ·head e) = e
+only (List·Memᴰ·tail l) = absurd (List·Memᴰ·not-nil l)
 
 pub nth-getD : {l : List ℕ} {k x : ℕ} → Nth l k x → getD l k 0 ≡ x
 nth-getD {l = y ∷ l} (here e d) = rw e (sym d)

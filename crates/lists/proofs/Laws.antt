@@ -14,6 +14,6 @@ pub use Rattle.lists.proofs.Counts.{many-whole, many-or, many-keep, man
 pub use Rattle.lists.proofs.Parts.{InPart, any-parts, many-parts}
 pub use Rattle.lists.proofs.Extremes.{least-in, least-all, least-none, least-first, least-behind, greatest-in, greatest-all, greatest-none, greatest-next, greatest-append, greatest-behind}
 pub use Rattle.lists.proofs.Stretches.{Stretch, stretch-of, stretch-begins, stretch-counts}
-pub use Rattle.lists.proofs.ByNumber.{Split, split, nth-of, nth-in, nth-less, nth-one, nth-front, nth-middle, nth-getD, before-taken, before-at, before-none, before-append}
+pub use Rattle.lists.proofs.ByNumber.{Split, split, nth-of, nth-in, nth-less, nth-one, nth-front, nth-middle, only, nth-getD, before-taken, before-at, before-none, before-append}
 pub use Rattle.lists.proofs.Greatest.{greatest-le, greatest-holds, greatest-over}
 pub use Rattle.lists.proofs.Multiples.{down-le, down-lt, down-eq, down-zero, down-nested, down-up}

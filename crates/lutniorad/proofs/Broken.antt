@@ -6,7 +6,6 @@ use Prim.Native.Nat.{ℕ, _≤_}
 use native.Mathlib.Omega.{arith}
 use lib.ListN.{length}
 use Rattle.answers.proofs.P1.{old}
-use Rattle.key.specs.Form.{from, formOf}
 use Rattle.stretch.specs.Promises.{MakesUp}
 use Rattle.salvage.specs.Salvage.{dropped, mends}
 use Rattle.salvage.specs.Promises.{unkept, Reached}
@@ -25,10 +24,9 @@ broken-promise = salvage-promise 2 keys classes (old 8) (old 8) (old 11) broken-
 
 -- record 3 is dropped, for one before it that is kept ends behind its start
 broken-3 : Reached 2 keys (mends 2 keys) 3 4
-unfolding formOf from
 broken-3 =
     let there : List·Memᴰ (dropped 3 4) (mends 2 keys) = rw (examples .order) (List·Memᴰ·tail (List·Memᴰ·tail (List·Memᴰ·tail (List·Memᴰ·head refl)))) in
-    broken-promise .early 3 0 4 (omega arith) (record { is = refl }) .0 there
+    broken-promise .early 3 0 4 (omega arith) (record { is = examples .eleven }) .0 there
 
 -- no two blocks make up the holes
 broken-holes : (blocks : List ℕ) → MakesUp 2 (unkept 2 keys (mends 2 keys)) blocks → 3 ≤ length blocks

@@ -3,7 +3,7 @@
 use mathlib.Core.Path.{_≡_, refl, sym, ap, _∙_}
 use mathlib.Core.Logic.{_↔_}
 use mathlib.Core.Bool.{false}
-use mathlib.Core.List.{List, [], _∷_}
+use mathlib.Core.List.{List, [], _∷_, flatMap}
 use Prim.Native.Nat.{ℕ, _+_, _*_, _≤_}
 use native.Mathlib.Omega.{arith}
 use lib.ListN.{length, take}
@@ -13,13 +13,15 @@ use Rattle.answers.specs.Sizes.{SizedIn}
 use Rattle.answers.specs.Cells.{overwrite}
 use Rattle.answers.specs.After.{After, after, unless}
 use Rattle.answers.proofs.Laws.{on-passed, sized-sparse, take-overwrite, overwrite-part}
+use Rattle.lists.proofs.Laws.{never}
 use Rattle.key.proofs.Laws.{pow-least}
 use Rattle.map.specs.Sound.{Follow, full, next, SoundMap}
+use Rattle.map.specs.Classes.{notSeen}
 use Rattle.salvage.specs.declared.Salvaged.the-variants as salvaged-as
-use Rattle.salvage.specs.Salvage.{mends, firsts, seconds, cells, salvaged, entries, salvageRefusals}
+use Rattle.salvage.specs.Salvage.{mends, brings, logs, firsts, seconds, cells, salvaged, entries, salvageRefusals}
 use Rattle.salvage.specs.Promises.{Salvageable}
-use Rattle.salvage.proofs.Laws.{numbered-salvage, salvage-passed, salvage-is, firsts-length, seconds-length, cells-none, mends-are, salvaged-follows, salvaged-same, log-empty}
-use Rattle.salvage.proofs.Laws.{all-numbers, dropped-malformed, entries-most, dropped-early, kept-spaced, filled-makes, filled-least, kept-class, blank-class}
+use Rattle.salvage.proofs.Laws.{numbered-salvage, salvage-passed, salvage-is, salvaged-is, entries-are, firsts-length, seconds-length, cells-none, cells-length, block-brings, mends-are, mends-none, salvaged-follows, salvaged-same, log-empty}
+use Rattle.salvage.proofs.Laws.{all-numbers, dropped-malformed, entries-most, dropped-early, fills-least, kept-spaced, filled-makes, filled-least, kept-class, blank-class}
 use Rattle.lutniorad.specs.declared.Answer.{Answer}
 use Rattle.lutniorad.specs.Numbers.{values, refused, ofSalvaged}
 use Rattle.lutniorad.specs.Calls.{Salvage}
@@ -120,19 +122,18 @@ module _ (m : ℕ) (keys classes K P L : List ℕ) {K′ P′ L′ : List ℕ} {
     sound-log : (length (entries m keys) ≡ 0) ↔ SoundMap m keys (length classes)
     sound-log = (
       λ e.
-          let F = log-empty m keys classes (able .sizes .same) .0 (no-element e) in
+          let F = log-empty m keys .0 (no-element e) in
           record { sizes = record { small = able .sizes .small; same = able .sizes .same; some = λ x. follow-some F; most = able .sizes .most }; records = F },
-      λ S. ap length (log-empty m keys classes (able .sizes .same) .1 (S .records)),
+      λ S. ap length (log-empty m keys .1 (S .records)),
     )
 
     pub salvage-promise : SalvagePromise m keys classes K P L (mends m keys) r K′ P′ L′
-    unfolding salvaged entries
     salvage-promise = record {
       done = mends-are m keys;
-      numbers = said;
-      keys-are = left .0;
-      classes-are = left .1;
-      log-is = left .2;
+      numbers = rw (← salvaged-is m keys classes, ← entries-are m keys) said;
+      keys-are = rw (← salvaged-is m keys classes) (left .0);
+      classes-are = rw (← salvaged-is m keys classes) (left .1);
+      log-is = rw (← entries-are m keys) (left .2);
       sound = rw (mended-keys, mended-classes) sound-result;
       each = all-numbers m keys;
       garbled = dropped-malformed m keys;
@@ -140,6 +141,7 @@ module _ (m : ℕ) (keys classes K P L : List ℕ) {K′ P′ L′ : List ℕ} {
       apart = kept-spaced m keys;
       gaps = filled-makes m keys;
       fewest = λ blocks M. filled-least m keys M;
+      each-gap = λ a b h blocks M. fills-least m a b h M;
       class-kept = λ n i s q l b h. rw (mended-keys, mended-classes) (kept-class m keys classes l b h);
       class-blank = λ q l f. rw (mended-keys, mended-classes) (blank-class m keys classes l f);
       unlogged = rw (ap (λ (x : Answer). x .second) said) sound-log;
@@ -174,3 +176,22 @@ salvage-again m keys classes K P L {K′} {r = r} call z K₂ P₂ L₂ again k 
     let S = salvage-promise m keys classes K P L call z .sound in
     let back = salvage-sound m _ _ K₂ P₂ L₂ again S (omega (arith, n)) (omega (arith, n)) in
     (back .0 ∙ rw n, back .1, back .2, back .3)
+
+-- of no record it makes one block, the whole picture, which was not seen
+pub salvage-none : (m : ℕ) (K P L : List ℕ) {K′ P′ L′ : List ℕ} {r : Answer} → Salvage m [] [] K P L r K′ P′ L′ → m ≤ 12 → 1 ≤ length K → 1 ≤ length P → 2 ≤ length L
+    → (r ≡ values 1 1) × (K′ ≡ overwrite (0 ∷ []) K) × (P′ ≡ overwrite (notSeen ∷ []) P) × (L′ ≡ overwrite (0 ∷ 5 ∷ []) L)
+salvage-none m K P L call small k p l =
+    let rs = salvaged-is m [] [] ∙ ap (flatMap (brings [] [])) (mends-none m) in
+    let es = entries-are m [] ∙ ap (flatMap logs) (mends-none m) in
+    let b = block-brings [] [] 0 in
+    let q : length (salvaged m [] []) ≡ 1 = sym (firsts-length (salvaged m [] [])) ∙ ap length (ap firsts rs ∙ b .0) in
+    let n : length (entries m []) ≡ 1 = omega (arith, cells-length (entries m []), ap length (ap cells es ∙ b .2)) in
+    let z = salvage-answered m [] [] K P L call .1 (record {
+      sizes = record { small = small; same = refl; some = λ e. never (sym e); most = omega arith };
+      few = omega (arith, q);
+      keys-room = omega (arith, q);
+      classes-room = omega (arith, q);
+      log-room = omega (arith, n);
+    }) in
+    let w = left m [] [] K P L call z in
+    (said m [] [] K P L call z ∙ rw (q, n), w .0 ∙ rw (ap firsts rs ∙ b .0), w .1 ∙ rw (ap seconds rs ∙ b .1), w .2 ∙ rw (ap cells es ∙ b .2))

@@ -14,8 +14,9 @@ use Rattle.key.specs.Blocks.{Names, Among}
 use Rattle.map.specs.Sound.{Spaced, SoundMap}
 use Rattle.map.specs.Classes.{classIn, notSeen}
 use Rattle.map.specs.Promises.{isFree}
+use Rattle.stretch.specs.Sets.{between}
 use Rattle.stretch.specs.Promises.{MakesUp}
-use Rattle.salvage.specs.Salvage.{Mend, kept, dropped, brings, logs, firsts, seconds, cells}
+use Rattle.salvage.specs.Salvage.{Mend, kept, dropped, fills, brings, logs, firsts, seconds, cells}
 use Rattle.salvage.specs.Promises.{Mends, numberOf, keyKept, keyFilled, unkept, Reached}
 use Rattle.lutniorad.specs.declared.Answer.{Answer}
 use Rattle.lutniorad.specs.Numbers.{values}
@@ -42,6 +43,8 @@ pub record SalvagePromise (m : ℕ) (keys classes mended painted log : List ℕ)
   pub gaps : MakesUp m (unkept m keys es) (flatMap keyFilled es)
   -- and no fewer blocks do
   pub fewest : (blocks : List ℕ) → MakesUp m (unkept m keys es) blocks → length (flatMap keyFilled es) ≤ length blocks
+  -- and so it is of each gap by itself: where the places from a up to b are filled, as `done` has it, no fewer blocks make these up
+  pub each-gap : (a b : ℕ) → b ≤ 4 ^ m → (blocks : List ℕ) → MakesUp m (between a b) blocks → length (fills m a b) ≤ length blocks
   -- places of a record that is kept keep its class
   pub class-kept : (n i s q : ℕ) → List·Memᴰ (kept n) es → Names m (getD keys n 0) i s → Among s (4 ^ i) q
       → classIn m (take (r .first) mended′) (take (r .first) painted′) q ≡ getD classes n 0

@@ -8,7 +8,7 @@ pub use Rattle.map.proofs.Holding.{exponent-record, tile-record, record
 pub use Rattle.map.proofs.Holding.{tile-none, record-holder, tile-holder, tiles, pixel-holder, pixel-below, tile-whole, tiling, record-square}
 pub use Rattle.map.proofs.Unheld.{is-free, unfree, free-none, free-held, free-past, free-ahead}
 pub use Rattle.map.proofs.Classes.{class-held, class-free, over-whole}
-pub use Rattle.map.proofs.Tests.{exponent-is, start-is, end-is, holds-is, overlap-is, within-is}
+pub use Rattle.map.proofs.Tests.{malformed-is, malformed-not, exponent-is, start-is, end-is, holds-is, overlap-is, within-is}
 pub use Rattle.map.proofs.Found.{found-around, block-records}
 pub use Rattle.map.proofs.Reach.{reach-is, Alone, reach-least, reach-within, reach-beyond, some-records}
 pub use Rattle.map.proofs.Inner.{Inner, inner-first, inner-key, inner-names, inner-next}

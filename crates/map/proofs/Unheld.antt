@@ -1,15 +1,15 @@
 -- Places in no record, by the test.
 -- Assumes nothing.
-use mathlib.Core.Path.{_≡_, refl, _∙_}
+use mathlib.Core.Path.{_≡_, _∙_}
 use mathlib.Core.Bool.{Bool, true, false, cond}
-use mathlib.Core.List.{List, [], _∷_}
-use Prim.Native.Nat.{ℕ, suc, _^_, _<_}
+use mathlib.Core.List.{List, [], _∷_, List·Memᴰ, List·Memᴰ·not-nil}
+use Prim.Native.Nat.{ℕ, suc, _+_, _^_, _<_}
 use native.Mathlib.Omega.{arith}
 use lib.Dec.{eqb}
 use lib.ListN.{length}
 use borrow.Author.Tests.{eqb-true, eq-eqb, ne-eqb}
 use Rattle.lists.specs.Lists.{before}
-use Rattle.lists.proofs.Laws.{refuted, agree}
+use Rattle.lists.proofs.Laws.{refuted, agree, only, before-taken, before-none, before-append}
 use Rattle.key.specs.Form.{formOf}
 use Rattle.key.specs.Blocks.{Names, Among}
 use Rattle.key.proofs.Laws.{pow-least}
@@ -37,17 +37,17 @@ module _ {m : ℕ} {keys : List ℕ} (F : Spaced m 0 keys) where
 -- ---- record by record
 
 pub free-none : (m q : ℕ) → isFree m [] q ≡ true
-unfolding isFree recordOf before
-free-none m q = refl
+unfolding isFree recordOf
+free-none m q = eq-eqb _ 0 (before-none (λ x. holds q (formOf m x)) [] (λ x l. absurd (List·Memᴰ·not-nil l)))
 
-next-same : (a b : ℕ) → eqb (suc a) (suc b) ≡ eqb a b
-next-same a b = agree _ _ (λ e. let d = eqb-true (suc a) (suc b) e in eq-eqb a b (omega arith), λ e. let d = eqb-true a b e in eq-eqb (suc a) (suc b) (omega arith))
+next-same : (a b : ℕ) → eqb (1 + a) (suc b) ≡ eqb a b
+next-same a b = agree _ _ (λ e. let d = eqb-true (1 + a) (suc b) e in eq-eqb a b (omega arith), λ e. let d = eqb-true a b e in eq-eqb (1 + a) (suc b) (omega arith))
 
 module _ (m k : ℕ) (ks : List ℕ) (q : ℕ) where
   free-cons : (b : Bool) → holds q (formOf m k) ≡ b → isFree m (k ∷ ks) q ≡ cond b false (isFree m ks q)
-  unfolding isFree recordOf before
-  free-cons true e = rw e (ne-eqb 0 (suc (length ks)) (λ d. omega arith))
-  free-cons false e = rw e (next-same (before (λ x. holds q (formOf m x)) ks) (length ks))
+  unfolding isFree recordOf
+  free-cons true e = rw (before-taken (λ x. holds q (formOf m x)) ks e) (ne-eqb 0 (suc (length ks)) (λ d. omega arith))
+  free-cons false e = rw (before-append (λ x. holds q (formOf m x)) (k ∷ []) ks (λ x l. rw (only l) e)) (next-same (before (λ x. holds q (formOf m x)) ks) (length ks))
 
   module _ {i s : ℕ} (b : Names m k i s) where
     pub free-held : Among s (4 ^ i) q → isFree m (k ∷ ks) q ≡ false

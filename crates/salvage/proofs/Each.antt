@@ -23,7 +23,7 @@ use Rattle.salvage.proofs.Result.{fills-nothing, keeps-each}
 -- ---- in order
 
 module _ (m : ℕ) (keys : List ℕ) where
-  pub numbers-from : {n at : ℕ} {es : List Mend} → n ≤ length keys → Mends m keys n at es → flatMap numberOf es ≡ upFrom n (length keys - n)
+  numbers-from : {n at : ℕ} {es : List Mend} → n ≤ length keys → Mends m keys n at es → flatMap numberOf es ≡ upFrom n (length keys - n)
   unfolding numberOf flatMap
   numbers-from {n} {at} l (ends e) = let z : length keys - n ≡ 0 = omega arith in rw (fills-nothing numberOf (λ k. refl) m at (4 ^ m), z) (sym (up-none n))
   numbers-from {n} l (garbled h e M) = let z : length keys - n ≡ suc (length keys - suc n) = omega arith in rw (z, up-next n (length keys - suc n), numbers-from h M)
@@ -70,7 +70,7 @@ past-fill m a b {n} {es} {e} l other = go (List·Memᴰ·append-cases (fills m a
 module _ (m : ℕ) (keys : List ℕ) where
   -- ---- dropped by 3
 
-  pub garbled-malformed : {n at k : ℕ} {es : List Mend} → Mends m keys n at es → List·Memᴰ (dropped k 3) es → (k < length keys) × (formOf m (getD keys k 0) ≡ Malformed)
+  garbled-malformed : {n at k : ℕ} {es : List Mend} → Mends m keys n at es → List·Memᴰ (dropped k 3) es → (k < length keys) × (formOf m (getD keys k 0) ≡ Malformed)
   garbled-malformed {at = at} (ends e) i = absurd (let z = fill-why m at (4 ^ m) i in omega arith)
   garbled-malformed {n} {k = k} (garbled h e M) (List·Memᴰ·head d) = let z : k ≡ n = ap what d in rw z (h, e)
   garbled-malformed (garbled h e M) (List·Memᴰ·tail i) = garbled-malformed M i
@@ -79,7 +79,7 @@ module _ (m : ℕ) (keys : List ℕ) where
   garbled-malformed {at = at} (keeps {s = s} h b g e M) i =
       ⊎-elim (λ d. absurd (let z : 3 ≡ 0 = ap why d in omega arith)) (λ t. garbled-malformed M t) (past-fill m at s i (λ z. omega arith))
 
-  pub malformed-garbled : {n at k : ℕ} {es : List Mend} → Mends m keys n at es → n ≤ k → k < length keys → formOf m (getD keys k 0) ≡ Malformed → List·Memᴰ (dropped k 3) es
+  malformed-garbled : {n at k : ℕ} {es : List Mend} → Mends m keys n at es → n ≤ k → k < length keys → formOf m (getD keys k 0) ≡ Malformed → List·Memᴰ (dropped k 3) es
   malformed-garbled (ends e) l u f = absurd (omega arith)
   malformed-garbled (garbled h e M) l u f = ⊎-elim (λ z. rw z (List·Memᴰ·head refl)) (λ z. List·Memᴰ·tail (malformed-garbled M z u f)) (eq-or-lt-of-le l)
   malformed-garbled (early h b d M) l u f = ⊎-elim (λ z. absurd (no-names f (rw z at b))) (λ z. List·Memᴰ·tail (malformed-garbled M z u f)) (eq-or-lt-of-le l)

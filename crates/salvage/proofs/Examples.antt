@@ -10,6 +10,7 @@ use Rattle.answers.specs.Cells.{overwrite}
 use Rattle.answers.specs.After.{after, roomRefusals}
 use Rattle.answers.proofs.P1.{old}
 use Rattle.key.specs.Key.{ones}
+use Rattle.key.specs.declared.Form.the-variants.{Block}
 use Rattle.key.specs.Form.{from, formOf}
 use Rattle.key.specs.Places.{placeKey, spanKey}
 use Rattle.map.specs.Spans.{malformed, start, end, holds}
@@ -45,6 +46,8 @@ pub record Examples : Type 0 where
   pub whole : flatMap (keyKept keys) (mends 2 keys) ≡ 5 ∷ 11 ∷ 14 ∷ 20 ∷ []
   pub holes : flatMap keyFilled (mends 2 keys) ≡ 12 ∷ 13 ∷ 15 ∷ []
   pub free : keep (unkept 2 keys (mends 2 keys)) (upFrom 0 17) ≡ 5 ∷ 6 ∷ 8 ∷ 9 ∷ 10 ∷ 11 ∷ []
+  -- key 11 is that of the pixel at place 4
+  pub eleven : formOf 2 11 ≡ Block 0 4
   -- the call, with a cell more than it needs in each slice
   pub done : salvageOf 2 keys classes (old 8) (old 8) (old 11) ≡ after (Done 7 5) (mended, painted, logged)
   -- no record at all
@@ -77,6 +80,7 @@ examples =
       whole = refl;
       holes = refl;
       free = refl;
+      eleven = refl;
       done = refl;
       none = refl;
       reverse = refl;

@@ -7,17 +7,18 @@ use mathlib.Core.List.{List, [], _∷_, _++_, map-id, flatMap}
 use Prim.Native.Nat.{ℕ, _-_, _^_, _≤_, _<_}
 use native.Mathlib.Omega.{arith}
 use lib.Dec.{ltb}
-use lib.ListN.{length, getD}
+use lib.ListN.{length, getD, length-map}
 use borrow.Author.Tests.{ltb-true, lt-ltb}
 use Rattle.lists.proofs.Laws.{both, agree}
 use Rattle.key.proofs.Laws.{block-lies, pow-least}
 use Rattle.map.specs.Sound.{Spaced, ended, later}
 use Rattle.map.specs.Promises.{isFree}
 use Rattle.map.proofs.Laws.{free-none, free-held, free-past, free-ahead}
+use Rattle.stretch.specs.Sets.{between}
 use Rattle.stretch.specs.Promises.{Cut, MakesUp}
 use Rattle.stretch.specs.Fewest.{fewest, stretch}
-use Rattle.stretch.proofs.Laws.{gap-last, gap-next, cut-behind, fewest-makes, fewest-least}
-use Rattle.salvage.specs.Salvage.{Mend, kept, fills, mends}
+use Rattle.stretch.proofs.Laws.{gap-last, gap-next, cut-behind, fewest-makes, fewest-least, stretch-least}
+use Rattle.salvage.specs.Salvage.{Mend, kept, filled, fills, mends}
 use Rattle.salvage.specs.Promises.{Mends, ends, garbled, early, keeps, keyKept, keyFilled, unkept}
 use Rattle.salvage.proofs.Mended.{mends-are}
 use Rattle.salvage.proofs.Result.{fills-each, fills-nothing, keeps-each}
@@ -89,6 +90,12 @@ module _ (m : ℕ) (keys : List ℕ) where
 
       behind : Agrees P end es
       behind = record { on = λ q x y. is q (omega (arith, low)) y ∙ free-past m (getD keys n 0) ks q b (λ a. omega arith) }
+
+-- ---- a gap by itself
+
+pub fills-least : (m a b : ℕ) → b ≤ 4 ^ m → {blocks : List ℕ} → MakesUp m (between a b) blocks → length (fills m a b) ≤ length blocks
+unfolding fills
+fills-least m a b h M = rw (length-map (stretch m a b) filled) (stretch-least m a b h M)
 
 -- ---- of the whole map
 

@@ -19,7 +19,7 @@ pub firsts-append : (a b : List (ℕ × ℕ)) → firsts (a ++ b) ≡ firsts a +
 unfolding firsts
 firsts-append a b = map-append (λ (p : ℕ × ℕ). p .0) a b
 
-pub seconds-append : (a b : List (ℕ × ℕ)) → seconds (a ++ b) ≡ seconds a ++ seconds b
+seconds-append : (a b : List (ℕ × ℕ)) → seconds (a ++ b) ≡ seconds a ++ seconds b
 unfolding seconds
 seconds-append a b = map-append (λ (p : ℕ × ℕ). p .1) a b
 
@@ -39,7 +39,7 @@ pub seconds-length : (ps : List (ℕ × ℕ)) → length (seconds ps) ≡ length
 unfolding seconds
 seconds-length ps = length-map ps (λ (p : ℕ × ℕ). p .1)
 
-cells-length : (ps : List (ℕ × ℕ)) → length (cells ps) ≡ 2 * length ps
+pub cells-length : (ps : List (ℕ × ℕ)) → length (cells ps) ≡ 2 * length ps
 unfolding cells
 cells-length ps = flat-length (λ (p : ℕ × ℕ). p .0 ∷ p .1 ∷ []) 2 (λ p. refl) ps
 
@@ -110,6 +110,12 @@ module _ (keys classes : List ℕ) where
       classes-listed = listed-one records notSeen C;
       log-listed = entry key 5;
     }
+
+-- one block that is filled in, and what stands in the cells
+pub block-brings : (keys classes : List ℕ) (key : ℕ) → let rs = flatMap (brings keys classes) (filled key ∷ []) in let es = flatMap logs (filled key ∷ []) in
+    (firsts rs ≡ key ∷ []) × (seconds rs ≡ notSeen ∷ []) × (cells es ≡ key ∷ 5 ∷ [])
+unfolding brings logs firsts seconds cells flatMap
+block-brings keys classes key = (refl, refl, refl)
 
 -- how many there are then
 module _ {keys classes : List ℕ} {es : List Mend} {a b : Sheet} (M : Makes keys classes es a b) where

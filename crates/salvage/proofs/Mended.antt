@@ -1,7 +1,7 @@
 -- A map is mended record by record, as it is said in plain words; and so there are few mends.
 -- Assumes nothing.
 use mathlib.Core.Path.{_≡_, refl, ap, _∙_}
-use mathlib.Core.List.{List, [], _∷_, _++_, append-assoc}
+use mathlib.Core.List.{List, [], _∷_, _++_, append-assoc, map}
 use Prim.Native.Nat.{ℕ, zero, suc, _+_, _*_, _^_, _≤_, _<_}
 use native.Mathlib.Decide.{decLt}
 use native.Mathlib.Omega.{arith}
@@ -11,8 +11,8 @@ use Rattle.key.specs.declared.Form.{Form}
 use Rattle.key.specs.declared.Form.the-variants.{Block, Malformed}
 use Rattle.key.specs.Form.{formOf}
 use Rattle.key.specs.Blocks.{Names}
-use Rattle.key.proofs.Laws.{block-lies, pow-least}
-use Rattle.stretch.proofs.Laws.{stretch-few}
+use Rattle.key.proofs.Laws.{whole-named, block-lies, pow-least}
+use Rattle.stretch.proofs.Laws.{stretch-few, stretch-whole}
 use Rattle.salvage.specs.Salvage.{Mend, kept, filled, fills, mendsOf, reached, mendsFrom}
 use Rattle.salvage.specs.Promises.{Mends, ends, garbled, early, keeps}
 use Rattle.salvage.proofs.Steps.{step-garbled, step-early, step-kept}
@@ -60,9 +60,14 @@ module _ (m : ℕ) (keys : List ℕ) where
   pub mends-are : Mends m keys 0 0 (mendsFrom m 0 0 keys)
   mends-are = mended (length keys) 0 0 (omega arith)
 
+-- of no record: the whole picture is one block
+pub mends-none : (m : ℕ) → mendsFrom m 0 0 [] ≡ filled 0 ∷ []
+unfolding mendsFrom fills
+mends-none m = let z : 0 + 4 ^ m ≡ 4 ^ m = omega arith in ap (map filled) (rw z at (stretch-whole (whole-named m)))
+
 -- ---- how many there are
 
-pub fills-few : (m a b : ℕ) → m ≤ 12 → b ≤ 4 ^ m → length (fills m a b) ≤ 73
+fills-few : (m a b : ℕ) → m ≤ 12 → b ≤ 4 ^ m → length (fills m a b) ≤ 73
 unfolding fills
 fills-few m a b small h = rw (length-map _ filled) (omega (arith, stretch-few m a b m (omega arith) (omega arith)))
 

@@ -2,12 +2,12 @@
 -- Assumes nothing.
 use mathlib.Core.Path.{_≡_, refl, sym, ap, _∙_}
 use mathlib.Core.Bool.{true, false}
-use mathlib.Core.List.{List, [], _∷_, map, flatMap, List·Memᴰ, List·Memᴰ·head, List·Memᴰ·tail, List·Memᴰ·not-nil}
+use mathlib.Core.List.{List, [], _∷_, map, flatMap, List·Memᴰ, List·Memᴰ·head, List·Memᴰ·not-nil}
 use Prim.Native.Nat.{ℕ, zero, suc, _^_, _<_}
 use native.Mathlib.Omega.{arith}
 use lib.ListN.{length, getD}
 use Rattle.lists.specs.Promises.{Nth, here, later}
-use Rattle.lists.proofs.Laws.{never, flat-in, in-flat, nth-of, nth-in, nth-less, nth-getD}
+use Rattle.lists.proofs.Laws.{never, flat-in, in-flat, nth-of, nth-in, nth-less, only, nth-getD}
 use Rattle.key.specs.Blocks.{Names, Among}
 use Rattle.map.specs.Classes.{classIn, notSeen}
 use Rattle.map.specs.Promises.{isFree}
@@ -38,10 +38,6 @@ nth-there : {A : Type 0} (l : List A) (j : ℕ) → j < length l → (x : A) × 
 nth-there [] j h = absurd (omega arith)
 nth-there (x ∷ l) zero h = (x, here refl refl)
 nth-there (x ∷ l) (suc j) h = let n = nth-there l j (omega arith) in (n .0, later refl (n .1))
-
-only : {A : Type 0} {x y : A} → List·Memᴰ x (y ∷ []) → x ≡ y
-only (List·Memᴰ·head e) = e
-only (List·Memᴰ·tail l) = absurd (List·Memᴰ·not-nil l)
 
 -- ---- the result
 

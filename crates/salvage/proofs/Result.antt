@@ -86,7 +86,7 @@ module _ (m : ℕ) (keys classes : List ℕ) where
         fills-keys a b,
       )
 
-  pub result-follows : {n at : ℕ} {es : List Mend} → at ≤ 4 ^ m → Mends m keys n at es → Follow m at (firsts (flatMap (brings keys classes) es))
+  result-follows : {n at : ℕ} {es : List Mend} → at ≤ 4 ^ m → Mends m keys n at es → Follow m at (firsts (flatMap (brings keys classes) es))
   unfolding brings flatMap
   result-follows {at = at} l (ends e) = rw (fills-keys at (4 ^ m), ← append-nil (stretch m at (4 ^ m))) (stretch-follows m (4 ^ m) (omega arith) (full refl) at l)
   result-follows l (garbled h e M) = result-follows l M
@@ -175,6 +175,6 @@ unfolding salvaged entries
 salvaged-same m keys classes same F = let S = all-kept m keys classes same F (mends-are m keys) in (S .keys-same, S .classes-same, S .log-empty)
 
 -- the log is empty exactly for a map without gaps
-pub log-empty : (m : ℕ) (keys classes : List ℕ) → length keys ≡ length classes → (entries m keys ≡ []) ↔ Follow m 0 keys
+pub log-empty : (m : ℕ) (keys : List ℕ) → (entries m keys ≡ []) ↔ Follow m 0 keys
 unfolding entries
-log-empty m keys classes same = (λ e. unlogged m keys (omega arith) (mends-are m keys) (ap length e), λ F. salvaged-same m keys classes same F .2)
+log-empty m keys = (λ e. unlogged m keys (omega arith) (mends-are m keys) (ap length e), λ F. salvaged-same m keys keys refl F .2)

@@ -3,7 +3,7 @@
 use mathlib.Core.Path.{_≡_, refl, _∙_}
 use mathlib.Core.Logic.{_↔_}
 use mathlib.Core.Bool.{false}
-use mathlib.Core.List.{List, _++_}
+use mathlib.Core.List.{List, _++_, flatMap}
 use Prim.Native.Nat.{ℕ, _*_, _≤_, _<_}
 use native.Mathlib.Omega.{arith}
 use lib.Dec.{ltb}
@@ -17,7 +17,7 @@ use Rattle.answers.specs.After.{after, unless, roomRefusals}
 use Rattle.answers.proofs.Laws.{refusal-held, refusal-clear, append-passed, append-refused, passed-next, passed-append, room-passed, room-refused, sized}
 use Rattle.answers.proofs.Laws.{Numbered, numbered-next, numbered-append, numbered-sizes, numbered-room}
 use Rattle.salvage.specs.declared.Salvaged.the-variants as salvaged-as
-use Rattle.salvage.specs.Salvage.{firsts, seconds, cells, salvaged, entries, resultRefusals, salvageRefusals, salvageOf}
+use Rattle.salvage.specs.Salvage.{mends, brings, logs, firsts, seconds, cells, salvaged, entries, resultRefusals, salvageRefusals, salvageOf}
 use Rattle.salvage.specs.Promises.{Salvageable}
 
 -- a result of q records, with n entries
@@ -88,3 +88,12 @@ pub salvage-is : (m : ℕ) (keys classes K P L : List ℕ) → salvageOf m keys 
     (overwrite (firsts (salvaged m keys classes)) K, overwrite (seconds (salvaged m keys classes)) P, overwrite (cells (entries m keys)) L))
 unfolding salvageOf
 salvage-is m keys classes K P L = refl
+
+-- the result and the log by what is done
+pub salvaged-is : (m : ℕ) (keys classes : List ℕ) → salvaged m keys classes ≡ flatMap (brings keys classes) (mends m keys)
+unfolding salvaged
+salvaged-is m keys classes = refl
+
+pub entries-are : (m : ℕ) (keys : List ℕ) → entries m keys ≡ flatMap logs (mends m keys)
+unfolding entries
+entries-are m keys = refl

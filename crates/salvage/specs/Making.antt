@@ -39,7 +39,7 @@ pub record Countable (records entries : ℕ) (es : List Mend) : Type 0 where
 abbrev pub MakesAny : List Mend → Sheet → Sheet → Type 0
 MakesAny es a b = (keys classes : List ℕ) → Makes keys classes es a b
 
--- the records before n are mended, and the walk stands where the last span kept has ended
+-- the records before n are mended, and of record n perhaps the gap before it; the walk stands where the last span kept or filled in has ended
 pub record Going (m : ℕ) (keys classes : List ℕ) (a b : Sheet) (s : Spot) (n : ℕ) : Type 0 where
   pub stands : Stands m s
   pub within : n ≤ length keys

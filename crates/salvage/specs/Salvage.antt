@@ -18,7 +18,7 @@ use Rattle.salvage.specs.declared.Salvaged.the-variants.{Done, Refused}
 
 -- ---- what is done
 
--- record n is kept; it is dropped, by 3 or by 4; or a block of this key is filled in
+-- a mend: record n is kept; it is dropped, by 3 or by 4; or a block of this key is filled in
 pub data Mend : Type 0 where
   kept : ℕ → Mend
   dropped : ℕ → ℕ → Mend
@@ -43,31 +43,32 @@ unfoldable pub mendsFrom : ℕ → ℕ → ℕ → List ℕ → List Mend
 mendsFrom m n at [] = fills m at (4 ^ m)
 mendsFrom m n at (k ∷ ks) = mendsOf m n at k ++ mendsFrom m (suc n) (reached m at k) ks
 
+-- all of them, of a map
 abbrev pub mends : ℕ → List ℕ → List Mend
 mends m keys = mendsFrom m 0 0 keys
 
 -- ---- what that brings
 
--- to the result: the key and the class of a record that is kept; of a block that is filled in, its key and the class of what was not seen
+-- what a mend brings to the result: the key and the class of a record that is kept; of a block that is filled in, its key and the class of what was not seen
 unfoldable pub brings : List ℕ → List ℕ → Mend → List (ℕ × ℕ)
 brings keys classes (kept n) = (getD keys n 0, getD classes n 0) ∷ []
 brings keys classes (dropped n number) = []
 brings keys classes (filled key) = (key, notSeen) ∷ []
 
--- to the log: the number of a record that is dropped, with 3 or 4; the key of a block that is filled in, with 5
+-- and what to the log: the number of a record that is dropped, counted from 0 among all, with 3 or 4; the key of a block that is filled in, with 5
 unfoldable pub logs : Mend → List (ℕ × ℕ)
 logs (kept n) = []
 logs (dropped n number) = (n, number) ∷ []
 logs (filled key) = (key, 5) ∷ []
 
--- the first of each pair, and the second
+-- of pairs, the first of each, and the second
 unfoldable pub firsts : List (ℕ × ℕ) → List ℕ
 firsts = map (λ p. p .0)
 
 unfoldable pub seconds : List (ℕ × ℕ) → List ℕ
 seconds = map (λ p. p .1)
 
--- both, in two cells
+-- and both, in two cells for each
 unfoldable pub cells : List (ℕ × ℕ) → List ℕ
 cells = flatMap (λ p. p .0 ∷ p .1 ∷ [])
 

@@ -157,8 +157,7 @@ fn leave_out(n: usize, number: u32, from: Mending, log: &mut [u32]) -> Progress
     Progress { now, next: n + 1 }
 }
 
-// What a number is as a key. Its digits say where its block would start, and there it must be the key of one. `digits::read_key` says the same; it is compiled into the check as long
-// as nothing else calls it.
+// What a number is as a key, as `digits::read_key` says it, which the check has for itself. Its digits say where its block would start, and there it must be the key of one.
 fn form_of(ones: &[u32; 13], digits: &[u8; 16], m: u32, key: u32) -> Form
     requires { ⌜ (now ones ≡ onesTable) × TellsOnes (now digits) × (m ≤ 12) ⌝ }
     ensures { λ r. ⌜ r ≡ formOf m key ⌝ }
@@ -177,7 +176,7 @@ fn form_of(ones: &[u32; 13], digits: &[u8; 16], m: u32, key: u32) -> Form
     }
 }
 
-// Record n, which does not start where the walk stands: it is dropped, or the gap before it is filled. The walk then stands where it starts.
+// Record n, which does not start where the walk stands: it is dropped, or the gap before it is filled, and the walk then stands where it starts.
 fn mend(
     ones: &[u32; 13],
     digits: &[u8; 16],
