@@ -1,4 +1,4 @@
-/* The library's algorithm in plain C: salvage of a broken map. */
+/* The library's algorithm in plain C: salvage of a broken map. A key that does not fit is read as by the check. */
 #include "parts.h"
 #include "programs.h"
 

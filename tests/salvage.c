@@ -203,6 +203,11 @@ void try_salvage_of(const map *a)
     copy_map(&broken, a);
     thin_out(&broken, 1, 2);
     try_salvage(&broken);
+    if (broken.q > 2) { /* and records are dropped, by 3 and by 4 */
+        broken.keys[broken.q / 2] = UINT32_MAX;
+        broken.keys[broken.q - 1] = broken.keys[0];
+        try_salvage(&broken);
+    }
 }
 
 /* ---- Group: salvage written out ---- */

@@ -177,8 +177,11 @@ static void run_sparse_write(void)
     answer = lutniorad_sparse_write(a.m, a.keys + 1, a.q - 1, a.classes + 1, a.q - 1, file, sizeof file);
 }
 
+/* The first record is missing, one stands twice, and one has no block's key. */
 static void run_salvage(void)
 {
+    a.keys[2] = a.keys[1];
+    a.keys[3] = UINT32_MAX;
     answer = lutniorad_salvage(a.m, a.keys + 1, a.q - 1, a.classes + 1, a.q - 1, mended.keys, COUNT(mended.keys),
                                mended.classes, COUNT(mended.classes), out, COUNT(out));
 }
