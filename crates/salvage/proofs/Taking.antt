@@ -12,8 +12,10 @@ use Rattle.key.specs.Blocks.{Names}
 use Rattle.key.specs.declared.Fit.the-variants.{Other}
 use Rattle.key.specs.Along.{Stands, ToldFit}
 use Rattle.key.proofs.Laws.{fits-other}
+use Rattle.salvage.specs.declared.Mending.{Mending}
+use Rattle.salvage.specs.declared.Progress.{Progress}
 use Rattle.salvage.specs.Salvage.{Mend, kept, dropped, fills, mendsOf, reached, mendsFrom}
-use Rattle.salvage.specs.Making.{Sheet, sheet, MakesAny, Countable, Going}
+use Rattle.salvage.specs.Making.{Sheet, sheet, MakesAny, Countable, Going, MendsNext}
 use Rattle.salvage.proofs.Making.{makes-more, makes-dropped}
 use Rattle.salvage.proofs.Filling.{fills-none}
 use Rattle.salvage.proofs.Steps.{step-kept}
@@ -26,13 +28,21 @@ use Rattle.salvage.proofs.Going.{going-next}
 pub take-entry : {n number records entries : ℕ} {es : List Mend} → es ≡ dropped n number ∷ [] → Countable records entries es → entries < 2147483647
 take-entry e C = omega (arith, C .entries-few, ap length e)
 
-pub going-dropped : {m n number : ℕ} {keys classes : List ℕ} {a b : Sheet} {s t : Spot} {r e next : ℕ} {L : List ℕ} → Going m keys classes a b s n → n < length keys
+going-dropped : {m n number : ℕ} {keys classes : List ℕ} {a b : Sheet} {s t : Spot} {r e next : ℕ} {L : List ℕ} → Going m keys classes a b s n → n < length keys
     → (mendsOf m n (s .place) (getD keys n 0) ≡ dropped n number ∷ []) × (reached m (s .place) (getD keys n 0) ≡ s .place)
     → (t ≡ s) × (r ≡ b .records) × (e ≡ b .entries + 1) × (next ≡ n + 1) → L ≡ put (2 * b .entries + 1) number (put (2 * b .entries) n (b .log))
     → Going m keys classes a (sheet r e (b .keys) (b .classes) L) t next
 going-dropped {n = n} {number = number} {keys = keys} {classes = classes} {b = b} {s = s} G h d c l =
     rw (c .0, c .1, c .2, c .3, l)
     (going-next G h {t = s} (sym (d .1), G .stands) (rw (d .0) (makes-dropped keys classes (b .records) (b .entries) (b .keys) (b .classes) (b .log) n number)))
+
+pub drops : {m n number : ℕ} {keys : List ℕ} {from : Mending} {K P L L′ : List ℕ} {r : Progress} → n < length keys
+    → (mendsOf m n (from .spot .place) (getD keys n 0) ≡ dropped n number ∷ []) × (reached m (from .spot .place) (getD keys n 0) ≡ from .spot .place)
+    → (r .now .spot ≡ from .spot) × (r .now .records ≡ from .records) × (r .now .entries ≡ from .entries + 1) × (r .next ≡ n + 1)
+    → L′ ≡ put (2 * from .entries + 1) number (put (2 * from .entries) n L) → MendsNext m keys n from K P L r K P L′
+drops {number = number} h d c l =
+    let z = ap (λ (t : Spot). t .place) (c .0) in
+    record { forward = omega (arith, z); less = omega (arith, z, c .3); goes = λ classes a G. going-dropped {number = number} G h d c l }
 
 -- ---- behind a gap that is filled
 

@@ -35,7 +35,7 @@ pub record Countable (records entries : ℕ) (es : List Mend) : Type 0 where
   pub records-few : records + length es ≤ 2147483647
   pub entries-few : entries + length es ≤ 2147483647
 
--- they do so of any map: none of them keeps a record
+-- mends that do so whatever the map: none of them keeps a record
 abbrev pub MakesAny : List Mend → Sheet → Sheet → Type 0
 MakesAny es a b = (keys classes : List ℕ) → Makes keys classes es a b
 

@@ -237,7 +237,7 @@ fn pass(
     }
 }
 
-// Whether the mended map and the log have room, by what they need and what there is.
+// Refusals 2 and 8 of a mended map of so many records and a log of so many entries, by the lengths of the slices.
 fn room(records: u32, entries: u32, mended: usize, painted: usize, log: usize) -> Verdict
     requires { ⌜ entries ≤ 2147483647 ⌝ }
     ensures { λ r. ⌜ r ≡ verdict (resultRefusals records entries mended painted log) ⌝ }

@@ -1,19 +1,18 @@
 -- `salvage::mend` meets its contract: each way that a record may go has its law in `Steps` and `Taking`.
 -- Assumes nothing.
-use mathlib.Core.Path.{_≡_, ap, sym, _∙_}
+use mathlib.Core.Path.{_≡_, sym, _∙_}
 use mathlib.Core.List.{[], _∷_}
 use Prim.Native.Nat.{ℕ, _<_}
 use native.Mathlib.Omega.{arith}
 use lib.ListN.{getD}
 use borrow.Author.Needs.{needs}
 use Rattle.key.specs.declared.Form.{Form}
-use Rattle.key.specs.declared.Spot.{Spot}
 use Rattle.key.specs.Form.{formOf}
 use Rattle.key.specs.Blocks.{Names}
 use Rattle.key.proofs.Laws.{block-lies}
 use Rattle.salvage.specs.Salvage.{dropped, mendsOf, reached}
 use Rattle.salvage.proofs.Steps.{step-garbled, step-early}
-use Rattle.salvage.proofs.Taking.{take-entry, other-later, take-fills, going-dropped, going-filled}
+use Rattle.salvage.proofs.Taking.{take-entry, other-later, take-fills, drops, going-filled}
 use Rattle.salvage.proofs.mend.Statement.{statement}
 use Rattle.salvage.proofs.mend.Tie as tie
 
@@ -62,12 +61,7 @@ returns c =
     let out = c .before .before in
     let g = out .before .before in
     let e = out .leave-out .ensures in
-    let z = ap (λ (t : Spot). t .place) (e .0 .0) in
-    record {
-      forward = omega (arith, z);
-      less = omega (arith, z, e .0 .3);
-      goes = λ classes a G. going-dropped {number = 3} G (start (g .before .before) .pre .0 .3) (garbled g) (e .0) (e .1);
-    }
+    drops {number = 3} (start (g .before .before) .pre .0 .3) (garbled g) (e .0) (e .1)
 
 -- a block
 module _ (c : tie.After-form) where
@@ -93,12 +87,7 @@ returns-2 c =
     let out = c .before .before in
     let g = out .before .before in
     let e = out .leave-out2 .ensures in
-    let z = ap (λ (t : Spot). t .place) (e .0 .0) in
-    record {
-      forward = omega (arith, z);
-      less = omega (arith, z, e .0 .3);
-      goes = λ classes a G. going-dropped {number = 4} G (start (here (g .before .before .before .before)) .pre .0 .3) (early g) (e .0) (e .1);
-    }
+    drops {number = 4} (start (here (g .before .before .before .before)) .pre .0 .3) (early g) (e .0) (e .1)
 
 -- or behind it
 module _ (c : tie.Else1) where
