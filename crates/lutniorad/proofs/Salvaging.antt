@@ -20,7 +20,8 @@ use Rattle.map.specs.Classes.{notSeen}
 use Rattle.salvage.specs.declared.Salvaged.the-variants as salvaged-as
 use Rattle.salvage.specs.Salvage.{mends, brings, logs, firsts, seconds, cells, salvaged, entries, salvageRefusals}
 use Rattle.salvage.specs.Promises.{Salvageable}
-use Rattle.salvage.proofs.Laws.{numbered-salvage, salvage-passed, salvage-is, salvaged-is, entries-are, firsts-length, seconds-length, cells-none, cells-length, block-brings, mends-are, mends-none, salvaged-follows, salvaged-same, log-empty}
+use Rattle.salvage.proofs.Laws.{numbered-salvage, salvage-passed, salvage-is, salvaged-is, entries-are}
+use Rattle.salvage.proofs.Laws.{firsts-length, seconds-length, cells-none, cells-length, block-brings, mends-are, mends-none, salvaged-follows, salvaged-same, log-empty}
 use Rattle.salvage.proofs.Laws.{all-numbers, dropped-malformed, entries-most, dropped-early, fills-least, kept-spaced, filled-makes, filled-least, kept-class, blank-class}
 use Rattle.lutniorad.specs.declared.Answer.{Answer}
 use Rattle.lutniorad.specs.Numbers.{values, refused, ofSalvaged}
