@@ -233,8 +233,7 @@ fn zeros_of(m: u32, key: u32) -> u32
     zeros
 }
 
-// Where the span of the block of a key starts, by its digits: two at a time from the small end, and always twelve. Any number has
-// such a start.
+// Where the span of the block of a key starts, by its digits: two at a time from the small end, and always twelve. Any number has such a start.
 pub fn start_of(starts: &[u8; 25], key: u32) -> u32
     requires { ⌜ now starts ≡ startsTable ⌝ }
     ensures { λ r. ⌜ r ≡ startUp 12 key ⌝ }

@@ -59,7 +59,7 @@ module _ (c : tie.After-so-far Inv-loop μ-loop) where
   going = kept .keep-along .ensures .goes _ _ (turn .loop .inv)
 
 pow4-requires : tie.Need-pow4-requires Inv-loop μ-loop
-pow4-requires c κs = start (turn (c .before .before)) .pre .0
+pow4-requires c κs = omega (arith, start (turn (c .before .before)) .pre .0)
 
 fill-requires : tie.Need-fill-requires Inv-loop μ-loop
 fill-requires c κs =
