@@ -9,9 +9,9 @@
  * the whole picture is key 0 (at m = 0 the only key), and at m = 2 key 5 (digits 1 0) is its north-west quarter and
  * key 7 (digits 1 2) the pixel in row 0, column 1.
  *
- * A CLASS is what was seen in a block, one byte. 255 marks what the camera did not see. lutniorad_exist and
- * lutniorad_sparse_exist know that, and say where they cannot tell, and lutniorad_salvage fills gaps with it; for all
- * other calls 255 is a class like any other.
+ * A CLASS is what was seen in a block, one byte. 255 marks what the camera did not see. lutniorad_exist,
+ * lutniorad_sparse_exist and lutniorad_overlay_exist know that, and say where they cannot tell, and lutniorad_salvage
+ * fills gaps with it; for all other calls 255 is a class like any other.
  *
  * A MAP is m and a list of RECORDS, a key and a class each: two slices of the same length Q, from 1 to 65,536. A map is
  * sound when its blocks, in the order of the list, go through all pixels once in the order of their keys: the first
@@ -94,6 +94,11 @@
  * with `_tiled` where it takes a tile, whatever the background is. So does one that reads or writes a file, on any map,
  * but where the one without refuses by 2 for want of records.
  *
+ * An OVERLAY is today's map, a sparse one, over a BASELINE, a complete map of the same m: that of the season, say. Each
+ * pixel has the class of today's record that has it, and where none has it, that of the baseline's. Calls with
+ * `overlay_` in their names take both maps, today's first. Where today's has no record, all is as in the baseline;
+ * where it is complete itself, nothing of the baseline is seen.
+ *
  * WHAT THE CALLER KEEPS. A slice is a pointer and its length in cells (elements of 8, 16, 32 or 64 bits, not bytes).
  * For each slice of a call:
  *   - the pointer is valid for that many cells, and aligned for their type;
@@ -108,7 +113,8 @@
  *
  * WHAT THE LIBRARY KEEPS. It takes no heap and remembers nothing from one call to the next. Every call ends. A call
  * that refuses writes nothing, but for one: a refusal by 8 from lutniorad_report, or from lutniorad_open or
- * lutniorad_select with a tile or without, or from one of these on a sparse map, leaves the border as an answer would.
+ * lutniorad_select with a tile or without, or from one of these on a sparse map or an overlay, leaves the border as an
+ * answer would.
  * A call that answers writes the cells named with it below, and all others keep their content. What stands at entry in
  * a slice that is written never matters, but for the table of a month, to which lutniorad_month_add adds.
  *
@@ -124,8 +130,9 @@
  * it first, whatever was checked before: some 21 instructions for each record, 1.4 million for the longest map, which
  * take a fraction of a millisecond. On a sparse map each record behind a gap takes some 180 more. Behind that it goes
  * by the records and blocks of the window and not by its pixels; but with tiles of one pixel each of these is a block.
- * lutniorad_windows checks the map once for up to 256 windows. lutniorad_salvage goes through the records twice, with
- * some 60 instructions for each in all, and some 500 more for each that does not start where the last one ended.
+ * lutniorad_windows checks the map once for up to 256 windows. Calls on an overlay check both maps. lutniorad_salvage
+ * goes through the records twice, with some 60 instructions for each in all, and some 500 more for each that does not
+ * start where the last one ended.
  *
  * CLASSES are numbers of the caller's own. Which of them is scum the library does not know; 255 alone has a meaning.
  *
@@ -139,9 +146,9 @@
 
 /* The version of this header and of the library that belongs to it, as numbers and as text. */
 #define LUTNIORAD_VERSION_MAJOR 1 /* rises when a program made for the last one may have to be changed */
-#define LUTNIORAD_VERSION_MINOR 5 /* rises when there are more calls */
+#define LUTNIORAD_VERSION_MINOR 6 /* rises when there are more calls */
 #define LUTNIORAD_VERSION_PATCH 0
-#define LUTNIORAD_VERSION "1.5.0"
+#define LUTNIORAD_VERSION "1.6.0"
 
 /* The limits. */
 #define LUTNIORAD_MOST_M 12
@@ -176,9 +183,10 @@ extern "C" {
 #endif
 
 /*
- * What every call returns, but for two. Where `refusal` is 0 the call was answered: `place` is 0, and `first` and
+ * What every call returns, but for three. Where `refusal` is 0 the call was answered: `place` is 0, and `first` and
  * `second` are as said with the call. Otherwise it was refused, `first` and `second` are 0, and the other two numbers
- * say why.
+ * say why. But where a call on an overlay is refused by one of 1 to 5, `first` says whose map that is:
+ * LUTNIORAD_TODAY or LUTNIORAD_BASELINE.
  */
 typedef struct {
     uint32_t refusal, place, first, second;
@@ -192,6 +200,20 @@ typedef struct {
 typedef struct {
     uint32_t refusal, place, said, record, opening;
 } lutniorad_reason;
+
+/*
+ * What lutniorad_overlay_part returns: a part of one of the two slices of classes. Where `refusal` is 0 the call was
+ * answered: `place` is 0, `map` says whose slice it is, and the part is the `count` classes from number `first` on.
+ * Otherwise it was refused, `first` and `count` are 0, and so is `map`, but where the refusal is one of 1 to 5 it says
+ * whose map that is.
+ */
+typedef struct {
+    uint32_t refusal, place, map, first, count;
+} lutniorad_part;
+
+/* The two maps of an overlay. */
+#define LUTNIORAD_TODAY 1
+#define LUTNIORAD_BASELINE 2
 
 /*
  * The reasons of refusal: a name, the number and a sentence, and behind these what `place` is, where it is not 0; an
@@ -209,13 +231,14 @@ typedef struct {
     REFUSAL(LUTNIORAD_SHORT_ROOM, 8, "a slice that would be written is too short") /* cells needed */ \
     REFUSAL(LUTNIORAD_BAD_LAYOUT, 9, "the layout of the file is wrong") /* offset of the header field */ \
     REFUSAL(LUTNIORAD_LEFT_OVER, 10, "bytes are left over behind the last window") /* how many */ \
-    REFUSAL(LUTNIORAD_OTHER_M, 15, "the m of the map is not that of the table") \
+    REFUSAL(LUTNIORAD_OTHER_M, 15, "the m of the map is not that of the table or of the baseline") \
     REFUSAL(LUTNIORAD_MONTH_FULL, 16, "the table has 1,000 maps already") \
     REFUSAL(LUTNIORAD_BAD_TILE, 17, "the tile is larger than the picture") \
     REFUSAL(LUTNIORAD_NO_RECORD, 19, "the map has no record of this index") \
     REFUSAL(LUTNIORAD_NOT_MAXIMAL, 22, "the key is that of no maximal block of the window") \
     REFUSAL(LUTNIORAD_BAD_WINDOW_LIST, 25, "the list of windows is not in fours, or has more than 256 windows") \
-    REFUSAL(LUTNIORAD_BAD_TABLE, 26, "the table is no month's: its window, count of maps or a class cannot be")
+    REFUSAL(LUTNIORAD_BAD_TABLE, 26, "the table is no month's: its window, count of maps or a class cannot be") \
+    REFUSAL(LUTNIORAD_NO_BLOCK, 27, "the key names no block")
 
 enum {
 #define LUTNIORAD_NAMED(name, number, sentence) name = number,
@@ -747,6 +770,103 @@ lutniorad_answer lutniorad_salvage(uint32_t m,
                                    uint32_t *out_keys, size_t n_out_keys,
                                    uint8_t *out_classes, size_t n_out_classes,
                                    uint32_t *log, size_t n_log);
+
+/*
+ * Has this window of an overlay a pixel of this class?
+ *
+ * Answers `first` = LUTNIORAD_NO, LUTNIORAD_YES or LUTNIORAD_CANNOT_TELL, as lutniorad_exist does, `second` = 0, by the
+ * classes of the overlay: a pixel that today's map has not seen, by a record of class 255, was not seen, whatever the
+ * baseline says. The first w cells of `border` are then r0 + h.
+ *
+ * Refuses by 1, 2, 3, 4 for today's map, as lutniorad_sparse_check does, with `first` = LUTNIORAD_TODAY; 1 to 5 for the
+ * baseline, as lutniorad_check does, with `first` = LUTNIORAD_BASELINE; 15 when `m` and `base_m` differ; 6; and 7, with
+ * place w, when `border` is shorter than that.
+ */
+lutniorad_answer lutniorad_overlay_exist(uint32_t m,
+                                         const uint32_t *keys, size_t n_keys,
+                                         const uint8_t *classes, size_t n_classes,
+                                         uint32_t base_m,
+                                         const uint32_t *base_keys, size_t n_base_keys,
+                                         const uint8_t *base_classes, size_t n_base_classes,
+                                         uint16_t r0, uint16_t c0, uint16_t h, uint16_t w,
+                                         uint8_t of_class,
+                                         uint16_t *border, size_t n_border);
+
+/*
+ * How many pixels of each class has this window of an overlay?
+ *
+ * Answers `first` = h * w, the pixels of the window, `second` = 0. The first 256 cells of `totals` are then the numbers
+ * of its pixels of class 0, of class 1, and so on to class 255, by the classes of the overlay; they add up to h * w.
+ * The first w cells of `border` are then r0 + h.
+ *
+ * With the keys 9, 13, 14 and the classes 3, 2, 2 of today over the map of the keys 5, 11, 12, 13, 14, 15, 20 and the
+ * classes 1, 2, 2, 3, 1, 1, 2 at m = 2, the window r0 = 0, c0 = 1, h = 3, w = 3 has 2 pixels of class 1, 6 of class 2,
+ * 1 of class 3, and none of any other.
+ *
+ * Refuses by 1 to 5 with `first`, 15, 6 and 7, as lutniorad_overlay_exist does; and 8, with place 256, when `totals`
+ * has fewer cells than that. On 8 the first w cells of `border` are r0 + h, and nothing else was written.
+ */
+lutniorad_answer lutniorad_overlay_report(uint32_t m,
+                                          const uint32_t *keys, size_t n_keys,
+                                          const uint8_t *classes, size_t n_classes,
+                                          uint32_t base_m,
+                                          const uint32_t *base_keys, size_t n_base_keys,
+                                          const uint8_t *base_classes, size_t n_base_classes,
+                                          uint16_t r0, uint16_t c0, uint16_t h, uint16_t w,
+                                          uint16_t *border, size_t n_border,
+                                          uint32_t *totals, size_t n_totals);
+
+/*
+ * Which blocks of this window of an overlay are of this class?
+ *
+ * Goes through the maximal blocks of the window in their order. For each it lists the keys of the fewest blocks that
+ * make up its pixels of the class, in the order of the keys. So what belongs together is joined, whichever map it comes
+ * from, and need be no record of either. Each key is that of a block inside the window, and each pixel of the window
+ * that has the class lies in just one of these blocks, and no other pixel does.
+ *
+ * Answers `first` = the number of keys, `second` = 0. The first so many cells of `out` are then the keys, and the first
+ * w cells of `border` are r0 + h. A cell for each pixel of the window, h * w, is always enough; where that is too much,
+ * ask with no cells, and then with as many as the refusal by 8 says.
+ *
+ * On the maps and the window of the example above, class 2 has the keys 10, 21, 22: two records of either map make up
+ * block 10.
+ *
+ * Refuses by 1 to 5 with `first`, 15, 6 and 7, as lutniorad_overlay_exist does; and 8, with the number of keys as
+ * place, when `out` is shorter than that. On 8 the first w cells of `border` are r0 + h, and nothing else was written.
+ */
+lutniorad_answer lutniorad_overlay_select(uint32_t m,
+                                          const uint32_t *keys, size_t n_keys,
+                                          const uint8_t *classes, size_t n_classes,
+                                          uint32_t base_m,
+                                          const uint32_t *base_keys, size_t n_base_keys,
+                                          const uint8_t *base_classes, size_t n_base_classes,
+                                          uint16_t r0, uint16_t c0, uint16_t h, uint16_t w,
+                                          uint8_t of_class,
+                                          uint16_t *border, size_t n_border,
+                                          uint32_t *out, size_t n_out);
+
+/*
+ * Which classes has the viewer to show in one block of an overlay?
+ *
+ * Answers which part of whose slice: the classes of today's records that overlap the block of the key, `map` =
+ * LUTNIORAD_TODAY; or where none does, those of the baseline's, `map` = LUTNIORAD_BASELINE. Either are records that
+ * follow one another, `count` of them from number `first` on, and there is at least one. So with `map` =
+ * LUTNIORAD_TODAY the part begins at classes + first, and otherwise at base_classes + first. It is the caller's own
+ * memory: nothing is copied, and nothing written.
+ *
+ * On the maps of the example above, key 10 gives `map` = LUTNIORAD_TODAY, `first` = 1 and `count` = 2, and key 15 gives
+ * `map` = LUTNIORAD_BASELINE, `first` = 5 and `count` = 1.
+ *
+ * Refuses by 1 to 5, with `map`, and 15, as lutniorad_overlay_exist does with `first`; and by 27 where
+ * lutniorad_check would refuse a record of this key by 3.
+ */
+lutniorad_part lutniorad_overlay_part(uint32_t m,
+                                      const uint32_t *keys, size_t n_keys,
+                                      const uint8_t *classes, size_t n_classes,
+                                      uint32_t base_m,
+                                      const uint32_t *base_keys, size_t n_base_keys,
+                                      const uint8_t *base_classes, size_t n_base_classes,
+                                      uint32_t key);
 
 #ifdef __cplusplus
 }

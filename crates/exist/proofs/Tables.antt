@@ -12,11 +12,11 @@ use Rattle.answers.proofs.Laws.{on-passed, on-refused, unless-answer, unless-ke
 use Rattle.window.specs.declared.Window.{Window}
 use Rattle.window.specs.Window.{Inside}
 use Rattle.window.specs.Rules.{existsBy}
-use Rattle.map.specs.Sound.{SoundMap}
+use Rattle.map.specs.Sound.{SoundIn, SoundMap}
 use Rattle.map.specs.Promises.{Gapless}
 use Rattle.map.specs.Classes.{notSeen}
 use Rattle.used.specs.Used.{useRefusalsIn, spent}
-use Rattle.used.proofs.Laws.{use-gapless}
+use Rattle.used.proofs.Laws.{use-alike, use-gapless}
 use Rattle.exist.specs.declared.Existence.{Existence}
 use Rattle.exist.specs.declared.Existence.the-variants as existence
 use Rattle.exist.specs.Exist.{presenceBy, existingBy, existIn}
@@ -77,3 +77,11 @@ pub exist-gapless : {m : ℕ} {keys : List ℕ} {classes : ℕ} → Gapless m ke
 unfolding existIn existingBy
 exist-gapless G rule rule′ W class border h =
     use-gapless G W (length border) (λ n p. after (existence.Refused n p) border) _ _ (λ S I. ap (λ (x : Existence). after x (spent W border)) (h S I))
+
+-- on two sound maps, with gaps or without, two rules that say the same of a window inside answer alike
+pub exist-maps : {whole whole′ : Bool} {m : ℕ} {keys keys′ : List ℕ} {classes classes′ : ℕ} → SoundIn whole m keys classes → SoundIn whole′ m keys′ classes′
+    → (rule rule′ : ℕ → ℕ) (W : Window) (class : ℕ) (border : List ℕ) → (Inside m W → (k : ℕ) → existsBy rule W k ≡ existsBy rule′ W k)
+    → existIn whole rule m keys classes W class border ≡ existIn whole′ rule′ m keys′ classes′ W class border
+unfolding existIn existingBy presenceBy
+exist-maps S S′ rule rule′ W class border h =
+    use-alike S S′ W (length border) (λ n p. after (existence.Refused n p) border) _ _ (λ I. rw (h I class, h I notSeen))

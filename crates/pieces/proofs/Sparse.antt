@@ -1,22 +1,37 @@
 -- A map with gaps is one over a baseline of one record, the whole picture in the background's class. And over a whole map nothing of a background is seen in a window.
 -- Assumes nothing.
-use mathlib.Core.Path.{_≡_, refl, ap, _∙_}
+use mathlib.Core.Path.{_≡_, refl, sym, ap, _∙_}
+use mathlib.Core.Bool.{false}
 use mathlib.Core.List.{List, [], _∷_}
 use Prim.Native.Nat.{ℕ, _^_, _≤_, _<_}
 use native.Mathlib.Omega.{arith}
 use lib.ListN.{length, getD}
+use Rattle.lists.proofs.Laws.{never}
 use Rattle.key.proofs.Laws.{whole-named}
 use Rattle.window.specs.declared.Window.{Window}
 use Rattle.window.specs.Window.{Inside}
 use Rattle.window.specs.Rules.{existsBy, totalsBy}
 use Rattle.window.proofs.Laws.{exists-same, totals-same}
-use Rattle.map.specs.Sound.{Follow, full, next, Spaced}
+use Rattle.map.specs.Sound.{Follow, full, next, Spaced, SoundIn, SoundMap}
 use Rattle.map.specs.Records.{recordOf}
-use Rattle.map.specs.Classes.{classOver, classIn, notSeen}
+use Rattle.map.specs.Classes.{classOver, classIn}
 use Rattle.map.proofs.Laws.{spaced, holder, class-held, over-whole}
-use Rattle.pieces.specs.declared.Looked.{Looked}
 use Rattle.pieces.specs.Pair.{Pair, classOverMap}
-use Rattle.pieces.specs.Pieces.{Finds}
+
+-- both maps are sound, the one under the other without gaps
+pub pair-sound : {m : ℕ} {keys : List ℕ} {classes : ℕ} {base : List ℕ} {beneath : ℕ} → SoundIn false m keys classes → SoundMap m base beneath → Pair m keys classes base beneath
+pair-sound S U = record {
+  small = S .sizes .small;
+  few = S .sizes .most;
+  underFew = U .sizes .most;
+  today = S .records;
+  under = U .records;
+  classed = S .sizes .same;
+  underClassed = U .sizes .same;
+}
+
+pub pair-today : {m : ℕ} {keys : List ℕ} {classes : ℕ} {base : List ℕ} {beneath : ℕ} → Pair m keys classes base beneath → SoundIn false m keys classes
+pair-today P = record { sizes = record { small = P .small; same = P .classed; some = λ e. never (sym e); most = P .few }; records = P .today }
 
 -- key 0 is a complete map
 pub one-record : (m : ℕ) → Follow m 0 (0 ∷ [])
@@ -42,17 +57,13 @@ pub over-hidden : {m : ℕ} {keys : List ℕ} → Follow m 0 keys → (classes :
 unfolding classOverMap
 over-hidden {m} F classes n base baseClasses {q} l = over-whole F classes n (classIn m base baseClasses q) l
 
--- rules that agree on the picture find the same in a window
-pub finds-same : {m : ℕ} {W : Window} → Inside m W → {f g : ℕ → ℕ} {k : ℕ} {r : Looked} → ((q : ℕ) → q < 4 ^ m → f q ≡ g q) → Finds f W k r → Finds g W k r
-finds-same I {k = k} h F = record { has = F .has ∙ exists-same I h k; unseen = λ e. F .unseen e ∙ exists-same I h notSeen }
-
--- so what is told of a window over the baseline of one record is told of the map with gaps
+-- so a window over the baseline of one record is one of the map with gaps
 module _ {m : ℕ} {W : Window} (I : Inside m W) (keys classes : List ℕ) (background : ℕ) where
-  pub sparse-totals : {cells : List ℕ} → cells ≡ totalsBy (classOverMap m keys classes (0 ∷ []) (background ∷ [])) W → cells ≡ totalsBy (classOver background m keys classes) W
-  sparse-totals e = e ∙ totals-same I (λ q l. over-one m keys classes background l)
+  pub one-exists : (k : ℕ) → existsBy (classOverMap m keys classes (0 ∷ []) (background ∷ [])) W k ≡ existsBy (classOver background m keys classes) W k
+  one-exists k = exists-same I (λ q l. over-one m keys classes background l) k
 
-  pub sparse-finds : {k : ℕ} {r : Looked} → Finds (classOverMap m keys classes (0 ∷ []) (background ∷ [])) W k r → Finds (classOver background m keys classes) W k r
-  sparse-finds F = finds-same I (λ q l. over-one m keys classes background l) F
+  pub one-totals : totalsBy (classOverMap m keys classes (0 ∷ []) (background ∷ [])) W ≡ totalsBy (classOver background m keys classes) W
+  one-totals = totals-same I (λ q l. over-one m keys classes background l)
 
 -- ---- a whole map, over any background
 

@@ -13,7 +13,6 @@ ghost use Rattle.key.specs.Along.{Begins};
 ghost use Rattle.window.specs.Window.{Inside};
 ghost use Rattle.window.specs.Rules.{totalsBy};
 ghost use Rattle.map.specs.Sound.{Spaced};
-ghost use Rattle.map.specs.Classes.{classOver};
 ghost use Rattle.pieces.specs.Pair.{Pair, classOverMap};
 ghost use Rattle.pieces.specs.Cursors.{Spans, Past, At, StandsAt};
 ghost use Rattle.pieces.specs.Pieces.{Uniform, Tallied, Room, Looks, Finds};
@@ -248,7 +247,7 @@ pub fn look(
 }
 
 // The block of exponent i whose first pixel is given, where a stand is known.
-fn block_ahead(
+pub fn block_ahead(
     table: &[u32; 256],
     m: u32,
     keys: &[u32],
@@ -343,40 +342,4 @@ pub fn find(
         r = row;
         c = after;
     }
-}
-
-// The totals of a map with gaps by itself.
-pub fn add_up_sparse(
-    table: &[u32; 256],
-    m: u32,
-    keys: &[u32],
-    classes: &[u8],
-    background: u8,
-    window: Window,
-    totals: &mut [u32; 256],
-)
-    requires { ⌜ (now table ≡ spreads) × (m ≤ 12) × (length (now keys) ≤ 65536) × Spaced m 0 (now keys) × (length (now keys) ≡ length (now classes)) × Inside m window × (now totals ≡ replicate 256 0) ⌝ }
-    ensures { λ r. ⌜ now (totals .exit) ≡ totalsBy (classOver background m (now (keys .entry)) (now (classes .entry))) window ⌝ }
-{
-    let base: [u32; 1] = [0];
-    let under: [u8; 1] = [background];
-    add_up(table, m, keys, classes, &base, &under, window, totals)
-}
-
-// Whether it has the class.
-pub fn find_sparse(
-    table: &[u32; 256],
-    m: u32,
-    keys: &[u32],
-    classes: &[u8],
-    background: u8,
-    window: Window,
-    class: u8,
-) -> Looked
-    requires { ⌜ (now table ≡ spreads) × (m ≤ 12) × (length (now keys) ≤ 65536) × Spaced m 0 (now keys) × (length (now keys) ≡ length (now classes)) × Inside m window ⌝ }
-    ensures { λ r. ⌜ Finds (classOver background m (now (keys .entry)) (now (classes .entry))) window class r ⌝ }
-{
-    let base: [u32; 1] = [0];
-    let under: [u8; 1] = [background];
-    find(table, m, keys, classes, &base, &under, window, class)
 }

@@ -13,10 +13,10 @@ use Rattle.window.specs.declared.Window.{Window}
 use Rattle.window.specs.Window.{Inside}
 use Rattle.window.specs.Rules.{totalsBy}
 use Rattle.window.proofs.Laws.{totals-by-length}
-use Rattle.map.specs.Sound.{SoundMap}
+use Rattle.map.specs.Sound.{SoundIn, SoundMap}
 use Rattle.map.specs.Promises.{Gapless}
 use Rattle.used.specs.Used.{useRefusalsIn, spent, usedIn}
-use Rattle.used.proofs.Laws.{used-refused, used-short, used-done, used-gapless}
+use Rattle.used.proofs.Laws.{used-refused, used-short, used-done, used-maps, used-gapless}
 use Rattle.report.specs.declared.Reported.the-variants.{Done, Refused}
 use Rattle.report.specs.Report.{reportIn}
 
@@ -48,3 +48,10 @@ pub report-gapless : {m : ℕ} {keys : List ℕ} {classes : ℕ} → Gapless m k
     → reportIn false rule m keys classes W border out ≡ reportIn true rule′ m keys classes W border out
 unfolding reportIn
 report-gapless G rule rule′ W border out h = used-gapless G Refused _ _ _ _ W border out (λ S I. (refl, h S I))
+
+-- on two sound maps, with gaps or without, two rules that count the same in a window inside answer alike
+pub report-maps : {whole whole′ : Bool} {m : ℕ} {keys keys′ : List ℕ} {classes classes′ : ℕ} → SoundIn whole m keys classes → SoundIn whole′ m keys′ classes′
+    → (rule rule′ : ℕ → ℕ) (W : Window) (border out : List ℕ) → (Inside m W → totalsBy rule W ≡ totalsBy rule′ W)
+    → reportIn whole rule m keys classes W border out ≡ reportIn whole′ rule′ m keys′ classes′ W border out
+unfolding reportIn
+report-maps S S′ rule rule′ W border out h = used-maps S S′ Refused _ _ _ _ W border out (λ I. (refl, h I))

@@ -167,8 +167,7 @@ fn form_of(ones: &[u32; 13], digits: &[u8; 16], m: u32, key: u32) -> Form
     if blocks::pow4(m) <= start {
         return Form::Malformed;
     }
-    let pixel = spots::pixel_of(m, start);
-    let spot = spots::begin(ones, m, pixel, 0, start);
+    let spot = spots::spot_at(ones, m, start);
     let fit = spots::exponent_at(ones, digits, m, spot, key);
     match fit {
         Fit::Block { exponent } => Form::Block { exponent, start },

@@ -1,1 +1,3 @@
 mod Found
+pub mod Over
+pub mod Laws

@@ -149,3 +149,12 @@ pub fn begin(ones: &[u32; 13], m: u32, key: u32, i: u32, start: u32) -> Spot
         top,
     }
 }
+
+// Where the walk stands at a place.
+pub fn spot_at(ones: &[u32; 13], m: u32, place: u32) -> Spot
+    requires { ⌜ (now ones ≡ onesTable) × (m ≤ 12) × (place < 4 ^ m) ⌝ }
+    ensures { λ r. ⌜ (r .place ≡ place) × Stands m r ⌝ }
+{
+    let pixel = pixel_of(m, place);
+    begin(ones, m, pixel, 0, place)
+}

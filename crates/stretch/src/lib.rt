@@ -50,3 +50,15 @@ pub fn put_stretch(ones: &[u32; 13], m: u32, from: Spot, end: u32, out: &mut [u3
     }
     k
 }
+
+// The same of the places from a up to b.
+pub fn put_between(ones: &[u32; 13], m: u32, a: u32, b: u32, out: &mut [u32], n: u32) -> u32
+    requires { ⌜ (now ones ≡ onesTable) × (m ≤ 12) × (b ≤ 4 ^ m) × (n + length (stretch m a b) ≤ 4294967295) ⌝ }
+    ensures { λ r. ⌜ Listed n (stretch m a b) (now (out .entry)) r (now (out .exit)) ⌝ }
+{
+    if b <= a {
+        return n;
+    }
+    let spot = spots::spot_at(ones, m, a);
+    put_stretch(ones, m, spot, b, out, n)
+}

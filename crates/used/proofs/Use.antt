@@ -22,7 +22,7 @@ use Rattle.map.specs.Check.{mapRefusalsIn, mapRefusals}
 use Rattle.map.specs.Sound.{Follow, SoundIn, SoundMap}
 use Rattle.map.specs.Promises.{Gapless}
 use Rattle.map.proofs.Laws.{sound-map, recorded-spaced, whole-sparse, gapless-same, numbered-map, without-map}
-use Rattle.used.specs.Used.{Usable, borderRefusals, useRefusalsIn, useRefusals}
+use Rattle.used.specs.Used.{Usable, borderRefusals, viewRefusals, useRefusalsIn, useRefusals}
 use Rattle.used.specs.Promises.{AnswerableIn}
 
 module _ (w cells : ℕ) where
@@ -38,20 +38,22 @@ module _ (w cells : ℕ) where
   unfolding borderRefusals
   numbered-border h = numbered-next 7 (omega arith) h none
 
+module _ (m : ℕ) (W : Window) (cells : ℕ) where
+  pub view-outside : outside m W ≡ true → verdict (viewRefusals m W cells) ≡ verdict-of.Refused 6 0
+  view-outside o = append-refused verdict-of.Refused (windowRefusals m W) _ _ (window-refused m W o)
+
+  pub view-inside : outside m W ≡ false → verdict (viewRefusals m W cells) ≡ verdict (borderRefusals (W .w) cells)
+  view-inside o = append-passed verdict-of.Refused (windowRefusals m W) _ _ (window-passed m W o)
+
 module _ (whole : Bool) (m : ℕ) (keys : List ℕ) (classes : ℕ) (W : Window) (cells : ℕ) where
   pub use-refused : {n p : ℕ} → verdict (mapRefusalsIn whole m keys classes) ≡ verdict-of.Refused n p → verdict (useRefusalsIn whole m keys classes W cells) ≡ verdict-of.Refused n p
   unfolding useRefusalsIn
   use-refused e = append-refused verdict-of.Refused (mapRefusalsIn whole m keys classes) _ _ e
 
-  module _ (e : verdict (mapRefusalsIn whole m keys classes) ≡ verdict-of.Passed) where
-    pub use-outside : outside m W ≡ true → verdict (useRefusalsIn whole m keys classes W cells) ≡ verdict-of.Refused 6 0
-    unfolding useRefusalsIn
-    use-outside o = append-passed verdict-of.Refused (mapRefusalsIn whole m keys classes) _ _ e ∙ append-refused verdict-of.Refused (windowRefusals m W) _ _ (window-refused m W o)
-
-    module _ (o : outside m W ≡ false) where
-      pub use-inside : verdict (useRefusalsIn whole m keys classes W cells) ≡ verdict (borderRefusals (W .w) cells)
-      unfolding useRefusalsIn
-      use-inside = append-passed verdict-of.Refused (mapRefusalsIn whole m keys classes) _ _ e ∙ append-passed verdict-of.Refused (windowRefusals m W) _ _ (window-passed m W o)
+  -- where the map is sound, 6 and 7 are left
+  pub use-view : verdict (mapRefusalsIn whole m keys classes) ≡ verdict-of.Passed → verdict (useRefusalsIn whole m keys classes W cells) ≡ verdict (viewRefusals m W cells)
+  unfolding useRefusalsIn
+  use-view e = append-passed verdict-of.Refused (mapRefusalsIn whole m keys classes) _ _ e
 
   -- one table after the other
   pub use-parts : {A : Type 0} (refuse : ℕ → ℕ → A) (a : A) → answer refuse (useRefusalsIn whole m keys classes W cells) a

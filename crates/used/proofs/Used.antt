@@ -17,12 +17,12 @@ use Rattle.answers.proofs.Laws.{unless-answer, unless-said, answer-append, on-p
 use Rattle.answers.proofs.Laws.{room-done, room-by-lengths, room-said, room-told, Numbered, numbered-append, numbered-room}
 use Rattle.window.specs.declared.Window.{Window}
 use Rattle.window.specs.Window.{Inside}
-use Rattle.map.specs.Sound.{SoundMap}
+use Rattle.map.specs.Sound.{SoundIn, SoundMap}
 use Rattle.map.specs.Promises.{Gapless}
 use Rattle.map.proofs.Laws.{map-over}
 use Rattle.used.specs.Used.{useRefusalsIn, spent, usedIn}
 use Rattle.used.specs.Promises.{AnswerableIn}
-use Rattle.used.proofs.Use.{use-refused, use-answerable, numbered-use, use-gapless}
+use Rattle.used.proofs.Use.{use-refused, use-answerable, numbered-use, use-alike, use-gapless}
 
 -- ---- refusal 8, and an accepted call
 
@@ -120,3 +120,11 @@ pub used-gapless : {m : ℕ} {keys : List ℕ} {classes : ℕ} → Gapless m key
 unfolding usedIn
 used-gapless G refuse done done′ cells cells′ W border out h =
     use-gapless G W (length border) (λ n p. after (refuse n p) (border, out)) _ _ (λ S I. let t = h S I in rw (t .0, t .1))
+
+-- on two sound maps, with gaps or without, uses are the same if they are so where the window is inside
+pub used-maps : {whole whole′ : Bool} {m : ℕ} {keys keys′ : List ℕ} {classes classes′ : ℕ} → SoundIn whole m keys classes → SoundIn whole′ m keys′ classes′
+    → {A : Type 0} (refuse : ℕ → ℕ → A) (done done′ : A) (cells cells′ : List ℕ) (W : Window) (border out : List ℕ) → (Inside m W → (done ≡ done′) × (cells ≡ cells′))
+    → usedIn whole refuse done cells m keys classes W border out ≡ usedIn whole′ refuse done′ cells′ m keys′ classes′ W border out
+unfolding usedIn
+used-maps S S′ refuse done done′ cells cells′ W border out h =
+    use-alike S S′ W (length border) (λ n p. after (refuse n p) (border, out)) _ _ (λ I. let t = h I in rw (t .0, t .1))

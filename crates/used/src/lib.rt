@@ -2,9 +2,10 @@
 use answers::Verdict;
 use window::Window;
 ghost use mathlib.Core.Path.{_≡_};
+ghost use Prim.Native.Nat.{_≤_};
 ghost use lib.ListN.{length};
 ghost use Rattle.answers.specs.Refusals.{verdict};
-ghost use Rattle.used.specs.Used.{borderRefusals, useRefusalsIn, tiledRefusals};
+ghost use Rattle.used.specs.Used.{borderRefusals, viewRefusals, useRefusalsIn, tiledRefusals};
 
 // Refusal 7: a border of so many cells is shorter than a window of w columns is wide.
 pub fn wide_enough(w: u16, cells: usize) -> Verdict
@@ -17,6 +18,20 @@ pub fn wide_enough(w: u16, cells: usize) -> Verdict
         };
     }
     Verdict::Passed
+}
+
+// Refusals 6 and 7.
+pub fn in_view(m: u32, window: Window, cells: usize) -> Verdict
+    requires { ⌜ m ≤ 12 ⌝ }
+    ensures { λ r. ⌜ r ≡ verdict (viewRefusals m window cells) ⌝ }
+{
+    if walk::outside(m, window) {
+        return Verdict::Refused {
+            number: 6,
+            place: 0,
+        };
+    }
+    wide_enough(window.w, cells)
 }
 
 // Refusals 1 to 7, of a map that is to be whole or may have gaps: whoever uses a map and a window asks this first.
@@ -34,13 +49,7 @@ pub fn usable(
     if let Verdict::Refused { number, place } = sound {
         return Verdict::Refused { number, place };
     }
-    if walk::outside(m, window) {
-        return Verdict::Refused {
-            number: 6,
-            place: 0,
-        };
-    }
-    wide_enough(window.w, cells)
+    in_view(m, window, cells)
 }
 
 // The same with blocks of exponent up to `top`: refusal 17 stands between 1 and 2.

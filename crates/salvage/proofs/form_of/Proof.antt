@@ -24,11 +24,8 @@ returns c =
     let s = c .before .before in
     sym (far-malformed _ (s .before .before .before .pre .2) (s .start-of .ensures) (omega (arith, c .if1 .taken, c .before .pow4 .ensures .is)))
 
-pixel-of-requires : tie.Need-pixel-of-requires
-pixel-of-requires c κs = (c .before .before .before .before .before .pre .2, omega (arith, c .if1 .left, c .before .pow4 .ensures .is))
-
-begin-requires : tie.Need-begin-requires
-begin-requires c κs = search needs
+spot-at-requires : tie.Need-spot-at-requires
+spot-at-requires c κs = let p = c .before .before .before .before .before .pre in (p .0, p .2, omega (arith, c .if1 .left, c .before .pow4 .ensures .is))
 
 exponent-at-requires : tie.Need-exponent-at-requires
 exponent-at-requires c κs = search needs
@@ -41,14 +38,11 @@ enum-told c = search needs
 
 -- what is told at the start that the digits say
 module _ (c : tie.After-exponent-at) where
-  abbrev begun : tie.After-begin
-  begun = c .before
-
   abbrev told : tie.After-start-of
-  told = begun .before .before .before .before
+  told = c .before .before .before .before
 
   fits : {t : Fit} → c .exponent-at .result ≡ t → ToldFit (told .before .before .before .args .m) (told .start-of .result) (told .before .before .before .args .key) t
-  fits e = told-as (begun .begin .ensures .0) e (c .exponent-at .ensures)
+  fits e = told-as (c .before .spot-at .ensures .0) e (c .exponent-at .ensures)
 
 returns-2 : tie.Need-returns-2
 returns-2 c = sym (fits-block (fits (c .before .before .before) (c .before .fit .given .1)) .is)
@@ -67,8 +61,7 @@ form-of-spec =
     start-of-requires
     pow4-requires
     returns
-    pixel-of-requires
-    begin-requires
+    spot-at-requires
     exponent-at-requires
     enum-known-fit
     enum-told
