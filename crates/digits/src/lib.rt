@@ -217,7 +217,7 @@ pub fn starts_table() -> [u8; 25]
 }
 
 // How many zeros a number of m digits ends in.
-fn zeros_of(m: u32, key: u32) -> u32
+pub fn zeros_of(m: u32, key: u32) -> u32
     requires { ⌜ m ≤ 12 ⌝ }
     ensures { λ r. ⌜ EndsIn m key r ⌝ }
 {

@@ -14,4 +14,5 @@ pub use Rattle.key.proofs.Places.{span-key, span-named}
 pub use Rattle.key.proofs.Around.{key-zeros, key-least, reaches-least, reaches-before, reaches-around}
 pub use Rattle.key.proofs.Along.{fits-key, fits-block, fits-other}
 pub use Rattle.key.proofs.Joined.{form-cut, form-up}
+pub use Rattle.key.proofs.Upward.{ends-exponent}
 pub use Rattle.key.proofs.Strips.{strips-one, strips-exponent}

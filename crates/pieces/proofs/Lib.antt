@@ -1,4 +1,5 @@
 mod Cursors
+mod Whole
 mod Pieces
 mod Tallies
 mod Sights

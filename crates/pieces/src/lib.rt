@@ -12,7 +12,7 @@ ghost use Rattle.key.specs.Blocks.{Names};
 ghost use Rattle.key.specs.Along.{Begins};
 ghost use Rattle.window.specs.Window.{Inside};
 ghost use Rattle.window.specs.Rules.{totalsBy};
-ghost use Rattle.map.specs.Sound.{Spaced};
+ghost use Rattle.map.specs.Sound.{Follow, Spaced};
 ghost use Rattle.pieces.specs.Pair.{Pair, classOverMap};
 ghost use Rattle.pieces.specs.Cursors.{Spans, Past, At, StandsAt};
 ghost use Rattle.pieces.specs.Pieces.{Uniform, Tallied, Room, Looks, Finds};
@@ -104,6 +104,27 @@ pub fn advance(m: u32, keys: &[u32], cursor: Cursor, a: u32) -> Cursor
     read_record(m, keys, cursor.next + 1)
 }
 
+// The same in a map without gaps: the next record starts where this one ends, and only its exponent is read.
+fn advance_whole(m: u32, keys: &[u32], cursor: Cursor, a: u32) -> Cursor
+    requires { ⌜ (m ≤ 12) × (length (now keys) ≤ 65536) × Follow m 0 (now keys) × (a ≤ 4 ^ m) × Past m (now keys) a (cursor .next) × Spans m (now keys) cursor × (a ≤ cursor .end) ⌝ }
+    ensures { λ r. ⌜ At m (now (keys .entry)) a r ⌝ }
+{
+    if a < cursor.end {
+        return cursor;
+    }
+    let next = cursor.next + 1;
+    let start = cursor.end;
+    if next == keys.len() {
+        return Cursor {
+            next,
+            start,
+            end: start + 1,
+        };
+    }
+    let end = start + blocks::pow4(digits::zeros_of(m, keys[next]));
+    Cursor { next, start, end }
+}
+
 // The same where the first record that ends behind another place is known: it may be the one, and is not sought then. Along a row of a window it mostly is where blocks are small.
 pub fn seek_near(m: u32, keys: &[u32], key: u32, a: u32, known: u32, cursor: Cursor) -> Cursor
     requires { ⌜ (m ≤ 12) × Spaced m 0 (now keys) × Begins m a key × At m (now keys) known cursor ⌝ }
@@ -151,11 +172,11 @@ pub fn stand_at(m: u32, keys: &[u32], base: &[u32], known: Stand, key: u32, a: u
 
 // At a later place, behind the end of neither record.
 pub fn go_on(m: u32, keys: &[u32], base: &[u32], stand: Stand, a: u32) -> Stand
-    requires { ⌜ (m ≤ 12) × (length (now keys) ≤ 65536) × (length (now base) ≤ 65536) × Spaced m 0 (now keys) × Spaced m 0 (now base) × StandsAt m (now keys) (now base) stand × (stand .place ≤ a) × (a ≤ 4 ^ m) × (a ≤ stand .today .end) × (a ≤ stand .under .end) ⌝ }
+    requires { ⌜ (m ≤ 12) × (length (now keys) ≤ 65536) × (length (now base) ≤ 65536) × Spaced m 0 (now keys) × Follow m 0 (now base) × StandsAt m (now keys) (now base) stand × (stand .place ≤ a) × (a ≤ 4 ^ m) × (a ≤ stand .today .end) × (a ≤ stand .under .end) ⌝ }
     ensures { λ r. ⌜ (r .place ≡ a) × StandsAt m (now (keys .entry)) (now (base .entry)) r ⌝ }
 {
     let today = advance(m, keys, stand.today, a);
-    let under = advance(m, base, stand.under, a);
+    let under = advance_whole(m, base, stand.under, a);
     Stand {
         place: a,
         today,

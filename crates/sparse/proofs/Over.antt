@@ -4,17 +4,19 @@ use mathlib.Core.Path.{_≡_, sym, _∙_}
 use mathlib.Core.Bool.{false}
 use mathlib.Core.List.{List, [], _∷_}
 use Prim.Native.Nat.{ℕ}
+use native.Mathlib.Omega.{arith}
 use lib.ListN.{length}
 use Rattle.answers.specs.declared.Verdict.{Verdict}
 use Rattle.answers.specs.declared.Verdict.the-variants.{Passed}
 use Rattle.answers.specs.Refusals.{verdict}
+use Rattle.answers.proofs.Laws.{tile-passed}
 use Rattle.window.specs.declared.Window.{Window}
 use Rattle.map.specs.Check.{mapRefusalsIn}
 use Rattle.map.specs.Classes.{classOver}
 use Rattle.map.specs.Sound.{SoundIn}
 use Rattle.map.proofs.Laws.{sound-map}
-use Rattle.used.specs.Used.{Usable, viewRefusals, useRefusalsIn}
-use Rattle.used.proofs.Laws.{use-view, use-known}
+use Rattle.used.specs.Used.{Usable, viewRefusals, useRefusalsIn, tiledRefusals}
+use Rattle.used.proofs.Laws.{use-view, use-known, tiled-next}
 use Rattle.exist.specs.Exist.{existIn}
 use Rattle.exist.proofs.Laws.{exist-maps}
 use Rattle.report.specs.Report.{reportIn}
@@ -27,6 +29,10 @@ module _ {m : ℕ} {keys : List ℕ} {classes : ℕ} {base : List ℕ} {beneath 
     -- what 6 and 7 say
     pub pair-view : {t : Verdict} → v ≡ t → verdict (useRefusalsIn false m keys classes W cells) ≡ t
     pair-view d = use-view false m keys classes W cells (sound-map m keys classes .1 (pair-today P)) ∙ sym e ∙ d
+
+    -- blocks as large as the picture are refused by nothing else
+    pub pair-tiled : {t : Verdict} → v ≡ t → verdict (tiledRefusals false m m keys classes W cells) ≡ t
+    pair-tiled d = tiled-next false m m keys classes W cells (tile-passed m m .1 (P .small, omega arith)) ∙ pair-view d
 
     pub pair-known : v ≡ Passed → Usable m m keys W cells
     pair-known d = use-known false m keys classes W cells (pair-view d)

@@ -102,8 +102,8 @@ module _ {m : ℕ} {keys : List ℕ} (F : Spaced m 0 keys) (background : ℕ) (c
               whole (R .is) (a .1) (a .0) (sparse-whole-key m background keys classes class key l e)
           go (apart h) = beyond h (decLt i (runOf m keys key .reach))
 
-      pub block-made : Made m Has (s + 4 ^ i) s (sparseSelected m background keys classes class key)
-      block-made = go case
+      pub sparse-made : Made m Has (s + 4 ^ i) s (sparseSelected m background keys classes class key)
+      sparse-made = go case
         where
           go : Case key i s → Made m Has (s + 4 ^ i) s (sparseSelected m background keys classes class key)
           go (whole R c e d) = rw d (made-one-block B (λ q h. over-record R (omega arith) ∙ e))
@@ -112,4 +112,4 @@ module _ {m : ℕ} {keys : List ℕ} (F : Spaced m 0 keys) (background : ℕ) (c
 
       -- so its keys rise
       pub sparse-rising : Ordered _<_ (sparseSelected m background keys classes class key)
-      sparse-rising = made-rising block-made
+      sparse-rising = made-rising sparse-made

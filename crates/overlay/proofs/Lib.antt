@@ -1,0 +1,4 @@
+mod Joins
+mod Blocks
+mod Pairs
+mod Views
