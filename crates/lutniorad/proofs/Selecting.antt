@@ -3,7 +3,7 @@
 use mathlib.Core.Path.{_≡_, refl, ap}
 use mathlib.Core.Logic.{_↔_}
 use mathlib.Core.Bool.{Bool, true}
-use mathlib.Core.List.{List, _++_}
+use mathlib.Core.List.{List, _++_, flatMap}
 use Prim.Native.Nat.{ℕ, _+_, _*_, _/_, _^_, _≤_, _<_}
 use native.Mathlib.Omega.{arith}
 use lib.ListN.{length, take}
@@ -13,16 +13,19 @@ use Rattle.answers.specs.Cells.{overwrite}
 use Rattle.answers.specs.After.{after, roomRefusals, tiledFor}
 use Rattle.answers.proofs.Laws.{take-overwrite}
 use Rattle.window.specs.declared.Window.{Window}
+use Rattle.window.specs.Keys.{keysOf}
+use Rattle.map.specs.Sound.{Spaced}
 use Rattle.map.proofs.Laws.{spaced}
 use Rattle.used.specs.Used.{useRefusalsIn, spent, usedIn}
 use Rattle.used.specs.Promises.{AnswerableIn, Answerable}
 use Rattle.select.specs.declared.Selected.the-variants as selected-as
 use Rattle.select.specs.Select.{selection}
 use Rattle.select.proofs.Laws.{select-is, selection-pixels, selection-one, selection-once, selection-capped, selection-few}
+use Rattle.sparse_select.proofs.Laws.{Blockwise, laid-pixels, laid-one, laid-once}
 use Rattle.lutniorad.specs.declared.Answer.{Answer}
 use Rattle.lutniorad.specs.Numbers.{values, refused, ofSelected}
 use Rattle.lutniorad.specs.Calls.{SelectIn, Select, SelectTiled}
-use Rattle.lutniorad.specs.Promises.{RefusalLeaves, SelectPromise}
+use Rattle.lutniorad.specs.Promises.{RefusalLeaves, SelectStates, SelectPromise}
 use Rattle.lutniorad.proofs.Crossing.{call-one}
 use Rattle.lutniorad.proofs.TiledUse.{tiled-use-crossed, tiled-says, tiled-numbered, tiled-17, tiled-answered, tiled-leaves, tiled-kept}
 
@@ -59,6 +62,21 @@ module _ (whole : Bool) (ks : List ℕ) (m top : ℕ) (keys classes : List ℕ) 
     -- the keys stand in the first cells
     pub select-stand : take (r .first) out′ ≡ ks
     select-stand = rw (ap (λ (x : Answer). x .first) (select-leaves .0), select-leaves .2) (take-overwrite ks out)
+
+    -- keys that block by block make up the places of a class
+    pub select-laid : {rule : ℕ → ℕ} {class : ℕ} {of : ℕ → List ℕ} → Spaced m 0 keys → Blockwise m (λ q. rule q ≡ class) of → ks ≡ flatMap of (keysOf m top W)
+        → SelectStates rule m W class border out (flatMap of (keysOf m top W)) r border′ out′
+    select-laid F B flat =
+        let t = select-answered .0 z in
+        let I = t .1 .0 .inside in
+        record {
+          pixels = λ p v. laid-pixels F I (t .0) B v;
+          apart = λ q x y k l h j. laid-one F I (t .0) B q k l h j;
+          once = laid-once F I (t .0) B;
+          number = rw flat at (select-leaves .0);
+          cells = rw flat at (select-leaves .2);
+          border-after = select-leaves .1;
+        }
 
 -- on a whole map
 module _ (m top : ℕ) (keys classes : List ℕ) (W : Window) (class : ℕ) (border out : List ℕ) {r : Answer} {border′ out′ : List ℕ}

@@ -1,6 +1,6 @@
 -- What is promised of calls on a map that may have gaps, from the contracts of the calls alone.
 -- Assumes nothing.
-use mathlib.Core.Path.{_≡_}
+use mathlib.Core.Path.{_≡_, refl, _∙_}
 use mathlib.Core.Bool.{false}
 use mathlib.Core.List.{List}
 use Prim.Native.Nat.{ℕ, _+_, _*_, _/_, _^_, _≤_}
@@ -13,13 +13,13 @@ use Rattle.border.proofs.Laws.{unmet-none, empty-is, empty-or-brings, fewest}
 use Rattle.used.specs.Promises.{AnswerableIn}
 use Rattle.select.proofs.Laws.{selection-capped}
 use Rattle.sparse_select.specs.Select.{sparseSelection}
-use Rattle.sparse_select.proofs.Laws.{sparse-flat, sparse-one, sparse-once, sparse-inside, sparse-small, sparse-pixels, sparse-plain, sparse-most, sparse-rising}
+use Rattle.sparse_select.proofs.Laws.{laid-inside, laid-small, laid-most, sparse-blockwise, sparse-flat, sparse-plain, sparse-most, sparse-rising}
 use Rattle.sparse_select.proofs.Laws.{sparse-records, sparse-other, sparse-gaps, sparse-least, block-blank}
 use Rattle.lutniorad.specs.declared.Answer.{Answer}
 use Rattle.lutniorad.specs.Calls.{SparseOpen, SparseSelect}
 use Rattle.lutniorad.specs.SparsePromises.{SparseOpenPromise, SparseSelectPromise}
 use Rattle.lutniorad.proofs.Opening.{open-answered, open-stand, open-states}
-use Rattle.lutniorad.proofs.Selecting.{select-answered, select-leaves, select-stand}
+use Rattle.lutniorad.proofs.Selecting.{select-answered, select-stand, select-laid}
 
 pub sparse-open-promise : (m top : ℕ) (keys classes : List ℕ) (W : Window) (border out : List ℕ) {r : Answer} {border′ out′ : List ℕ}
     → SparseOpen m top keys classes W border out r border′ out′ → r .refusal ≡ 0
@@ -61,20 +61,13 @@ module _ (m top background : ℕ) (keys classes : List ℕ) (W : Window) (class 
       let I = t .1 .0 .inside in
       let F = t .1 .0 .sound .records in
       let n = t .1 .0 .sound .sizes .same in
-      let left = select-leaves false listed m top keys classes W border out call z in
-      rw (select-stand false listed m top keys classes W border out call z) (record {
-        states = record {
-          pixels = λ p v. sparse-pixels F I cap background classes n class v;
-          apart = λ q x y k l h j. sparse-one F I cap background classes n class q k l h j;
-          once = sparse-once F I cap background classes n class;
-          number = left .0;
-          cells = left .2;
-          border-after = left .1;
-        };
-        inside = λ p x v l h. sparse-inside F I cap background classes n class p v l h;
-        small = λ x i s l b. sparse-small F I cap background classes n class l b;
-        most = sparse-most F I cap background classes n class;
-        in-order = sparse-flat m top background keys classes W class;
+      let B = sparse-blockwise F background classes n class in
+      rw (select-stand false listed m top keys classes W border out call z ∙ sparse-flat m top background keys classes W class) (record {
+        states = select-laid false listed m top keys classes W border out call z F B (sparse-flat m top background keys classes W class);
+        inside = λ p x v l h. laid-inside F I cap B p v l h;
+        small = λ x i s l b. laid-small F I cap B l b;
+        most = laid-most F I cap B;
+        in-order = refl;
         rising = λ key l. sparse-rising F background classes n class (key-block I cap l .3);
         records = λ key l. sparse-records F background classes n class (key-block I cap l .3);
         other = λ else key l. sparse-other F background classes n class else (key-block I cap l .3);

@@ -28,15 +28,16 @@ pub sparse-is : (m top background : ℕ) (keys classes : List ℕ) (W : Window) 
 sparse-is m top background keys classes W class =
     sparse-flat m top background keys classes W class ∙ laid-is m top W (sparseSelected m background keys classes class)
 
+pub sparse-blockwise : {m : ℕ} {keys : List ℕ} → Spaced m 0 keys → (background : ℕ) (classes : List ℕ) → length keys ≡ length classes → (class : ℕ)
+    → Blockwise m (HasClass m background keys classes class) (sparseSelected m background keys classes class)
+sparse-blockwise F background classes same class = record { makes = sparse-made F background classes same class }
+
 module _ {m top : ℕ} {keys : List ℕ} (F : Spaced m 0 keys) {W : Window} (I : Inside m W) (small : top ≤ m) (background : ℕ) (classes : List ℕ)
     (same : length keys ≡ length classes) (class : ℕ) where
-  pub sparse-blockwise : Blockwise m (HasClass m background keys classes class) (sparseSelected m background keys classes class)
-  sparse-blockwise = record { makes = sparse-made F background classes same class }
-
   pub sparse-most : length (sparseSelection m top background keys classes W class) ≤ W .h * W .w
   unfolding sparseSelection
-  sparse-most = laid-most F I small sparse-blockwise
+  sparse-most = laid-most F I small (sparse-blockwise F background classes same class)
 
   pub sparse-fits : Inside 12 W → length (sparseSelection m top background keys classes W class) ≤ 16777216
   unfolding sparseSelection
-  sparse-fits J = laid-fits F I small sparse-blockwise J
+  sparse-fits J = laid-fits F I small (sparse-blockwise F background classes same class) J
