@@ -1,4 +1,6 @@
 mod Joins
 mod Blocks
 mod Pairs
+mod Meets
 mod Views
+pub mod Laws

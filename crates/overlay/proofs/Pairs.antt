@@ -2,12 +2,13 @@
 -- Assumes nothing.
 use mathlib.Core.Path.{_≡_, refl, sym, ap, _∙_}
 use mathlib.Core.Logic.{_↔_}
-use mathlib.Core.Bool.{Bool, true, false, not}
+use mathlib.Core.Bool.{false, not}
 use mathlib.Core.List.{List, []}
 use Prim.Native.Nat.{ℕ}
 use native.Mathlib.Decide.{ℕ-discrete}
 use native.Mathlib.Omega.{arith}
 use lib.Dec.{eqb}
+use lib.ListN.{length}
 use borrow.Author.Tests.{eq-eqb, ne-eqb}
 use Rattle.answers.specs.declared.Verdict.{Verdict}
 use Rattle.answers.specs.declared.Verdict.the-variants as verdict-of
@@ -17,11 +18,19 @@ use Rattle.answers.proofs.Laws.{on-passed, on-refused, refusal-held, refusal-cl
 use Rattle.map.specs.Check.{mapRefusalsIn, mapRefusals}
 use Rattle.map.specs.Sound.{SoundIn, SoundMap}
 use Rattle.map.proofs.Laws.{sound-map}
-use Rattle.pieces.specs.Pair.{Pair}
+use Rattle.window.specs.declared.Window.{Window}
+use Rattle.exist.specs.Exist.{existIn}
+use Rattle.report.specs.Report.{reportIn}
+use Rattle.select.specs.Select.{selectKeys}
+use Rattle.pieces.specs.Pair.{Pair, classOverMap}
 use Rattle.pieces.proofs.Laws.{pair-sound}
 use Rattle.overlay.specs.declared.Pairing.{Pairing}
 use Rattle.overlay.specs.declared.Pairing.the-variants.{Passed, Refused}
-use Rattle.overlay.specs.Overlay.{sameRefusals, pairing, behind, overPair}
+use Rattle.overlay.specs.declared.ExistOver.the-variants as exist-as
+use Rattle.overlay.specs.declared.ReportOver.the-variants as report-as
+use Rattle.overlay.specs.declared.SelectOver.the-variants as select-as
+use Rattle.overlay.specs.Select.{classSelection}
+use Rattle.overlay.specs.Overlay.{sameRefusals, pairing, behind, overPair, existOver, reportOver, selectOver}
 
 -- ---- refusal 15
 
@@ -111,3 +120,24 @@ module _ {A B S : Type 0} (refuse : ℕ → ℕ → ℕ → B) (tell : A → B) 
 
   pub over-told : p ≡ Passed → {x : A} {left : S} → after x left ≡ o → after (tell x) left ≡ overPair refuse tell p lent o
   over-told e h = ap (λ (y : After A S). after (tell (y .answer)) (y .lent)) h ∙ sym (behind-passed _ _ e)
+
+-- ---- the operations
+
+module _ (m : ℕ) (keys classes : List ℕ) (baseM : ℕ) (base baseClasses : List ℕ) (W : Window) where
+  pub exist-over-is : (class : ℕ) (border : List ℕ) → existOver m keys classes baseM base baseClasses W class border
+      ≡ overPair exist-as.Refused exist-as.Told (pairing m keys (length classes) baseM base (length baseClasses)) border
+      (existIn false (classOverMap m keys classes base baseClasses) m keys (length classes) W class border)
+  unfolding existOver
+  exist-over-is class border = refl
+
+  pub report-over-is : (border out : List ℕ) → reportOver m keys classes baseM base baseClasses W border out
+      ≡ overPair report-as.Refused report-as.Told (pairing m keys (length classes) baseM base (length baseClasses)) (border, out)
+      (reportIn false (classOverMap m keys classes base baseClasses) m keys (length classes) W border out)
+  unfolding reportOver
+  report-over-is border out = refl
+
+  pub select-over-is : (class : ℕ) (border out : List ℕ) → selectOver m keys classes baseM base baseClasses W class border out
+      ≡ overPair select-as.Refused select-as.Told (pairing m keys (length classes) baseM base (length baseClasses)) (border, out)
+      (selectKeys false (classSelection m (classOverMap m keys classes base baseClasses) W class) m m keys (length classes) W border out)
+  unfolding selectOver
+  select-over-is class border out = refl

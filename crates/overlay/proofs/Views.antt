@@ -1,13 +1,16 @@
 -- The viewer's part: whose records it is of, and which.
 -- Assumes nothing.
-use mathlib.Core.Path.{_≡_, refl, sym, _∙_}
+use mathlib.Core.Path.{_≡_, refl, sym, ap, _∙_}
 use mathlib.Core.Bool.{true, false}
-use mathlib.Core.List.{List, [], _∷_}
-use Prim.Native.Nat.{ℕ, _+_, _^_, _≤_}
+use mathlib.Core.List.{List, [], _∷_, map}
+use Prim.Native.Nat.{ℕ, zero, suc, _+_, _^_, _≤_}
 use native.Mathlib.Decide.{ℕ-discrete}
 use native.Mathlib.Omega.{arith}
+use lib.ListN.{length, getD, take, drop}
+use lib.Seq.{drop-cons}
 use borrow.Author.Tests.{eq-eqb, ne-eqb}
-use Rattle.lists.proofs.Laws.{never}
+use Rattle.lists.specs.Lists.{upFrom}
+use Rattle.lists.proofs.Laws.{never, up-none, up-next}
 use Rattle.answers.specs.declared.Verdict.the-variants as verdict-of
 use Rattle.answers.specs.Refusals.{verdict}
 use Rattle.answers.proofs.Laws.{refusal-held, refusal-clear, answer-none, refused-not-passed}
@@ -25,7 +28,7 @@ use Rattle.overlay.specs.declared.Pairing.{Pairing}
 use Rattle.overlay.specs.declared.Pairing.the-variants as pairing-of
 use Rattle.overlay.specs.declared.Viewed.{Viewed}
 use Rattle.overlay.specs.declared.Viewed.the-variants.{Today, Baseline, Refused}
-use Rattle.overlay.specs.Overlay.{pairing, blockRefusals, recordsOver, viewOf}
+use Rattle.overlay.specs.Overlay.{pairing, blockRefusals, recordsOver, viewOf, partIn}
 use Rattle.overlay.proofs.Pairs.{paired, behind-refused, behind-passed}
 
 -- ---- the key, as that of the only record of a map
@@ -114,3 +117,21 @@ module _ (m : ℕ) (keys : List ℕ) (classes baseM : ℕ) (base : List ℕ) (ba
     where
       go : Seen (Baseline first count) → first + count ≤ baseClasses
       go (baseline P n f c d) = omega (arith, block-records (spaced (P .under)) n .room, P .underClassed, f, c)
+
+-- ---- the classes of a part
+
+pub part-are : (xs : List ℕ) (first count : ℕ) → first + count ≤ length xs → take count (drop first xs) ≡ map (λ n. getD xs n 0) (upFrom first count)
+part-are xs first zero l = rw (up-none first)
+part-are xs first (suc count) l = rw (drop-cons xs first 0 (omega arith), up-next first count) (ap (λ (ys : List ℕ). getD xs first 0 ∷ ys) (part-are xs (suc first) count (omega arith)))
+
+pub part-today : (classes baseClasses : List ℕ) {first count : ℕ} {v : Viewed} → v ≡ Today first count → partIn classes baseClasses v ≡ take count (drop first classes)
+unfolding partIn
+part-today classes baseClasses e = rw e
+
+pub part-baseline : (classes baseClasses : List ℕ) {first count : ℕ} {v : Viewed} → v ≡ Baseline first count → partIn classes baseClasses v ≡ take count (drop first baseClasses)
+unfolding partIn
+part-baseline classes baseClasses e = rw e
+
+pub part-refused : (classes baseClasses : List ℕ) {map n p : ℕ} {v : Viewed} → v ≡ Refused map n p → partIn classes baseClasses v ≡ []
+unfolding partIn
+part-refused classes baseClasses e = rw e

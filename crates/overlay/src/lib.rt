@@ -13,12 +13,15 @@ ghost use lib.ListN.{length};
 ghost use Rattle.answers.specs.Cells.{Listed};
 ghost use Rattle.answers.specs.After.{after};
 ghost use Rattle.key.specs.Spread.{spreads};
+ghost use Rattle.key.specs.Blocks.{SomeBlock};
 ghost use Rattle.key.specs.Along.{onesTable};
 ghost use Rattle.window.specs.Window.{Inside};
+ghost use Rattle.map.specs.Sound.{Spaced};
 ghost use Rattle.pieces.specs.Pair.{Pair, classOverMap};
 ghost use Rattle.pieces.specs.Cursors.{StandsAt};
 ghost use Rattle.select.specs.Select.{keysInto, selectKeys};
 ghost use Rattle.overlay.specs.Select.{classBlocks, classSelection};
+ghost use Rattle.overlay.specs.Meeting.{Meeting};
 ghost use Rattle.overlay.specs.Overlay.{pairing, existOver, reportOver, selectOver, viewOf, partIn};
 
 // What the check of both maps says: they can be laid over each other; or a refusal, of today's map, which is 1, of the baseline, which is 2, or of neither, which is 0.
@@ -41,6 +44,12 @@ pub enum ReportOver {
 pub enum SelectOver {
     Told { selected: Selected },
     Refused { map: u32, number: u32, place: u32 },
+}
+
+// So many records of a map, from the first on.
+pub struct Records {
+    pub first: u32,
+    pub count: u32,
 }
 
 // Which part of whose classes a viewer is lent, or a refusal.
@@ -315,6 +324,23 @@ pub fn select(
     SelectOver::Told { selected }
 }
 
+// The records of a map that overlap the block of a key: from the first that ends behind its first place up to those with keys beyond its own. `runs::records_of`, which says how far
+// they reach too, is left to opening alone.
+fn overlapping(m: u32, keys: &[u32], key: u32) -> Records
+    requires { ⌜ (m ≤ 12) × (length (now keys) ≤ 65536) × Spaced m 0 (now keys) × SomeBlock m key ⌝ }
+    ensures { λ r. ⌜ Meeting m (now (keys .entry)) key r ⌝ }
+{
+    let block = digits::span_of(m, key);
+    let table = blocks::spread_table();
+    let from = pieces::seek(m, keys, key, block.start).next;
+    let beyond = key + blocks::pow5(&table, block.exponent);
+    let count = runs::keys_below(keys, beyond, from) - from;
+    Records {
+        first: from as u32,
+        count: count as u32,
+    }
+}
+
 // Which part of whose classes a viewer is lent for the block of a key: those of today's records that overlap it, or where none does those of the baseline's.
 // The key is looked at as the check looks at that of a record: 27 is given where it would give 3.
 pub fn view(
@@ -346,11 +372,9 @@ pub fn view(
             place: 0,
         };
     }
-    let exponent = digits::span_of(m, key).exponent;
-    let table = blocks::spread_table();
-    let today = runs::records_of(&table, m, keys, key, exponent);
+    let today = overlapping(m, keys, key);
     if today.count == 0 {
-        let under = runs::records_of(&table, m, base, key, exponent);
+        let under = overlapping(m, base, key);
         return Viewed::Baseline {
             first: under.first,
             count: under.count,

@@ -102,6 +102,20 @@ module _ {m : ℕ} {keys : List ℕ} (F : Spaced m 0 keys) where
         go (held g d q) (left x y z) = omega arith
         go (held g d q) (held {i = j} x y z) = omega (arith, before R (omega arith) d, pow-least 3 j)
 
+  -- ---- the records from it on end behind the place
+
+  pub at-behind : {a : ℕ} {c : Cursor} → At m keys a c → {n i s : ℕ} → Record m keys n i s → c .next ≤ n → a < s + 4 ^ i
+  at-behind {a} {c} A {n} {i} {s} R l = go (A .spans) (decLt (c .next) n)
+    where
+      go : Spans m keys c → Dec (c .next < n) → a < s + 4 ^ i
+      go (left g x y) d = absurd (omega (arith, R .within))
+      go (held g x y) (yes d) = omega (arith, apart F (c .next) n (record { within = g; names = x }) R d, A .ahead, y, pow-least 3 i)
+      go (held {i = j} g x y) (no d) =
+          let p : n ≡ c .next = omega (arith, d) in
+          let same : Names m (getD keys (c .next) 0) i s = rw p at (R .names) in
+          let o = one-block same x in
+          rw (o .0, o .1) (omega (arith, A .ahead, y))
+
   -- ---- the places before it, and its own
 
   module _ {a : ℕ} {c : Cursor} (A : At m keys a c) where
@@ -139,3 +153,11 @@ at-start F {a} {c} A l = go (decLt a (c .start))
     go : Dec (a < c .start) → c .start ≤ a
     go (yes d) = let H = holder F a (omega arith) l in absurd (at-gap (spaced F) A a (omega arith) d .none (H .is) (H .has))
     go (no d) = omega (arith, d)
+
+-- it is one of the map, or none is left
+pub at-room : {m : ℕ} {keys : List ℕ} {a : ℕ} {c : Cursor} → At m keys a c → c .next ≤ length keys
+at-room {m} {keys} {c = c} A = go (A .spans)
+  where
+    go : Spans m keys c → c .next ≤ length keys
+    go (held g d e) = omega arith
+    go (left g d e) = omega arith

@@ -51,6 +51,11 @@ pub over-one : (m : ℕ) (keys classes : List ℕ) (background : ℕ) {q : ℕ} 
 unfolding classOverMap
 over-one m keys classes background {q} l = ap (λ (b : ℕ). getD classes (recordOf m keys q) b) (one-class m background l)
 
+-- a map of no record hides nothing
+pub over-none : (m : ℕ) (base baseClasses : List ℕ) (q : ℕ) → classOverMap m [] [] base baseClasses q ≡ classIn m base baseClasses q
+unfolding classOverMap
+over-none m base baseClasses q = refl
+
 -- a whole map hides what is under it
 pub over-hidden : {m : ℕ} {keys : List ℕ} → Follow m 0 keys → (classes : List ℕ) → length keys ≡ length classes → (base baseClasses : List ℕ) {q : ℕ} → q < 4 ^ m
     → classOverMap m keys classes base baseClasses q ≡ classIn m keys classes q

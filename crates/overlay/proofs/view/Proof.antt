@@ -1,14 +1,13 @@
 -- `overlay::view` meets its contract, case by case. The key is that of a block where the check passes it as that of the only record of a map.
 -- Assumes nothing.
-use mathlib.Core.Path.{_≡_, sym, ap, ap₂, _∙_}
+use mathlib.Core.Path.{_≡_, sym, ap₂, _∙_}
 use mathlib.Core.Bool.{false}
 use mathlib.Core.List.{[], _∷_}
+use native.Mathlib.Omega.{arith}
 use lib.ListN.{length}
 use borrow.Author.Needs.{needs}
 use Rattle.key.specs.Blocks.{SomeBlock}
-use Rattle.map.specs.declared.Run.{Run}
-use Rattle.map.specs.Runs.{BlockOf}
-use Rattle.map.proofs.Laws.{spaced}
+use Rattle.map.proofs.Laws.{spaced, some-records}
 use Rattle.pieces.specs.Pair.{Pair}
 use Rattle.overlay.specs.declared.Pairing.the-variants.{Passed}
 use Rattle.overlay.specs.declared.Viewed.the-variants.{Today, Baseline}
@@ -70,43 +69,30 @@ module _ (c : tie.After-enum-told3) where
   block : SomeBlock (entry both .args .m) (entry both .args .key)
   block = alone-block _ _ (sym (c .before .before .sound .ensures) ∙ c .enum-told3 .given .1)
 
-span-of-requires : tie.Need-span-of-requires
-span-of-requires c κs = (pair (both c) .small, block c)
+overlapping-requires : tie.Need-overlapping-requires
+overlapping-requires c κs = let p = pair (both c) in (p .small, p .few, p .today, block c)
 
-spread-table-requires : tie.Need-spread-table-requires
-spread-table-requires c κs = search needs
-
--- its exponent is known
-abbrev told : tie.After-table → tie.After-enum-told3
-told c = c .before .before .before
-
-records-of-requires : tie.Need-records-of-requires
-records-of-requires c κs =
-    let p = pair (both (told c)) in
-    let s = c .before .before .span-of in
-    (c .before .spread-table .ensures, p .small, p .few, p .today, record { start = s .result .start; names = s .ensures })
-
-records-of-requires-2 : tie.Need-records-of-requires-2
-records-of-requires-2 c κs =
-    let t = c .before .before .before .before in
-    let p = pair (both (told t)) in
-    let s = t .before .before .span-of in
-    (t .before .spread-table .ensures, p .small, p .underFew, spaced (p .under), record { start = s .result .start; names = s .ensures })
+overlapping-requires-2 : tie.Need-overlapping-requires-2
+overlapping-requires-2 c κs =
+    let t = c .before .before .before in
+    let p = pair (both t) in
+    (p .small, p .underFew, spaced (p .under), block t)
 
 returns-3 : tie.Need-returns-3
 returns-3 c =
-    let r = c .before .before .before .before in
-    let t = told (r .before) in
-    let none = ap (λ (x : Run). x .count) (sym (r .records-of .ensures)) ∙ c .before .before .if1 .taken in
-    ap₂ Baseline (ap (λ (x : Run). x .first) (c .records-of2 .ensures)) (ap (λ (x : Run). x .count) (c .records-of2 .ensures))
-    ∙ sym (view-baseline _ _ _ _ _ _ _ (passed (both t)) (block t) none)
+    let r = c .before .before .before in
+    let t = r .before in
+    let u = c .overlapping2 .ensures in
+    let some = some-records (pair (both t) .under) (block t .names) in
+    ap₂ Baseline (u .first (λ e. omega (arith, some, u .count, e))) (u .count)
+    ∙ sym (view-baseline _ _ _ _ _ _ _ (passed (both t)) (block t) (sym (r .overlapping .ensures .count) ∙ c .before .if1 .taken))
 
 returns-4 : tie.Need-returns-4
 returns-4 c =
     let r = c .before .before in
-    let t = told (r .before) in
-    ap₂ Today (ap (λ (x : Run). x .first) (r .records-of .ensures)) (ap (λ (x : Run). x .count) (r .records-of .ensures))
-    ∙ sym (view-today _ _ _ _ _ _ _ (passed (both t)) (block t) (λ e. c .if1 .left (ap (λ (x : Run). x .count) (r .records-of .ensures) ∙ e)))
+    let t = r .before in
+    let u = r .overlapping .ensures in
+    ap₂ Today (u .first (c .if1 .left)) (u .count) ∙ sym (view-today _ _ _ _ _ _ _ (passed (both t)) (block t) (λ e. c .if1 .left (u .count ∙ e)))
 
 pub view-spec : {M : Type 1} → statement M
 view-spec =
@@ -122,9 +108,7 @@ view-spec =
     enum-told-2
     returns-2
     enum-told-3
-    span-of-requires
-    spread-table-requires
-    records-of-requires
-    records-of-requires-2
+    overlapping-requires
+    overlapping-requires-2
     returns-3
     returns-4)
