@@ -1,8 +1,8 @@
 /*
  * The instructions of the library's operations, beside those of the programs in programs.h: tables over maps and
  * windows, what reading a key takes, what a tile costs, what many windows take in one call, what it takes to say why,
- * what is saved by leaving out background, what salvage takes, what the tables say in short, how the operations grow,
- * and the experiment with random windows.
+ * what is saved by leaving out background, what salvage takes, what a lake's day over the lake takes, what the tables
+ * say in short, how the operations grow, and the experiment with random windows.
  *
  *     bench FILE-OF-COUNTS FILE-OF-BEFORE PLOT
  */
@@ -10,6 +10,7 @@
 #include "experiment.h"
 #include "growth.h"
 #include "many.h"
+#include "overlay.h"
 #include "reading.h"
 #include "salvage.h"
 #include "sparse.h"
@@ -158,6 +159,7 @@ int main(int argc, char **argv)
     n_cells = print_why(cells, n_cells);
     print_sparse();
     n_cells = print_salvage(cells, n_cells);
+    n_cells = print_overlay(cells, n_cells);
     print_summaries(cells, n_cells);
     print_against_before(cells, n_cells);
     print_wanted(cells, n_cells);

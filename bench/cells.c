@@ -8,13 +8,17 @@
 
 const char *map_name(const cell *c)
 {
-    return c->operation != DECOMPOSE ? map_names[c->map] : c->map == PIXELS ? "m = 8" : "m = 12";
+    if (c->operation == DECOMPOSE)
+        return c->map == PIXELS ? "m = 8" : "m = 12";
+    return c->operation < OVERLAY_EXIST ? map_names[c->map] : day_names[c->map];
 }
 
 const char *window_name(const cell *c)
 {
     if (c->operation == SALVAGE_BROKEN)
         return fault_names[c->window];
+    if (c->operation == OVERLAY_PART)
+        return block_names[c->window];
     return takes_window(c->operation) ? window_names[c->window] : "";
 }
 
@@ -86,13 +90,19 @@ static void hold_against_report(const result *added, int operation, const map *a
         wrong("the month and report leave different borders", where);
 }
 
+uint32_t existence(const uint32_t totals[LUTNIORAD_CLASSES], uint8_t class)
+{
+    if (totals[class] > 0)
+        return LUTNIORAD_YES;
+    return totals[NOT_SEEN] > 0 ? LUTNIORAD_CANNOT_TELL : LUTNIORAD_NO;
+}
+
 /* Exist must answer what report says, and leave the border as report does. */
 static void hold_exist(const program *p, const map *a, rectangle at, uint8_t class, const result *reported,
                        const char *where)
 {
     static uint16_t border[CELLS];
-    uint32_t otherwise = reported->out[NOT_SEEN] > 0 ? LUTNIORAD_CANNOT_TELL : LUTNIORAD_NO;
-    lutniorad_answer is, must = {0, 0, reported->out[class] > 0 ? LUTNIORAD_YES : otherwise, 0};
+    lutniorad_answer is, must = {0, 0, existence(reported->out, class), 0};
     memset(border, 0xA5, sizeof border);
     is = p->exist(a->m, a->keys, a->q, a->classes, a->q, at.r0, at.c0, at.h, at.w, class, border, CELLS);
     if (memcmp(&is, &must, sizeof is) != 0 || memcmp(border, reported->border, at.w * sizeof *border) != 0) {

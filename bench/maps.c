@@ -1,5 +1,7 @@
 #include "maps.h"
 
+#include "lutniorad.h"
+
 #include <stdbool.h>
 #include <stdlib.h>
 
@@ -26,6 +28,18 @@ rectangle make_window(uint32_t m, int number)
     return windows[number];
 }
 
+const char *const block_names[BLOCKS] = {"pixel", "32 x 32", "quarter", "picture"};
+
+/* That in which the corner of the tiny window lies. */
+rectangle make_block(uint32_t m, int number)
+{
+    const uint32_t exponents[BLOCKS] = {0, 5, m - 1, m};
+    const uint32_t side = (uint32_t)1 << exponents[number];
+    const uint16_t corner = (uint16_t)(make_window(m, TINY).r0 / side * side);
+    rectangle at = {corner, corner, (uint16_t)side, (uint16_t)side};
+    return at;
+}
+
 uint32_t below(uint64_t *state, uint32_t n)
 {
     *state = *state * 6364136223846793005u + 1442695040888963407u;
@@ -41,9 +55,9 @@ rectangle anywhere(uint32_t m, uint32_t h, uint32_t w, uint64_t *state)
     return at;
 }
 
-/* ---- Shapes: the class of a block, or CUT where it is cut in four ---- */
+/* ---- Shapes: the class of a block, CUT where it is cut in four, or GAP where it is no record ---- */
 
-enum { CUT = -1 };
+enum { CUT = -1, GAP = -2 };
 
 typedef int shape(int row, int col, int side);
 
@@ -96,13 +110,14 @@ static int nearest(int from, int side, int place)
     return before < behind ? before : behind;
 }
 
-/* A round lake with land around it and discs of scum on it. */
-static int lake(int row, int col, int side)
+/* A round lake with land around it and discs of scum on it, which have drifted so many rows and columns. */
+static int drifted(int row, int col, int side, int by)
 {
     int class = LAND;
     for (size_t i = 0; i < sizeof discs / sizeof *discs; i++) {
-        int far_row = farthest(row, side, discs[i].row), far_col = farthest(col, side, discs[i].col);
-        int near_row = nearest(row, side, discs[i].row), near_col = nearest(col, side, discs[i].col);
+        int way = discs[i].class == SCUM ? by : 0, at_row = discs[i].row + way, at_col = discs[i].col + way;
+        int far_row = farthest(row, side, at_row), far_col = farthest(col, side, at_col);
+        int near_row = nearest(row, side, at_row), near_col = nearest(col, side, at_col);
         int square = discs[i].radius * discs[i].radius;
         if (far_row * far_row + far_col * far_col <= square)
             class = discs[i].class;
@@ -110,6 +125,24 @@ static int lake(int row, int col, int side)
             return CUT; /* never a pixel: that is as near as it is far */
     }
     return class;
+}
+
+static int lake(int row, int col, int side)
+{
+    return drifted(row, col, side, 0);
+}
+
+static int lake_today(int row, int col, int side)
+{
+    enum { DRIFT = 100 };
+    return drifted(row, col, side, DRIFT);
+}
+
+/* Of the lake today, the blocks that were not of the same class throughout. */
+static int change(int row, int col, int side)
+{
+    int class = lake_today(row, col, side);
+    return class != CUT && class == lake(row, col, side) ? GAP : class;
 }
 
 bool apart(int from, int side, int start, int count)
@@ -167,7 +200,8 @@ static void cut(map *a, shape *is, uint32_t key, uint32_t keys, int row, int col
         }
         return;
     }
-    add_record(a, key, (uint8_t)class);
+    if (class != GAP)
+        add_record(a, key, (uint8_t)class);
 }
 
 static void make(map *a, uint32_t m, shape *is)
@@ -235,4 +269,37 @@ void break_map(map *broken, const map *sound, int fault)
             add_tenth(broken, sound, i, fault);
         else
             add_record(broken, sound->keys[i], sound->classes[i]);
+}
+
+/* ---- A lake's day ---- */
+
+const char *const day_names[DAYS] = {"no record", "scum drifted", "each tenth", "each second", "complete"};
+
+/* What class it is today. */
+static uint8_t repainted(uint8_t class)
+{
+    return class == CLEAR ? SCUM : class == SCUM ? CLEAR : LUTNIORAD_NOT_SEEN;
+}
+
+/* The last of each `of` records is repainted, in the map of the day and in what that shows; none where that is 0. */
+static void repaint(map *today, map *shown, size_t of)
+{
+    for (size_t i = 0; of > 0 && i < shown->q; i++)
+        if (i % of == of - 1) {
+            shown->classes[i] = repainted(shown->classes[i]);
+            add_record(today, shown->keys[i], shown->classes[i]);
+        }
+}
+
+void make_day(map *today, map *shown, const map *baseline, int number)
+{
+    static const size_t of[DAYS] = {[TENTH] = 10, [SECOND] = 2};
+    if (number == DRIFTED || number == COMPLETE) {
+        make(today, baseline->m, number == DRIFTED ? change : lake_today);
+        make(shown, baseline->m, lake_today);
+        return;
+    }
+    begin_map(today, baseline->m);
+    *shown = *baseline;
+    repaint(today, shown, of[number]);
 }

@@ -1,4 +1,4 @@
-/* The maps that are measured, broken ones among them, and the windows on them. */
+/* The maps that are measured, broken ones and those of a day among them, and the windows and blocks on them. */
 #ifndef BENCH_MAPS_H
 #define BENCH_MAPS_H
 
@@ -37,6 +37,17 @@ bool is_tenth(size_t record);
 /* The lake with a fault. */
 void break_map(map *broken, const map *sound, int fault);
 
+/*
+ * Of a lake's day, over the lake: no record; what has changed since the scum has drifted; each tenth record of the
+ * lake, or each second, in which clear water and scum have changed places and land lies under clouds; and the whole
+ * lake since the scum has drifted.
+ */
+enum { NO_RECORD, DRIFTED, TENTH, SECOND, COMPLETE, DAYS };
+extern const char *const day_names[DAYS];
+
+/* The map of that day, and a complete map of what it shows over the lake. */
+void make_day(map *today, map *shown, const map *baseline, int number);
+
 typedef struct {
     uint16_t r0, c0, h, w;
 } rectangle;
@@ -45,6 +56,12 @@ enum { TINY, MEDIUM, LONG, WHOLE, WINDOWS, MIXED = WINDOWS /* of many, some of e
 extern const char *const window_names[BATCHES];
 
 rectangle make_window(uint32_t m, int number);
+
+/* Windows that are blocks: a pixel, 32 x 32 pixels, a quarter of the picture, and all of it. */
+enum { A_PIXEL, A_TILE, A_QUARTER, A_PICTURE, BLOCKS };
+extern const char *const block_names[BLOCKS];
+
+rectangle make_block(uint32_t m, int number);
 
 /* A block, by its north-west corner. */
 typedef struct {

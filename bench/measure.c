@@ -12,17 +12,40 @@
 #include <unistd.h>
 
 const program library = {
-    "library",         lutniorad_check,      lutniorad_decompose, lutniorad_open,  lutniorad_exist,
-    lutniorad_report,  lutniorad_select,     lutniorad_read,      lutniorad_write, lutniorad_month_add,
-    lutniorad_windows, lutniorad_why_record, lutniorad_why_block, lutniorad_salvage,
+    "library",
+    lutniorad_check,
+    lutniorad_decompose,
+    lutniorad_open,
+    lutniorad_exist,
+    lutniorad_report,
+    lutniorad_select,
+    lutniorad_read,
+    lutniorad_write,
+    lutniorad_month_add,
+    lutniorad_windows,
+    lutniorad_why_record,
+    lutniorad_why_block,
+    lutniorad_salvage,
+    lutniorad_overlay_exist,
+    lutniorad_overlay_report,
+    lutniorad_overlay_select,
+    lutniorad_overlay_part,
 };
 const program plain = {
-    "plain C",  plain_check, plain_decompose, plain_open,    plain_exist,      plain_report,    plain_select,
-    plain_read, plain_write, plain_month_add, plain_windows, plain_why_record, plain_why_block, plain_salvage,
+    "plain C",       plain_check,   plain_decompose,     plain_open,           plain_exist,          plain_report,
+    plain_select,    plain_read,    plain_write,         plain_month_add,      plain_windows,        plain_why_record,
+    plain_why_block, plain_salvage, plain_overlay_exist, plain_overlay_report, plain_overlay_select, plain_overlay_part,
 };
 const program fastest = {
-    "fastest C",  fastest_check, fastest_decompose, fastest_open, fastest_exist, fastest_report, fastest_select,
-    fastest_read, fastest_write, NULL,              NULL,         NULL,          NULL,           NULL,
+    .name = "fastest C",
+    .check = fastest_check,
+    .decompose = fastest_decompose,
+    .open = fastest_open,
+    .exist = fastest_exist,
+    .report = fastest_report,
+    .select = fastest_select,
+    .read = fastest_read,
+    .write = fastest_write,
 };
 const program growing = {.name = "growing list", .open = growing_open};
 const program every = {.name = "every block", .open = every_open};
@@ -45,11 +68,25 @@ const char *const operation_names[OPERATIONS] = {
     "why_block, skipped",
     "salvage",
     "salvage, broken",
+    "overlay_exist",
+    "overlay_report",
+    "overlay_select",
+    "overlay_part",
 };
 
 bool takes_window(int operation)
 {
-    return operation != CHECK && operation != READ && operation != WRITE && operation < SALVAGE;
+    switch (operation) {
+    case CHECK:
+    case READ:
+    case WRITE:
+    case SALVAGE:
+    case SALVAGE_BROKEN:
+    case OVERLAY_PART:
+        return false;
+    default:
+        return true;
+    }
 }
 
 bool checks_first(int operation)
@@ -81,6 +118,13 @@ block block_of(uint32_t m, uint32_t key, const char *where)
         b.col += quadrant % 2 << b.exponent;
     }
     return b;
+}
+
+bool overlaps(const map *a, size_t record, rectangle at, const char *where)
+{
+    block b = block_of(a->m, a->keys[record], where);
+    int side = 1 << b.exponent;
+    return !apart(b.row, side, at.r0, at.h) && !apart(b.col, side, at.c0, at.w);
 }
 
 /* The file of a map. */
@@ -169,6 +213,7 @@ __attribute__((always_inline)) static inline void measure_either(const program *
 {
     static counted around; /* the marks */
     static const lutniorad_reason none;
+    static const lutniorad_part no_part;
     counted took;
     if (around.instructions == 0)
         around = marked(p, NOTHING, NULL, a, at, r);
@@ -178,6 +223,7 @@ __attribute__((always_inline)) static inline void measure_either(const program *
     lutniorad_write(a->m, a->keys, a->q, a->classes, a->q, map_file, sizeof map_file);
     make_month(r->table, a->m, at, operation == ADD_NEXT);
     r->reason = none;
+    r->part = no_part;
     took = minus(marked(p, operation, with, a, at, r), around);
     r->instructions = took.instructions;
     r->divisions = took.divisions;
@@ -200,10 +246,23 @@ lutniorad_answer direct_check(const map *a, rectangle at, uint32_t number, size_
     return lutniorad_check(a->m, a->keys, a->q, a->classes, a->q);
 }
 
+lutniorad_answer direct_report(const map *a, rectangle at, uint32_t number, size_t room, result *r)
+{
+    (void)number;
+    return lutniorad_report(a->m, a->keys, a->q, a->classes, a->q, at.r0, at.c0, at.h, at.w, r->border, CELLS, r->out,
+                            room);
+}
+
+lutniorad_answer direct_sparse_report(const map *a, rectangle at, uint32_t number, size_t room, result *r)
+{
+    return lutniorad_sparse_report(a->m, (uint8_t)number, a->keys, a->q, a->classes, a->q, at.r0, at.c0, at.h, at.w,
+                                   r->border, CELLS, r->out, room);
+}
+
 bool same_answers(const result *x, const result *y)
 {
     return memcmp(&x->answer, &y->answer, sizeof x->answer) == 0 &&
-           memcmp(&x->reason, &y->reason, sizeof x->reason) == 0 &&
+           memcmp(&x->reason, &y->reason, sizeof x->reason) == 0 && memcmp(&x->part, &y->part, sizeof x->part) == 0 &&
            memcmp(x->border, y->border, sizeof x->border) == 0 && memcmp(x->out, y->out, sizeof x->out) == 0 &&
            memcmp(x->table, y->table, sizeof x->table) == 0 && memcmp(x->bytes, y->bytes, sizeof x->bytes) == 0;
 }

@@ -20,9 +20,16 @@ typedef struct {
     windows_function *windows;
     why_function *why_record, *why_block;
     salvage_function *salvage;
+    overlay_exist_function *overlay_exist;
+    overlay_report_function *overlay_report;
+    overlay_select_function *overlay_select;
+    overlay_part_function *overlay_part;
 } program;
 
-/* Fastest adds no map, takes no list of windows, does not say why and salvages no map, and the last two only open. */
+/*
+ * Fastest adds no map, takes no list of windows, does not say why, salvages no map and lays none over another, and the
+ * last two only open.
+ */
 extern const program library, plain, fastest, growing, every;
 
 /* Of asking why there is one for each kind of answer. */
@@ -44,6 +51,10 @@ enum {
     WHY_SKIPPED,
     SALVAGE,
     SALVAGE_BROKEN, /* of a broken lake */
+    OVERLAY_EXIST,  /* this one and those behind it: of a lake's day over the lake */
+    OVERLAY_REPORT,
+    OVERLAY_SELECT,
+    OVERLAY_PART,
     OPERATIONS,
     NOTHING
 };
@@ -63,7 +74,8 @@ enum { CELLS = 4096, ROOM = LUTNIORAD_OPEN_TILED_CELLS(5, 4096, 4096), LOG = MOS
 typedef struct {
     int64_t instructions, divisions;
     lutniorad_answer answer;
-    lutniorad_reason reason; /* what a call says that returns one, and no answer */
+    lutniorad_reason reason; /* what a call says that returns one, and no answer; so the next */
+    lutniorad_part part;
     uint16_t border[CELLS];
     uint32_t out[ROOM]; /* of salvage: the keys and, from LOG on, the log */
     uint64_t table[MONTH_CELLS];
@@ -82,15 +94,15 @@ void measure(const program *p, int operation, const map *a, rectangle at, result
 
 /*
  * A call that is made directly, with a number and so many out cells. The number is the tile of a call that has one, how
- * many cells a list of windows has, or the record or block about which it is asked why.
+ * many cells a list of windows has, the record or block about which is asked, or a class or background.
  */
 typedef lutniorad_answer direct_call(const map *a, rectangle at, uint32_t number, size_t room, result *r);
 
 /* As measure, of such a call. */
 void measure_direct(direct_call *f, const map *a, rectangle at, uint32_t number, size_t room, result *r);
 
-/* The library's check, made so. */
-direct_call direct_check;
+/* The library's check and its two reports, made so. The number is the background of a sparse map. */
+direct_call direct_check, direct_report, direct_sparse_report;
 
 bool same_answers(const result *x, const result *y);
 
@@ -114,5 +126,8 @@ void wrong(const char *why, const char *where);
 
 /* The block of a key. Where there is none, that is wrong. */
 block block_of(uint32_t m, uint32_t key, const char *where);
+
+/* Has a record of the map, by its index, a pixel there? */
+bool overlaps(const map *a, size_t record, rectangle at, const char *where);
 
 #endif

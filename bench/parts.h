@@ -255,6 +255,18 @@ static inline spot advance(uint32_t key, uint32_t i, uint32_t start)
     return next;
 }
 
+/* The exponent, up to `top`, of the largest block with no more than so many places. */
+static inline uint32_t largest(uint32_t top, uint32_t places)
+{
+    return least((30 - (uint32_t)__builtin_clz(2 * places + 1)) / 2, top);
+}
+
+/* The key of the block of exponent i that starts there. */
+static inline uint32_t key_here(spot at, uint32_t i)
+{
+    return at.key + ones[at.top] - ones[i];
+}
+
 /*
  * How far the block of a key reaches around the block of a larger key and its exponent i: its own exponent where it
  * contains it, otherwise i.
@@ -328,6 +340,14 @@ static inline lutniorad_answer sized(uint32_t m, size_t n_keys, size_t n_classes
     if (n_keys != n_classes || n_keys == 0 || n_keys > 65536)
         return refused(2, 0);
     return answered((uint32_t)n_keys, 0);
+}
+
+/* The same of a map that may have gaps, and so no record. */
+static inline lutniorad_answer sized_with_gaps(uint32_t m, size_t n_keys, size_t n_classes)
+{
+    if (m <= 12 && n_keys == 0 && n_classes == 0)
+        return answered(0, 0);
+    return sized(m, n_keys, n_classes);
 }
 
 /* Refusals 1 to 5. */
@@ -435,11 +455,9 @@ static inline bool next_block(window at, uint32_t top, uint32_t row, uint32_t co
     }
 }
 
-/* Refusals 1 to 7. */
-static inline lutniorad_answer usable(uint32_t m, const uint32_t *keys, size_t n_keys, size_t n_classes, window at,
-                                      size_t cells)
+/* Refusals 6 and 7, behind what was said before. */
+static inline lutniorad_answer in_view(lutniorad_answer verdict, uint32_t m, window at, size_t cells)
 {
-    lutniorad_answer verdict = sound(m, keys, n_keys, n_classes);
     if (verdict.refusal != 0)
         return verdict;
     if (outside(m, at))
@@ -447,6 +465,20 @@ static inline lutniorad_answer usable(uint32_t m, const uint32_t *keys, size_t n
     if (cells < at.w)
         return refused(7, at.w);
     return verdict;
+}
+
+/* Refusals 1 to 7. */
+static inline lutniorad_answer usable(uint32_t m, const uint32_t *keys, size_t n_keys, size_t n_classes, window at,
+                                      size_t cells)
+{
+    return in_view(sound(m, keys, n_keys, n_classes), m, at, cells);
+}
+
+/* Writes a key behind n others, where there is room for it. */
+static inline void put_key(uint32_t *out, size_t n_out, uint32_t n, uint32_t key)
+{
+    if (n < n_out)
+        out[n] = key;
 }
 
 /* Writes an opening behind n others, where there is room for it. */

@@ -10,13 +10,6 @@ lutniorad_answer plain_check(uint32_t m, const uint32_t *keys, size_t n_keys, co
     return sound(m, keys, n_keys, n_classes);
 }
 
-/* Writes a key behind n others, where there is room for it. */
-static inline void put_key(uint32_t *out, size_t n_out, uint32_t n, uint32_t key)
-{
-    if (n < n_out)
-        out[n] = key;
-}
-
 /* The keys of the maximal blocks; returns how many there are. */
 static uint32_t put_keys(uint32_t m, window at, uint32_t *out, size_t n_out)
 {

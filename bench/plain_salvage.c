@@ -44,18 +44,6 @@ static inline void put_entry(task on, size_t n, uint32_t of, uint32_t number)
 
 /* ---- Gaps ---- */
 
-/* The exponent, up to `top`, of the largest block with no more than so many places. */
-static inline uint32_t largest(uint32_t top, uint32_t places)
-{
-    return least((30 - (uint32_t)__builtin_clz(2 * places + 1)) / 2, top);
-}
-
-/* The key of the block of exponent i that starts there. */
-static inline uint32_t key_here(spot at, uint32_t i)
-{
-    return at.key + ones[at.top] - ones[i];
-}
-
 /* Fills up to a place. */
 static inline void fill_gap(task on, salvaged *so_far, uint32_t end)
 {
@@ -120,14 +108,6 @@ __attribute__((always_inline)) static inline salvaged pass(task on)
 
 /* ---- The call ---- */
 
-/* Refusals 1 and 2, by the sizes of the broken map. It may have no record. */
-static inline lutniorad_answer takable(uint32_t m, size_t n_keys, size_t n_classes)
-{
-    if (m <= 12 && n_keys == 0 && n_classes == 0)
-        return answered(0, 0);
-    return sized(m, n_keys, n_classes);
-}
-
 /* Refusals 2 and 8, by the size of the result. */
 static inline lutniorad_answer fitting(salvaged all, size_t n_keys, size_t n_classes, size_t n_log)
 {
@@ -145,7 +125,7 @@ lutniorad_answer plain_salvage(uint32_t m, const uint32_t *keys, size_t n_keys, 
                                size_t n_out_classes, uint32_t *log, size_t n_log)
 {
     task counting = {m, keys, classes, n_keys, false, out_keys, out_classes, log}, writing = counting;
-    lutniorad_answer verdict = takable(m, n_keys, n_classes);
+    lutniorad_answer verdict = sized_with_gaps(m, n_keys, n_classes);
     writing.writes = true;
     if (verdict.refusal == 0)
         verdict = fitting(pass(counting), n_out_keys, n_out_classes, n_log);

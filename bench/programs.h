@@ -69,6 +69,43 @@ typedef lutniorad_answer salvage_function(uint32_t m,
                                           uint8_t *out_classes, size_t n_out_classes,
                                           uint32_t *log, size_t n_log);
 
+typedef lutniorad_answer overlay_exist_function(uint32_t m,
+                                                const uint32_t *keys, size_t n_keys,
+                                                const uint8_t *classes, size_t n_classes,
+                                                uint32_t base_m,
+                                                const uint32_t *base_keys, size_t n_base_keys,
+                                                const uint8_t *base_classes, size_t n_base_classes,
+                                                uint16_t r0, uint16_t c0, uint16_t h, uint16_t w, uint8_t class,
+                                                uint16_t *border, size_t n_border);
+
+typedef lutniorad_answer overlay_report_function(uint32_t m,
+                                                 const uint32_t *keys, size_t n_keys,
+                                                 const uint8_t *classes, size_t n_classes,
+                                                 uint32_t base_m,
+                                                 const uint32_t *base_keys, size_t n_base_keys,
+                                                 const uint8_t *base_classes, size_t n_base_classes,
+                                                 uint16_t r0, uint16_t c0, uint16_t h, uint16_t w,
+                                                 uint16_t *border, size_t n_border,
+                                                 uint32_t *out, size_t n_out);
+
+typedef lutniorad_answer overlay_select_function(uint32_t m,
+                                                 const uint32_t *keys, size_t n_keys,
+                                                 const uint8_t *classes, size_t n_classes,
+                                                 uint32_t base_m,
+                                                 const uint32_t *base_keys, size_t n_base_keys,
+                                                 const uint8_t *base_classes, size_t n_base_classes,
+                                                 uint16_t r0, uint16_t c0, uint16_t h, uint16_t w, uint8_t class,
+                                                 uint16_t *border, size_t n_border,
+                                                 uint32_t *out, size_t n_out);
+
+typedef lutniorad_part overlay_part_function(uint32_t m,
+                                             const uint32_t *keys, size_t n_keys,
+                                             const uint8_t *classes, size_t n_classes,
+                                             uint32_t base_m,
+                                             const uint32_t *base_keys, size_t n_base_keys,
+                                             const uint8_t *base_classes, size_t n_base_classes,
+                                             uint32_t key);
+
 typedef lutniorad_answer read_function(const uint8_t *file, size_t n,
                                        uint32_t *keys, size_t n_keys,
                                        uint8_t *classes, size_t n_classes);
@@ -90,6 +127,10 @@ month_add_function plain_month_add;
 windows_function plain_windows;
 why_function plain_why_record, plain_why_block;
 salvage_function plain_salvage;
+overlay_exist_function plain_overlay_exist;
+overlay_report_function plain_overlay_report;
+overlay_select_function plain_overlay_select;
+overlay_part_function plain_overlay_part;
 
 /* Copies the keys and the classes of a map, and looks at none. */
 void fastest_copy(const uint32_t *keys, const uint8_t *classes, size_t q, uint32_t *out_keys, uint8_t *out_classes);

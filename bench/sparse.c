@@ -25,7 +25,7 @@ static const char *class_name(uint8_t class)
     return class == NONE ? "nothing" : class == CLEAR ? "clear" : class == SCUM ? "scum" : "land";
 }
 
-/* ---- The calls: the number is the class of select, and else counts for nothing ---- */
+/* ---- The calls: the number is the class of select or the background of report, and else counts for nothing ---- */
 
 static lutniorad_answer sparse_check(const map *on, rectangle at, uint32_t number, size_t room, result *r)
 {
@@ -61,20 +61,6 @@ static lutniorad_answer sparse_exist(const map *on, rectangle at, uint32_t numbe
                                   NO_CLASS + 1, r->border, CELLS);
 }
 
-static lutniorad_answer report(const map *on, rectangle at, uint32_t number, size_t room, result *r)
-{
-    (void)number;
-    return lutniorad_report(on->m, on->keys, on->q, on->classes, on->q, at.r0, at.c0, at.h, at.w, r->border, CELLS,
-                            r->out, room);
-}
-
-static lutniorad_answer sparse_report(const map *on, rectangle at, uint32_t number, size_t room, result *r)
-{
-    (void)number;
-    return lutniorad_sparse_report(on->m, background, on->keys, on->q, on->classes, on->q, at.r0, at.c0, at.h, at.w,
-                                   r->border, CELLS, r->out, room);
-}
-
 static lutniorad_answer select(const map *on, rectangle at, uint32_t number, size_t room, result *r)
 {
     return lutniorad_select(on->m, on->keys, on->q, on->classes, on->q, at.r0, at.c0, at.h, at.w, (uint8_t)number,
@@ -93,11 +79,8 @@ static lutniorad_answer sparse_select(const map *on, rectangle at, uint32_t numb
 static uint32_t count_records(rectangle at, const char *where)
 {
     uint32_t n = 0;
-    for (size_t i = 0; i < left.q; i++) {
-        block b = block_of(left.m, left.keys[i], where);
-        int side = 1 << b.exponent;
-        n += !apart(b.row, side, at.r0, at.h) && !apart(b.col, side, at.c0, at.w);
-    }
+    for (size_t i = 0; i < left.q; i++)
+        n += overlaps(&left, i, at, where);
     return n;
 }
 
@@ -146,7 +129,7 @@ static void hold_background(rectangle at, const char *where)
 
 typedef struct {
     const char *name;
-    bool takes_window, of_background; /* the class that is selected, or else scum */
+    bool takes_window, of_background; /* that is the number of the call, or else scum is */
     direct_call *complete, *sparse;
     void (*hold)(rectangle at, const char *where);
 } pair;
@@ -155,7 +138,7 @@ static const pair pairs[] = {
     {"check", false, false, direct_check, sparse_check, hold_checked},
     {"open", true, false, open, sparse_open, hold_opened},
     {"exist", true, false, exist, sparse_exist, hold_same},
-    {"report", true, false, report, sparse_report, hold_same},
+    {"report", true, true, direct_report, direct_sparse_report, hold_same},
     {"select, scum", true, false, select, sparse_select, hold_same},
     {"select, background", true, true, select, sparse_select, hold_background},
 };

@@ -144,29 +144,37 @@ static void print_want_of_adding(const cell *cells, int n, int operation)
     print_want(what, "thousands", MOST_BEYOND / 1e3, most / 1e3);
 }
 
-static void print_want_of_many(const cell *cells, int n)
+/* How many times something else that was measured there a cell takes; 0 where that does not count. */
+typedef double times_in(const cell *c);
+
+static double of_opening(const cell *c)
 {
-    double most = 0;
-    for (const cell *c = cells; c < cells + n; c++)
-        if (c->operation == MANY) {
-            double times = (double)c->past_library / (double)c->past_opening;
-            if (times > most)
-                most = times;
-        }
-    print_want("windows, past the check: of opening", "times", MOST_OF_SINGLES, most);
+    return (double)c->past_library / (double)c->past_opening;
 }
 
-/* How many times its check the salvage of a sound map takes where that is most: of maps whose check takes few
- * instructions, or of the others. */
-static double most_of_check(const cell *cells, int n, bool few)
+static double of_reports(const cell *c)
+{
+    return (double)c->library / (double)c->reports;
+}
+
+/* Of maps whose check takes few instructions, or of the others. */
+static double of_short_check(const cell *c)
+{
+    return c->check < FEW ? (double)c->library / (double)c->check : 0;
+}
+
+static double of_check(const cell *c)
+{
+    return c->check < FEW ? 0 : (double)c->library / (double)c->check;
+}
+
+/* Where that is most, among the cells of an operation. */
+static double most_times(const cell *cells, int n, int operation, times_in *times)
 {
     double most = 0;
     for (const cell *c = cells; c < cells + n; c++)
-        if (c->operation == SALVAGE) {
-            double times = (double)c->library / (double)c->check;
-            if ((c->check < FEW) == few && times > most)
-                most = times;
-        }
+        if (c->operation == operation && times(c) > most)
+            most = times(c);
     return most;
 }
 
@@ -186,10 +194,11 @@ void print_wanted(const cell *cells, int n)
            "report of the same map and window, where that is most. Of opening: how many times what opening the windows "
            "one by one takes past the check, where that is most. Of its check: how many times what the check of the "
            "map takes, where that is most, of maps whose check takes %d instructions or more; of those whose check "
-           "takes fewer it is %.3f times.\n\n"
+           "takes fewer it is %.3f times. Of the two reports: how many times what they take together, where that is "
+           "most.\n\n"
            "| wanted                                     | in           | at most |      is |         |\n"
            "| :----------------------------------------- | :----------- | ------: | ------: | :------ |\n",
-           MOST_OF_REPORT, FEW, most_of_check(cells, n, true));
+           MOST_OF_REPORT, FEW, most_times(cells, n, SALVAGE, of_short_check));
     for (int number = PIXELS; number <= LAKE; number++)
         print_want_of_check(cells, n, number);
     for (size_t i = 0; i < sizeof wants / sizeof *wants; i++)
@@ -197,6 +206,8 @@ void print_wanted(const cell *cells, int n)
                    (double)find_cell(cells, n, wants[i].operation, wants[i].map, WHOLE)->library / 1e6);
     for (int operation = ADD_FIRST; operation <= ADD_NEXT; operation++)
         print_want_of_adding(cells, n, operation);
-    print_want_of_many(cells, n);
-    print_want("salvage of a sound map: of its check", "times", MOST_OF_CHECK, most_of_check(cells, n, false));
+    print_want("windows, past the check: of opening", "times", MOST_OF_SINGLES, most_times(cells, n, MANY, of_opening));
+    print_want("salvage of a sound map: of its check", "times", MOST_OF_CHECK, most_times(cells, n, SALVAGE, of_check));
+    print_want("report of an overlay: of the two reports", "times", MOST_OF_REPORTS,
+               most_times(cells, n, OVERLAY_REPORT, of_reports));
 }

@@ -16,6 +16,9 @@ enum { FEW = 1000 };
 /* Salvage of a sound map: at most so many times its check, unless that takes fewer than FEW instructions. */
 #define MOST_OF_CHECK 3.0
 
+/* Report of a lake's day over the lake: at most so many times the two single reports together, in every cell. */
+#define MOST_OF_REPORTS 1.5
+
 /* The ratios of each operation. */
 void print_summaries(const cell *cells, int n);
 

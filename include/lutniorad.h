@@ -121,7 +121,7 @@
  * THREADS AND SIGNALS. Calls on different memory may run at the same time, in any number of threads, and in a signal
  * handler. No call takes a lock, sets errno or waits. The archive asks for memset and memcpy, and for nothing else.
  *
- * THE STACK. A call takes at most 3,000 bytes of stack; that is measured, and not proved. Where memset and memcpy come
+ * THE STACK. A call takes at most 3,200 bytes of stack; that is measured, and not proved. Where memset and memcpy come
  * from a shared C library and are bound when they are first called, as many linkers have it unless told otherwise, that
  * one call takes what the loader needs besides: up to 6,504 bytes together were seen, and elsewhere it may be more.
  * Link with `-static`, or with `-Wl,-z,now`, where stacks are small, as for a signal handler or a thread.
@@ -828,8 +828,8 @@ lutniorad_answer lutniorad_overlay_report(uint32_t m,
  * w cells of `border` are r0 + h. A cell for each pixel of the window, h * w, is always enough; where that is too much,
  * ask with no cells, and then with as many as the refusal by 8 says.
  *
- * On the maps and the window of the example above, class 2 has the keys 10, 21, 22: two records of either map make up
- * block 10.
+ * On the maps and the window of the example above, class 2 has the keys 10, 21, 22: two records of each map together
+ * make up block 10.
  *
  * Refuses by 1 to 5 with `first`, 15, 6 and 7, as lutniorad_overlay_exist does; and 8, with the number of keys as
  * place, when `out` is shorter than that. On 8 the first w cells of `border` are r0 + h, and nothing else was written.

@@ -13,6 +13,7 @@
 #include "many.h"
 #include "maps.h"
 #include "months.h"
+#include "overlay.h"
 #include "pairs.h"
 #include "queries.h"
 #include "salvage.h"
@@ -625,6 +626,17 @@ static const group groups[] = {
     {"most records of salvage", group_most_salvaged, true},
     {"vast slices of salvage", group_vast_salvage, false},
     {"random salvage", group_random_salvage, true},
+    {"overlays written out", group_overlays_written_out, false},
+    {"small overlays", group_small_overlays, false},
+    {"parts of overlays", group_parts_of_overlays, true},
+    {"lengths on overlays", group_overlay_lengths, false},
+    {"refusals of overlays", group_overlay_refusals, false},
+    {"damaged overlays", group_damaged_overlays, false},
+    {"vast slices of overlays", group_vast_overlays, false},
+    {"large overlays", group_large_overlays, true},
+    {"joined overlays", group_joined_overlays, true},
+    {"nested overlays", group_nested_overlays, true},
+    {"random overlays", group_random_overlays, true},
 };
 
 int main(int argc, char **argv)

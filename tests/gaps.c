@@ -118,12 +118,12 @@ bool for_small_sparse_maps(map *a, size_t of_2, void (*run)(void))
     return n_run == n_choices(of_2);
 }
 
-static size_t n_paintings(size_t q, size_t n_classes)
+size_t n_paintings(size_t q, size_t n_classes)
 {
     return q == 0 ? 1 : n_classes * n_paintings(q - 1, n_classes);
 }
 
-static void paint_by_number(map *a, const uint8_t *classes, size_t n_classes, size_t number)
+void paint_by_number(map *a, const uint8_t *classes, size_t n_classes, size_t number)
 {
     for (size_t i = 0; i < a->q; i++, number /= n_classes)
         a->classes[i] = classes[number % n_classes];

@@ -30,6 +30,10 @@ bool for_small_sparse_maps(map *a, size_t of_2, void (*run)(void));
 /* The same of m = 0 and m = 1 alone, painted in these classes in every way. `run` must leave the keys as they are. */
 bool for_painted_sparse_maps(map *a, const uint8_t *classes, size_t n_classes, void (*run)(void));
 
+/* The ways to paint q records in n classes, by number. */
+size_t n_paintings(size_t q, size_t n_classes);
+void paint_by_number(map *a, const uint8_t *classes, size_t n_classes, size_t number);
+
 /* The same map with blocks of the background in its gaps, the largest there are. False where they are too many. */
 bool fill_gaps(const map *a, uint8_t background, map *filled);
 

@@ -87,27 +87,42 @@ typedef struct {
     lutniorad_answer (*sparse_write)(uint32_t, const uint32_t *, size_t, const uint8_t *, size_t, uint8_t *, size_t);
     lutniorad_answer (*salvage)(uint32_t, const uint32_t *, size_t, const uint8_t *, size_t, uint32_t *, size_t,
                                 uint8_t *, size_t, uint32_t *, size_t);
+    lutniorad_answer (*overlay_exist)(uint32_t, const uint32_t *, size_t, const uint8_t *, size_t, uint32_t,
+                                      const uint32_t *, size_t, const uint8_t *, size_t, uint16_t, uint16_t, uint16_t,
+                                      uint16_t, uint8_t, uint16_t *, size_t);
+    lutniorad_answer (*overlay_report)(uint32_t, const uint32_t *, size_t, const uint8_t *, size_t, uint32_t,
+                                       const uint32_t *, size_t, const uint8_t *, size_t, uint16_t, uint16_t, uint16_t,
+                                       uint16_t, uint16_t *, size_t, uint32_t *, size_t);
+    lutniorad_answer (*overlay_select)(uint32_t, const uint32_t *, size_t, const uint8_t *, size_t, uint32_t,
+                                       const uint32_t *, size_t, const uint8_t *, size_t, uint16_t, uint16_t, uint16_t,
+                                       uint16_t, uint8_t, uint16_t *, size_t, uint32_t *, size_t);
+    lutniorad_part (*overlay_part)(uint32_t, const uint32_t *, size_t, const uint8_t *, size_t, uint32_t,
+                                   const uint32_t *, size_t, const uint8_t *, size_t, uint32_t);
 } program;
 
 static const program library = {
-    lutniorad_check,        lutniorad_decompose,       lutniorad_open,
-    lutniorad_exist,        lutniorad_report,          lutniorad_select,
-    lutniorad_month_clear,  lutniorad_month_add,       lutniorad_read,
-    lutniorad_write,        lutniorad_decompose_tiled, lutniorad_open_tiled,
-    lutniorad_select_tiled, lutniorad_windows,         lutniorad_why_record,
-    lutniorad_why_block,    lutniorad_sparse_check,    lutniorad_sparse_open,
-    lutniorad_sparse_exist, lutniorad_sparse_report,   lutniorad_sparse_select,
-    lutniorad_sparse_read,  lutniorad_sparse_write,    lutniorad_salvage,
+    lutniorad_check,         lutniorad_decompose,       lutniorad_open,
+    lutniorad_exist,         lutniorad_report,          lutniorad_select,
+    lutniorad_month_clear,   lutniorad_month_add,       lutniorad_read,
+    lutniorad_write,         lutniorad_decompose_tiled, lutniorad_open_tiled,
+    lutniorad_select_tiled,  lutniorad_windows,         lutniorad_why_record,
+    lutniorad_why_block,     lutniorad_sparse_check,    lutniorad_sparse_open,
+    lutniorad_sparse_exist,  lutniorad_sparse_report,   lutniorad_sparse_select,
+    lutniorad_sparse_read,   lutniorad_sparse_write,    lutniorad_salvage,
+    lutniorad_overlay_exist, lutniorad_overlay_report,  lutniorad_overlay_select,
+    lutniorad_overlay_part,
 };
 static const program reference = {
-    reference_check,        reference_decompose,       reference_open,
-    reference_exist,        reference_report,          reference_select,
-    reference_month_clear,  reference_month_add,       reference_read,
-    reference_write,        reference_decompose_tiled, reference_open_tiled,
-    reference_select_tiled, reference_windows,         reference_why_record,
-    reference_why_block,    reference_sparse_check,    reference_sparse_open,
-    reference_sparse_exist, reference_sparse_report,   reference_sparse_select,
-    reference_sparse_read,  reference_sparse_write,    reference_salvage,
+    reference_check,         reference_decompose,       reference_open,
+    reference_exist,         reference_report,          reference_select,
+    reference_month_clear,   reference_month_add,       reference_read,
+    reference_write,         reference_decompose_tiled, reference_open_tiled,
+    reference_select_tiled,  reference_windows,         reference_why_record,
+    reference_why_block,     reference_sparse_check,    reference_sparse_open,
+    reference_sparse_exist,  reference_sparse_report,   reference_sparse_select,
+    reference_sparse_read,   reference_sparse_write,    reference_salvage,
+    reference_overlay_exist, reference_overlay_report,  reference_overlay_select,
+    reference_overlay_part,
 };
 
 uint32_t over(uint8_t background, uint8_t of_class)
@@ -251,8 +266,40 @@ static lutniorad_answer run_salvage(const program *p, const call *c, const slice
                       s[3].length, s[4].cells, s[4].length);
 }
 
+static lutniorad_answer run_overlay_exist(const program *p, const call *c, const slice *s)
+{
+    return p->overlay_exist(c->m, s[0].cells, s[0].length, s[1].cells, s[1].length, c->tile, s[2].cells, s[2].length,
+                            s[3].cells, s[3].length, c->at.r0, c->at.c0, c->at.h, c->at.w, class_of(c->about),
+                            s[4].cells, s[4].length);
+}
+
+static lutniorad_answer run_overlay_report(const program *p, const call *c, const slice *s)
+{
+    return p->overlay_report(c->m, s[0].cells, s[0].length, s[1].cells, s[1].length, c->tile, s[2].cells, s[2].length,
+                             s[3].cells, s[3].length, c->at.r0, c->at.c0, c->at.h, c->at.w, s[4].cells, s[4].length,
+                             s[5].cells, s[5].length);
+}
+
+static lutniorad_answer run_overlay_select(const program *p, const call *c, const slice *s)
+{
+    return p->overlay_select(c->m, s[0].cells, s[0].length, s[1].cells, s[1].length, c->tile, s[2].cells, s[2].length,
+                             s[3].cells, s[3].length, c->at.r0, c->at.c0, c->at.h, c->at.w, class_of(c->about),
+                             s[4].cells, s[4].length, s[5].cells, s[5].length);
+}
+
+/* A part has as many numbers as a reason, and they stand in its place. */
+static lutniorad_reason take_part(const program *p, const call *c, const slice *s)
+{
+    lutniorad_part part = p->overlay_part(c->m, s[0].cells, s[0].length, s[1].cells, s[1].length, c->tile, s[2].cells,
+                                          s[2].length, s[3].cells, s[3].length, c->about);
+    lutniorad_reason reason = {part.refusal, part.place, part.map, part.first, part.count};
+    return reason;
+}
+
 static lutniorad_reason explain(const program *p, const call *c, const slice *s)
 {
+    if (c->operation == &OVERLAY_PART)
+        return take_part(p, c, s);
     explanation *why = c->operation == &WHY_RECORD ? p->why_record : p->why_block;
     return why(c->m, s[0].cells, s[0].length, s[1].cells, s[1].length, c->at.r0, c->at.c0, c->at.h, c->at.w, c->about,
                s[2].cells, s[2].length);
@@ -264,11 +311,11 @@ typedef struct {
 } parameter;
 
 /* What an operation takes beside its slices. */
-enum { M = 1, TILE = 2, WINDOW = 4, CLASS = 8, RECORD = 16, KEY = 32, BACKGROUND = 64 };
+enum { M = 1, TILE = 2, WINDOW = 4, CLASS = 8, RECORD = 16, KEY = 32, BACKGROUND = 64, BASE_M = 128 };
 
 struct operation {
     const char *name;
-    lutniorad_answer (*run)(const program *, const call *, const slice *); /* NULL for a reason */
+    lutniorad_answer (*run)(const program *, const call *, const slice *); /* NULL for a reason or a part */
     int takes;
     size_t n_slices;
     parameter slices[MOST_SLICES];
@@ -318,14 +365,33 @@ const operation SPARSE_READ = {"sparse_read", run_sparse_read, 0, 3, {{"file", 1
 const operation SPARSE_WRITE = {"sparse_write", run_sparse_write, M, 3, {{"keys", 4}, {"classes", 1}, {"out", 1}}};
 const operation SALVAGE = {
     "salvage", run_salvage, M, 5, {{"keys", 4}, {"classes", 1}, {"out_keys", 4}, {"out_classes", 1}, {"log", 4}}};
+const operation OVERLAY_EXIST = {"overlay_exist",
+                                 run_overlay_exist,
+                                 M | BASE_M | WINDOW | CLASS,
+                                 5,
+                                 {{"keys", 4}, {"classes", 1}, {"base_keys", 4}, {"base_classes", 1}, {"border", 2}}};
+const operation OVERLAY_REPORT = {
+    "overlay_report",
+    run_overlay_report,
+    M | BASE_M | WINDOW,
+    6,
+    {{"keys", 4}, {"classes", 1}, {"base_keys", 4}, {"base_classes", 1}, {"border", 2}, {"totals", 4}}};
+const operation OVERLAY_SELECT = {
+    "overlay_select",
+    run_overlay_select,
+    M | BASE_M | WINDOW | CLASS,
+    6,
+    {{"keys", 4}, {"classes", 1}, {"base_keys", 4}, {"base_classes", 1}, {"border", 2}, {"out", 4}}};
+const operation OVERLAY_PART = {
+    "overlay_part", NULL, M | BASE_M | KEY, 4, {{"keys", 4}, {"classes", 1}, {"base_keys", 4}, {"base_classes", 1}}};
 
 static const operation *const operations[] = {
-    &CHECK,        &DECOMPOSE,     &OPEN,          &EXIST,       &REPORT,          &SELECT,
-    &MONTH_CLEAR,  &MONTH_ADD,     &READ,          &WRITE,       &DECOMPOSE_TILED, &OPEN_TILED,
-    &SELECT_TILED, &WINDOWS,       &WHY_RECORD,    &WHY_BLOCK,   &SPARSE_CHECK,    &SPARSE_OPEN,
-    &SPARSE_EXIST, &SPARSE_REPORT, &SPARSE_SELECT, &SPARSE_READ, &SPARSE_WRITE,    &SALVAGE};
+    &CHECK,       &DECOMPOSE,    &OPEN,         &EXIST,           &REPORT,         &SELECT,         &MONTH_CLEAR,
+    &MONTH_ADD,   &READ,         &WRITE,        &DECOMPOSE_TILED, &OPEN_TILED,     &SELECT_TILED,   &WINDOWS,
+    &WHY_RECORD,  &WHY_BLOCK,    &SPARSE_CHECK, &SPARSE_OPEN,     &SPARSE_EXIST,   &SPARSE_REPORT,  &SPARSE_SELECT,
+    &SPARSE_READ, &SPARSE_WRITE, &SALVAGE,      &OVERLAY_EXIST,   &OVERLAY_REPORT, &OVERLAY_SELECT, &OVERLAY_PART};
 
-/* What a call returned, number by number: the four of an answer, or the five of a reason. */
+/* What a call returned, number by number: the four of an answer, or the five of a reason or a part. */
 enum { NUMBERS_OF_ANSWER = 4, NUMBERS_OF_REASON = 5 };
 
 typedef struct {
@@ -345,6 +411,7 @@ static result of_reason(lutniorad_reason a)
     return r;
 }
 
+/* Or a part. */
 static bool gives_reason(const call *c)
 {
     return c->operation->run == NULL;
@@ -391,6 +458,8 @@ static void print_call(const call *c)
     printf("  call: %s", c->operation->name);
     if ((c->operation->takes & M) != 0)
         printf(", m %" PRIu32, c->m);
+    if ((c->operation->takes & BASE_M) != 0)
+        printf(", base_m %" PRIu32, c->tile);
     if ((c->operation->takes & TILE) != 0)
         printf(", tile %" PRIu32, c->tile);
     if ((c->operation->takes & BACKGROUND) != 0)
@@ -445,13 +514,19 @@ static const char *numbers_of(result r, char line[LINE])
     return line;
 }
 
+/* Of the last call. */
+static const char *names_of(result r)
+{
+    return r.n == NUMBERS_OF_ANSWER             ? "refusal, place, first, second"
+           : running.operation == &OVERLAY_PART ? "refusal, place, map, first, count"
+                                                : "refusal, place, said, record, opening";
+}
+
 static void require_result(result got, const char *whose, result expected)
 {
-    static const char *const names[] = {"refusal, place, first, second", "refusal, place, said, record, opening"};
     char line[LINE], other_line[LINE];
     if (memcmp(got.numbers, expected.numbers, sizeof got.numbers) != 0)
-        fail("%s are %s; by %s: %s", names[got.n - NUMBERS_OF_ANSWER], numbers_of(got, line), whose,
-             numbers_of(expected, other_line));
+        fail("%s are %s; by %s: %s", names_of(got), numbers_of(got, line), whose, numbers_of(expected, other_line));
 }
 
 void require_answer(lutniorad_answer got, const char *whose, lutniorad_answer expected)
@@ -473,6 +548,12 @@ void require_numbers(lutniorad_answer got, uint32_t refusal, uint32_t place, uin
 void require_reason(lutniorad_reason stated)
 {
     require_result(returned, "the reason written out", of_reason(stated));
+}
+
+void require_part(lutniorad_part stated)
+{
+    result r = {NUMBERS_OF_REASON, {stated.refusal, stated.place, stated.map, stated.first, stated.count}};
+    require_result(returned, "the part written out", r);
 }
 
 /* ---- Rooms: where the slices of a call stand ---- */
@@ -651,6 +732,13 @@ lutniorad_reason last_reason(void)
     const uint32_t *n = returned.numbers;
     lutniorad_reason reason = {n[0], n[1], n[2], n[3], n[4]};
     return reason;
+}
+
+lutniorad_part last_part(void)
+{
+    const lutniorad_reason r = last_reason();
+    lutniorad_part part = {r.refusal, r.place, r.said, r.record, r.opening};
+    return part;
 }
 
 void compare_with(const operation *other, lutniorad_answer answer)

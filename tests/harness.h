@@ -5,10 +5,10 @@
  * TO ADD AN OPERATION that both programs have, write in harness.c, beside those of the others:
  *   - one pair of function pointers: a member of `program`, and its function in `library` and in `reference`;
  *   - one run_ function, which hands the numbers and slices of a call to that member in the order of its parameters;
- *     of those that return a reason, `explain` does that, and their rows have NULL;
- *   - one row: the operation's name, its run_ function, what of m, a tile, a background, a window, a class, a record
- *     and a key it takes, how many slices, and for each its name and the bytes in a cell, 1, 2, 4 or 8; and the row's
- *     place in `operations`.
+ *     of those that return a reason or a part, which have five numbers, `explain` does that, and their rows have NULL;
+ *   - one row: the operation's name, its run_ function, what of m, the baseline's m, a tile, a background, a window, a
+ *     class, a record and a key it takes, how many slices, and for each its name and the bytes in a cell, 1, 2, 4 or 8;
+ *     and the row's place in `operations`.
  * Declare the row below with the others. MOST_SLICES is as many slices as any of them has. A case then fills in a
  * `call` of the operation and hands it to `compare`.
  *
@@ -44,8 +44,9 @@ extern const operation CHECK, DECOMPOSE, OPEN, EXIST, REPORT, SELECT, MONTH_CLEA
 extern const operation DECOMPOSE_TILED, OPEN_TILED, SELECT_TILED, WINDOWS, WHY_RECORD, WHY_BLOCK;
 extern const operation SPARSE_CHECK, SPARSE_OPEN, SPARSE_EXIST, SPARSE_REPORT, SPARSE_SELECT, SPARSE_READ, SPARSE_WRITE;
 extern const operation SALVAGE;
+extern const operation OVERLAY_EXIST, OVERLAY_REPORT, OVERLAY_SELECT, OVERLAY_PART;
 
-enum { MOST_SLICES = 5 };
+enum { MOST_SLICES = 6 };
 
 /*
  * A slice of a call before it is laid out. Garbage will stand in one without content, as most are that the call writes.
@@ -65,7 +66,7 @@ enum { NO_TILE = 0, NO_CLASS = 0 };
 
 typedef struct {
     const operation *operation;
-    uint32_t m, tile;
+    uint32_t m, tile; /* on an overlay, where there is no tile, the latter is the baseline's m */
     window at;
     uint32_t about; /* the class, the index of the record or the key of the block that is asked about; or `over` */
     given slices[MOST_SLICES];
@@ -78,10 +79,12 @@ uint8_t class_of(uint32_t about); /* also where there is no background */
 
 /*
  * One call, once with each garbage. Of every slice, written by the call or not, all cells and guards are compared. Of a
- * reason all five numbers are; the first four are returned in place of an answer's, and last_reason has them all.
+ * reason or a part all five numbers are; the first four are returned in place of an answer's, and last_reason or
+ * last_part has them all.
  */
 lutniorad_answer compare(call c);
 lutniorad_reason last_reason(void);
+lutniorad_part last_part(void);
 
 /* The library's slice after the last call, by its place among the parameters. */
 const void *left(size_t i);
@@ -95,7 +98,7 @@ void compare_with(const operation *other, lutniorad_answer answer);
  * bytes is a mismatch. All bytes count from the top of that stack down to the last one that was written: those of the
  * library, and of the run_ function that calls it, with the parameters it hands over.
  */
-enum { MOST_STACK = 3000 };
+enum { MOST_STACK = 3200 };
 void watch_stack(void);
 void end_watch(void);
 
@@ -112,6 +115,7 @@ void require_answer(lutniorad_answer got, const char *whose, lutniorad_answer ex
 void require_stated(lutniorad_answer got, lutniorad_answer stated);
 void require_numbers(lutniorad_answer got, uint32_t refusal, uint32_t place, uint32_t first, uint32_t second);
 void require_reason(lutniorad_reason stated); /* of the last call */
+void require_part(lutniorad_part stated);     /* and of this too */
 
 /* ---- Groups of cases ---- */
 

@@ -1,7 +1,7 @@
 /*
  * Holds what the header names against the library: each refusal against a call that is refused by it, the sentences,
- * what is said of records and blocks, the limits, and the room that is always enough. Says each thing that is not so;
- * the status is 0 where all is.
+ * the two maps of an overlay, what is said of records and blocks, the limits, and the room that is always enough. Says
+ * each thing that is not so; the status is 0 where all is.
  */
 #include "even.h"
 
@@ -42,19 +42,27 @@ static uint16_t r0, border[WIDTH];
 static const uint16_t list[] = {0, 1, 3, WIDTH, 3, 0, 1, 1};
 static uint8_t classes[Q], file[LUTNIORAD_FILE_BYTES(Q)];
 static uint64_t table[LUTNIORAD_MONTH_CELLS];
-static size_t n_keys, n_classes, n_list, n_border, n_totals, n_mended, n_log;
+static size_t n_keys, n_classes, n_list, n_border, n_totals, n_mended, n_log, n_today;
+
+/* Today's map lies over that one: three of its pixels have other classes. */
+enum { TODAYS_Q = 3 };
+static uint32_t m_today, keys_today[TODAYS_Q];
+static const uint8_t classes_today[TODAYS_Q] = {3, 2, 2};
 
 static void begin(void)
 {
     static const uint32_t some_keys[Q] = {5, 11, 12, 13, 14, 15, 20};
     static const uint8_t some_classes[Q] = {1, 2, 2, 3, 1, 1, 2};
-    m = tile = 2;
+    static const uint32_t changed_keys[TODAYS_Q] = {9, 13, 14};
+    m = tile = m_today = 2;
     record = Q - 1;
     key = 7;
     r0 = 0;
     memcpy(keys, some_keys, sizeof keys);
     memcpy(classes, some_classes, sizeof classes);
+    memcpy(keys_today, changed_keys, sizeof keys_today);
     n_keys = n_classes = Q;
+    n_today = TODAYS_Q;
     n_list = COUNT(list);
     n_border = WIDTH;
     n_totals = LUTNIORAD_CLASSES;
@@ -99,6 +107,33 @@ static lutniorad_answer salvage(void)
     static uint8_t mended_classes[Q];
     return lutniorad_salvage(m, keys + 1, n_keys - 1, classes + 1, n_classes - 1, mended, n_mended, mended_classes,
                              n_mended, log_of_one, n_log);
+}
+
+static lutniorad_answer overlay_exist(void)
+{
+    return lutniorad_overlay_exist(m_today, keys_today, n_today, classes_today, TODAYS_Q, m, keys, n_keys, classes,
+                                   n_classes, r0, 1, 3, WIDTH, 1, border, n_border);
+}
+
+static lutniorad_answer overlay_report(void)
+{
+    return lutniorad_overlay_report(m_today, keys_today, n_today, classes_today, TODAYS_Q, m, keys, n_keys, classes,
+                                    n_classes, r0, 1, 3, WIDTH, border, n_border, totals, n_totals);
+}
+
+static lutniorad_answer overlay_select(void)
+{
+    return lutniorad_overlay_select(m_today, keys_today, n_today, classes_today, TODAYS_Q, m, keys, n_keys, classes,
+                                    n_classes, r0, 1, 3, WIDTH, 1, border, n_border, totals, n_totals);
+}
+
+/* The first numbers of a part, in place of those of an answer. */
+static lutniorad_answer overlay_part(void)
+{
+    lutniorad_part part = lutniorad_overlay_part(m_today, keys_today, n_today, classes_today, TODAYS_Q, m, keys, n_keys,
+                                                 classes, n_classes, key);
+    lutniorad_answer answer = {part.refusal, part.place, part.map, part.first};
+    return answer;
 }
 
 static lutniorad_answer many(void)
@@ -214,6 +249,39 @@ static void list_cut_short(void)
     n_list = COUNT(list) - 1;
 }
 
+static void no_such_m_today(void)
+{
+    m_today = LUTNIORAD_MOST_M + 1;
+}
+
+static void fewer_keys_today(void)
+{
+    n_today = TODAYS_Q - 1;
+}
+
+static void key_of_no_block_today(void)
+{
+    keys_today[1] = 1;
+}
+
+static void block_twice_today(void)
+{
+    keys_today[2] = keys_today[1];
+}
+
+/* A map of one record, which is the picture whatever m is. */
+static void baseline_of_another_m(void)
+{
+    m = 3;
+    keys[0] = 0;
+    n_keys = n_classes = 1;
+}
+
+static void key_of_none(void)
+{
+    key = 1;
+}
+
 static void table_of_another_m(void)
 {
     lutniorad_month_clear(m + 1, r0, 1, 3, WIDTH, table, COUNT(table));
@@ -264,6 +332,12 @@ static const struct {
     {LUTNIORAD_BAD_COUNT, 0, fewer_classes, salvage},
     {LUTNIORAD_SHORT_ROOM, Q, short_map, salvage},
     {LUTNIORAD_SHORT_ROOM, 2, short_log, salvage},
+    {LUTNIORAD_OTHER_M, 0, baseline_of_another_m, overlay_exist},
+    {LUTNIORAD_BAD_WINDOW, 0, sticks_out, overlay_exist},
+    {LUTNIORAD_SHORT_BORDER, WIDTH, short_border, overlay_exist},
+    {LUTNIORAD_SHORT_ROOM, LUTNIORAD_CLASSES, short_totals, overlay_report},
+    {LUTNIORAD_OTHER_M, 0, baseline_of_another_m, overlay_part},
+    {LUTNIORAD_NO_BLOCK, 0, key_of_none, overlay_part},
 };
 
 #define NAMED(name, number, sentence) {#name, number, sentence},
@@ -328,6 +402,52 @@ static void hold_sparse(void)
         removed[i]();
         hold(report().refusal != LUTNIORAD_ANSWERED, "LUTNIORAD_GAP", "a map that is not complete is taken");
         hold_answer(sparse_report(), 0, 0, 3 * WIDTH, "a sparse map");
+    }
+}
+
+/* ---- Overlays ---- */
+
+/* Whose map a call on an overlay is refused for. */
+static const struct {
+    const char *name;
+    uint32_t whose, refusal, place;
+    void (*spoil)(void);
+} refused_for[] = {
+    {"LUTNIORAD_TODAY", LUTNIORAD_TODAY, LUTNIORAD_BAD_M, 0, no_such_m_today},
+    {"LUTNIORAD_TODAY", LUTNIORAD_TODAY, LUTNIORAD_BAD_COUNT, 0, fewer_keys_today},
+    {"LUTNIORAD_TODAY", LUTNIORAD_TODAY, LUTNIORAD_BAD_KEY, 1, key_of_no_block_today},
+    {"LUTNIORAD_TODAY", LUTNIORAD_TODAY, LUTNIORAD_OVERLAP, 2, block_twice_today},
+    {"LUTNIORAD_BASELINE", LUTNIORAD_BASELINE, LUTNIORAD_BAD_M, 0, no_such_m},
+    {"LUTNIORAD_BASELINE", LUTNIORAD_BASELINE, LUTNIORAD_BAD_COUNT, 0, fewer_classes},
+    {"LUTNIORAD_BASELINE", LUTNIORAD_BASELINE, LUTNIORAD_BAD_COUNT, 0, all_removed},
+    {"LUTNIORAD_BASELINE", LUTNIORAD_BASELINE, LUTNIORAD_BAD_KEY, 1, key_of_no_block},
+    {"LUTNIORAD_BASELINE", LUTNIORAD_BASELINE, LUTNIORAD_OVERLAP, 2, block_twice},
+    {"LUTNIORAD_BASELINE", LUTNIORAD_BASELINE, LUTNIORAD_GAP, Q - 1, last_removed},
+};
+
+/* And whose map a part is of, by a key. */
+static const struct {
+    const char *name;
+    uint32_t key, whose;
+} parts[] = {
+    {"LUTNIORAD_TODAY", 10, LUTNIORAD_TODAY},
+    {"LUTNIORAD_BASELINE", 15, LUTNIORAD_BASELINE},
+};
+
+static void hold_whose(void)
+{
+    static lutniorad_answer (*const calls[])(void) = {overlay_exist, overlay_report, overlay_select, overlay_part};
+    for (size_t i = 0; i < COUNT(refused_for) * COUNT(calls); i++) {
+        const size_t k = i / COUNT(calls);
+        begin();
+        refused_for[k].spoil();
+        hold_answer(calls[i % COUNT(calls)](), refused_for[k].refusal, refused_for[k].place, refused_for[k].whose,
+                    refused_for[k].name);
+    }
+    for (size_t i = 0; i < COUNT(parts); i++) {
+        begin();
+        key = parts[i].key;
+        hold_answer(overlay_part(), 0, 0, parts[i].whose, parts[i].name);
     }
 }
 
@@ -581,6 +701,21 @@ static void make_gaps(void)
     }
 }
 
+/* Of the map with gaps over that without, where all of either has the class asked for, or only the gaps have. */
+static void hold_overlay_room(uint16_t row, uint16_t col, uint16_t h, uint16_t w)
+{
+    static const uint8_t others[LUTNIORAD_MOST_RECORDS];
+    const size_t pixels = (size_t)h * w;
+    lutniorad_answer joined = lutniorad_overlay_select(b.m, b.keys, b.q, b.classes, b.q, a.m, a.keys, a.q, a.classes,
+                                                       a.q, row, col, h, w, 1, wide, w, selected, pixels);
+    lutniorad_answer apart = lutniorad_overlay_select(b.m, b.keys, b.q, others, b.q, a.m, a.keys, a.q, a.classes, a.q,
+                                                      row, col, h, w, 1, wide, w, selected, pixels);
+    hold(joined.first == lutniorad_decompose(a.m, row, col, h, w, blocks, COUNT(blocks)).first,
+         "what is all of one class", "it is not joined to the maximal blocks");
+    hold(joined.refusal == 0 && apart.refusal == 0 && apart.first <= pixels, "a cell for each pixel of an overlay",
+         "that is not enough");
+}
+
 /*
  * On the map with gaps, and on one without records, on which each maximal block is an opening. Where records and gaps
  * are pixels, each pixel of the window is listed.
@@ -617,6 +752,7 @@ static void hold_room_of_every_window(uint32_t of_m, uint32_t level)
             for (uint16_t h = 1; row + h <= side; h++)
                 for (uint16_t w = 1; col + w <= side; w++) {
                     hold_room(row, col, h, w);
+                    hold_overlay_room(row, col, h, w);
                     for (uint32_t c = 0; c <= of_m; c++) {
                         hold_tiled_room(c, row, col, h, w);
                         hold_sparse_room(c, row, col, h, w);
@@ -657,6 +793,7 @@ int main(void)
 {
     hold_refusals();
     hold_sparse();
+    hold_whose();
     hold_said();
     hold_sizes();
     hold_longest();

@@ -380,13 +380,21 @@ static size_t keys_of_window(const map *a, uint32_t tile, window at, uint32_t ab
     return sum;
 }
 
+/* Where each pixel lies among the blocks of the keys that were selected last. */
+static uint32_t selected[MOST_PIXELS];
+
+/* Each of a block inside the window, and no larger than a tile; and no pixel in two of them. */
+static void paint_selected(uint32_t m, uint32_t tile, window at, const uint32_t *keys, size_t n)
+{
+    require(n <= (size_t)at.h * at.w, "there are more keys than pixels");
+    require_inside(m, tile, at, keys, n);
+    require(reference_sparse_raster(m, keys, n, at, selected), "a pixel is selected twice");
+}
+
 void require_sparse_selected(const map *a, uint32_t tile, window at, uint32_t about, const uint32_t *keys, size_t n)
 {
     const size_t pixels = (size_t)at.h * at.w;
-    static uint32_t selected[MOST_PIXELS];
-    require(n <= pixels, "there are more keys than pixels");
-    require_inside(a->m, tile, at, keys, n);
-    require(reference_sparse_raster(a->m, keys, n, at, selected), "a pixel is selected twice");
+    paint_selected(a->m, tile, at, keys, n);
     paint_map(a, true, at);
     for (size_t p = 0; p < pixels; p++)
         require((selected[p] != NO_RECORD) == has_class(a, p, about),
@@ -394,6 +402,65 @@ void require_sparse_selected(const map *a, uint32_t tile, window at, uint32_t ab
     if (pixels <= FEW_PIXELS)
         require(n == keys_of_window(a, tile, at, about), "there are other than the fewest blocks of each gap");
 }
+
+/* ---- Overlays ---- */
+
+/* With the raster of the baseline's records in the window, and that of today's. */
+static bool shows_class(const map *today, const map *base, const uint32_t *of_today, size_t pixel, uint8_t of_class)
+{
+    return (of_today[pixel] == NO_RECORD ? base->classes[raster[pixel]] : today->classes[of_today[pixel]]) == of_class;
+}
+
+/* With the raster of the keys: those of each maximal block are together, in the order of the blocks, and rise. */
+static void require_in_order(uint32_t m, window at, const uint32_t *keys, size_t n)
+{
+    static uint32_t block_of_key[MOST_PIXELS];
+    list_maximal(m, m, at);
+    for (size_t p = 0; p < (size_t)at.h * at.w; p++)
+        if (selected[p] != NO_RECORD)
+            block_of_key[selected[p]] = block_raster[p];
+    for (size_t i = 1; i < n; i++)
+        require(block_of_key[i - 1] < block_of_key[i]
+                    || (block_of_key[i - 1] == block_of_key[i] && keys[i - 1] < keys[i]),
+                "the keys are not in the order of the maximal blocks, or not rising in one");
+}
+
+void require_overlay_selected(const map *today, const map *base, window at, uint8_t of_class, const uint32_t *keys,
+                              size_t n)
+{
+    static uint32_t of_today[MOST_PIXELS];
+    const uint32_t m = today->m;
+    paint_selected(m, m, at, keys, n);
+    require(reference_sparse_raster(m, today->keys, today->q, at, of_today), "today's map paints a pixel twice");
+    paint_map(base, false, at);
+    for (size_t p = 0; p < (size_t)at.h * at.w; p++)
+        require((selected[p] != NO_RECORD) == shows_class(today, base, of_today, p, of_class),
+                "a pixel of the class is not selected, or one of another is");
+    require_in_order(m, at, keys, n);
+    for (size_t i = 0; i + 4 <= n; i++)
+        require(!are_quadrants(m, keys + i) || !reference_lies_in(m, parent_of(m, keys[i]), at),
+                "four blocks are not joined to one");
+}
+
+/* One of them lies in the other. */
+static bool overlap(uint32_t m, uint32_t key, uint32_t other)
+{
+    return lies_in_block(m, key, other) || lies_in_block(m, other, key);
+}
+
+void require_part_of_either(const map *today, const map *base, uint32_t key, lutniorad_part part)
+{
+    const map *a = part.map == LUTNIORAD_TODAY ? today : base;
+    require(part.map == LUTNIORAD_TODAY || part.map == LUTNIORAD_BASELINE, "the part is of neither map");
+    require(part.count > 0 && part.count <= a->q && part.first <= a->q - part.count, "the part is not in the slice");
+    for (size_t i = 0; i < a->q; i++)
+        require(overlap(a->m, a->keys[i], key) == (i >= part.first && i - part.first < part.count),
+                "a record that overlaps the block is not in the part, or another one is");
+    for (size_t i = 0; part.map == LUTNIORAD_BASELINE && i < today->q; i++)
+        require(!overlap(today->m, today->keys[i], key), "the part is the baseline's, and a record of today overlaps");
+}
+
+/* ---- Queries together ---- */
 
 void require_agreement(uint32_t existence, uint8_t of_class, const uint32_t *totals)
 {

@@ -55,6 +55,20 @@ void require_selected(const map *a, uint32_t tile, window at, const uint32_t *ke
 void require_sparse_selected(const map *a, uint32_t tile, window at, uint32_t about, const uint32_t *keys, size_t n);
 
 /*
+ * n keys, selected by a class from a window on an overlay: each of a block inside the window, no pixel in two of them,
+ * and in one just the pixels of the class; in the order of the maximal blocks, and in each of these rising; and no four
+ * of them are one block that lies in the window, so that there are no fewer.
+ */
+void require_overlay_selected(const map *today, const map *base, window at, uint8_t of_class, const uint32_t *keys,
+                              size_t n);
+
+/*
+ * A part of an overlay: at least one record of one of the maps, each of which overlaps the block of the key, and none
+ * beside them does. Where it is of the baseline, none of today's overlaps the block.
+ */
+void require_part_of_either(const map *today, const map *base, uint32_t key, lutniorad_part part);
+
+/*
  * What exist answered about a class of a window, against the totals that were reported of the same window: yes exactly
  * when that of the class is not 0; that it cannot tell exactly when that is 0 and that of 255 is not; no exactly when
  * both are 0. Of 255 itself it can always tell.

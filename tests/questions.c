@@ -47,12 +47,46 @@ bool opens(const operation *o)
 
 static bool reports(const operation *o)
 {
-    return o == &REPORT || o == &SPARSE_REPORT;
+    return o == &REPORT || o == &SPARSE_REPORT || o == &OVERLAY_REPORT;
 }
 
 static bool selects(const operation *o)
 {
-    return o == &SELECT || o == &SELECT_TILED || o == &SPARSE_SELECT;
+    return o == &SELECT || o == &SELECT_TILED || o == &SPARSE_SELECT || o == &OVERLAY_SELECT;
+}
+
+static bool overlays(const operation *o)
+{
+    return o == &OVERLAY_EXIST || o == &OVERLAY_REPORT || o == &OVERLAY_SELECT || o == &OVERLAY_PART;
+}
+
+/* The baseline, and how long its slices are. */
+static const map *baseline;
+static size_t n_base_keys, n_base_classes;
+
+void lay_over_slices(const map *base, size_t n_keys, size_t n_classes)
+{
+    baseline = base;
+    n_base_keys = n_keys;
+    n_base_classes = n_classes;
+}
+
+void lay_over(const map *base)
+{
+    lay_over_slices(base, base->q, base->q);
+}
+
+/* Where the border stands among the slices of the last question; the answer slice is next to it. */
+static size_t place_of_border;
+
+const uint16_t *border_left(void)
+{
+    return left(place_of_border);
+}
+
+const uint32_t *answer_left(void)
+{
+    return left(place_of_border + 1);
 }
 
 /* The same question without a tile, or NULL where it has none. */
@@ -76,18 +110,33 @@ static bool takes_tile(const operation *o)
     return o == &SPARSE_OPEN || o == &SPARSE_SELECT || without_tile(o) != NULL;
 }
 
+/* The first n records of a map, which are all that it was asked of: a sparse one may be answered so. */
+static const map *records_asked(const map *a, size_t n, map *part)
+{
+    if (n == a->q)
+        return a;
+    copy_records(part, a->m, n, a->keys, a->classes);
+    return part;
+}
+
 /* What is promised of an answer to the last question. */
 static void require_promises(question q, lutniorad_answer answer)
 {
+    static map part;
     const uint32_t tile = takes_tile(q.operation) ? q.tile : q.map->m;
+    const map *base = overlays(q.operation) ? records_asked(baseline, n_base_keys, &part) : NULL;
     if (opens(q.operation))
-        require_opened(q.map, q.operation == &SPARSE_OPEN, tile, q.at, answer, left(3));
+        require_opened(q.map, q.operation == &SPARSE_OPEN, tile, q.at, answer, answer_left());
     if (reports(q.operation))
-        require_reported(q.at, answer, left(3));
+        require_reported(q.at, answer, answer_left());
+    if (q.operation == &OVERLAY_PART)
+        require_part_of_either(q.map, base, q.about, last_part());
     if (q.operation == &SPARSE_SELECT)
-        require_sparse_selected(q.map, tile, q.at, q.about, left(3), answer.first);
+        require_sparse_selected(q.map, tile, q.at, q.about, answer_left(), answer.first);
+    else if (q.operation == &OVERLAY_SELECT)
+        require_overlay_selected(q.map, base, q.at, class_of(q.about), answer_left(), answer.first);
     else if (selects(q.operation))
-        require_selected(q.map, tile, q.at, left(3), answer.first);
+        require_selected(q.map, tile, q.at, answer_left(), answer.first);
 }
 
 /* For the header's macros, which take no larger one. A larger one is refused, whatever room there is. */
@@ -124,22 +173,21 @@ static void ask_without(question q, given keys, given classes, lutniorad_answer 
         compare_with(gapless, answer);
 }
 
-/* The first n records of a map, which are all that it was asked of: a sparse one may be answered so. */
-static const map *records_asked(const map *a, size_t n)
+static call call_on_overlay(question q, given keys, given classes, given border, given out)
 {
-    static map part;
-    if (n == a->q)
-        return a;
-    copy_records(&part, a->m, n, a->keys, a->classes);
-    return &part;
+    const given base_keys = {baseline->keys, n_base_keys}, base_classes = {baseline->classes, n_base_classes};
+    call c = {q.operation, q.map->m, baseline->m, q.at, q.about, {keys, classes, base_keys, base_classes, border, out}};
+    return c;
 }
 
 static lutniorad_answer compare_question(question q, given keys, given classes, given border, given out)
 {
+    static map part;
     call c = {q.operation, q.map->m, q.tile, q.at, q.about, {keys, classes, border, out}};
-    lutniorad_answer answer = compare(c);
+    place_of_border = overlays(q.operation) ? 4 : 2;
+    lutniorad_answer answer = compare(overlays(q.operation) ? call_on_overlay(q, keys, classes, border, out) : c);
     if (answer.refusal == 0)
-        q.map = records_asked(q.map, keys.length);
+        q.map = records_asked(q.map, keys.length, &part);
     require_room(answer, out.length, enough_for(q));
     require_more_room(q, answer, out.length);
     if (answer.refusal == 0)
@@ -175,7 +223,7 @@ size_t enough_tiled(uint32_t tile, window at)
 }
 
 /* A cell for each pixel, as the header has it; but no case has a larger window with more keys than this. */
-static size_t enough_for_sparse(window at)
+static size_t enough_for_pixels(window at)
 {
     const size_t pixels = (size_t)at.h * at.w, most = (size_t)1 << 16;
     return pixels < most ? pixels : most;
@@ -184,13 +232,13 @@ static size_t enough_for_sparse(window at)
 size_t enough_for(question q)
 {
     const uint32_t tile = tile_of_some_picture(q.tile);
-    return q.operation == &OPEN            ? LUTNIORAD_OPEN_CELLS(q.at.h, q.at.w)
-           : reports(q.operation)          ? LUTNIORAD_CLASSES
-           : q.operation == &SELECT        ? LUTNIORAD_SELECT_CELLS(q.map->q, q.at.h, q.at.w)
-           : opens(q.operation)            ? LUTNIORAD_OPEN_TILED_CELLS(tile, q.at.h, q.at.w)
-           : q.operation == &SELECT_TILED  ? LUTNIORAD_SELECT_TILED_CELLS(tile, q.map->q, q.at.h, q.at.w)
-           : q.operation == &SPARSE_SELECT ? enough_for_sparse(q.at)
-                                           : 0;
+    return q.operation == &OPEN           ? LUTNIORAD_OPEN_CELLS(q.at.h, q.at.w)
+           : reports(q.operation)         ? LUTNIORAD_CLASSES
+           : q.operation == &SELECT       ? LUTNIORAD_SELECT_CELLS(q.map->q, q.at.h, q.at.w)
+           : opens(q.operation)           ? LUTNIORAD_OPEN_TILED_CELLS(tile, q.at.h, q.at.w)
+           : q.operation == &SELECT_TILED ? LUTNIORAD_SELECT_TILED_CELLS(tile, q.map->q, q.at.h, q.at.w)
+           : selects(q.operation)         ? enough_for_pixels(q.at)
+                                          : 0;
 }
 
 static lutniorad_answer answer_in_full(question q)
@@ -271,19 +319,24 @@ void make_stated_map(map *a, uint32_t m)
 
 void require_border(window at, uint16_t stated)
 {
-    const uint16_t *border = left(2);
     for (size_t i = 0; stated != 0 && i < at.w; i++)
-        require(border[i] == stated, "another border than the one written out");
+        require(border_left()[i] == stated, "another border than the one written out");
 }
 
 /* ---- Some question ---- */
 
+static uint32_t some_pixel_in(uint32_t m, uint32_t block)
+{
+    uint32_t pixel = block, place = 1;
+    for (size_t side = side_of_block(m, block); side > 1; side /= 2, place *= 5)
+        pixel += (1 + (uint32_t)below(4)) * place;
+    return pixel;
+}
+
 /* The record that has some pixel of the block: the last one whose key is not beyond that of the pixel. */
 static uint32_t some_record_in(const map *a, uint32_t block)
 {
-    uint32_t pixel = block, place = 1, record = 0;
-    for (size_t side = side_of_block(a->m, block); side > 1; side /= 2, place *= 5)
-        pixel += (1 + (uint32_t)below(4)) * place;
+    uint32_t pixel = some_pixel_in(a->m, block), record = 0;
     while (record + 1 < a->q && a->keys[record + 1] <= pixel)
         record++;
     return record;
@@ -312,10 +365,29 @@ uint32_t some_class_over(const map *a)
     return over(background, below(3) == 0 ? background : some_class(a));
 }
 
+/* The key of a record of either map, of a block around it, of a pixel in it or in the picture; or any number. */
+static uint32_t some_key(const map *a)
+{
+    const map *from = below(2) == 0 || a->q == 0 ? baseline : a;
+    const uint32_t key = from->q > 0 ? from->keys[below(from->q)] : 0, around = parent_of(from->m, key);
+    const uint32_t keys[] = {
+        key,
+        around,
+        parent_of(from->m, around),
+        some_pixel_in(from->m, key),
+        some_pixel_in(from->m, 0),
+        key + 1,
+        (uint32_t)random_number(),
+    };
+    return keys[below(COUNT(keys))];
+}
+
 question some_question(const operation *o, const map *a, window at)
 {
     const bool explains = o == &WHY_RECORD || o == &WHY_BLOCK;
     uint32_t about = explains                  ? something_to_explain(o, a, at)
+                     : o == &OVERLAY_PART      ? some_key(a)
+                     : overlays(o)             ? some_class(below(2) == 0 ? a : baseline)
                      : without_gaps(o) != NULL ? some_class_over(a)
                                                : some_class(a);
     question q = {o, a, some_tile(a->m, at), at, about};
@@ -385,12 +457,12 @@ void ask_with_reasons_together(window at, const need *needs, size_t n)
 
 /* ---- Questions together ---- */
 
-/* These three on a complete map or on a sparse one, and the last with a tile or without. */
+/* These three on a complete map, on a sparse one or on an overlay, and the last with a tile or without. */
 static lutniorad_answer ask_report(question q, uint32_t totals[CLASSES])
 {
     lutniorad_answer answer = answer_in_full(q);
     if (answer.refusal == 0)
-        memcpy(totals, left(3), CLASSES * sizeof *totals);
+        memcpy(totals, answer_left(), CLASSES * sizeof *totals);
     return answer;
 }
 
@@ -403,7 +475,7 @@ static void ask_select(question q, const uint32_t totals[CLASSES])
 {
     lutniorad_answer answer = answer_in_full(q);
     if (answer.refusal == 0)
-        require_as_reported(q.map->m, left(3), answer.first, totals[class_of(q.about)]);
+        require_as_reported(q.map->m, answer_left(), answer.first, totals[class_of(q.about)]);
 }
 
 lutniorad_answer take_totals(const map *a, window at, uint32_t totals[CLASSES])
@@ -423,16 +495,34 @@ void try_exist(const map *a, window at, const uint8_t *asked, size_t n)
     }
 }
 
-void try_queries(const map *a, window at, const uint8_t *asked, size_t n)
+/* These three, on one map or on an overlay. */
+typedef struct {
+    const operation *report, *exist, *select;
+} queries;
+
+static void ask_queries(queries by, const map *a, window at, const uint8_t *asked, size_t n)
 {
     uint32_t totals[CLASSES];
-    if (take_totals(a, at, totals).refusal != 0)
+    question report = {by.report, a, NO_TILE, at, NO_CLASS};
+    if (ask_report(report, totals).refusal != 0)
         return;
     for (size_t i = 0; i < n; i++) {
-        question exist = {&EXIST, a, NO_TILE, at, asked[i]}, select = {&SELECT, a, NO_TILE, at, asked[i]};
+        question exist = {by.exist, a, NO_TILE, at, asked[i]}, select = {by.select, a, NO_TILE, at, asked[i]};
         ask_exist(exist, totals);
         ask_select(select, totals);
     }
+}
+
+void try_queries(const map *a, window at, const uint8_t *asked, size_t n)
+{
+    static const queries on_one_map = {&REPORT, &EXIST, &SELECT};
+    ask_queries(on_one_map, a, at, asked, n);
+}
+
+void try_overlay(const map *today, window at, const uint8_t *asked, size_t n)
+{
+    static const queries on_overlay = {&OVERLAY_REPORT, &OVERLAY_EXIST, &OVERLAY_SELECT};
+    ask_queries(on_overlay, today, at, asked, n);
 }
 
 void try_tile(const map *a, uint32_t tile, window at, const uint8_t *asked, size_t n)

@@ -1,8 +1,9 @@
 /*
  * Calls about windows: decomposing one, and the questions that are asked about one on a map, which are OPEN, EXIST,
- * REPORT and SELECT, two of them with a tile, all of them on a sparse map, and WHY_RECORD and WHY_BLOCK. Each call is
- * compared, and what it answers is held against what is promised of it; one with the tile m against the call without a
- * tile; and one on a sparse map that is complete against the call for such.
+ * REPORT and SELECT, two of them with a tile, all of them on a sparse map, three of them on an overlay, and WHY_RECORD
+ * and WHY_BLOCK. OVERLAY_PART, which is about a block, counts as one too. Each call is compared, and what it answers is
+ * held against what is promised of it; one with the tile m against the call without a tile; and one on a sparse map
+ * that is complete against the call for such.
  */
 #ifndef QUESTIONS_H
 #define QUESTIONS_H
@@ -13,7 +14,7 @@
 lutniorad_answer compare_decompose(uint32_t m, window at, size_t n_out);
 lutniorad_answer compare_decompose_tiled(uint32_t m, uint32_t tile, window at, size_t n_out);
 
-/* To the last two the answer is a reason. */
+/* Those on one map. To the last two the answer is a reason. */
 enum { QUESTIONS = 12, ANSWERS = QUESTIONS - 2 };
 extern const operation *const questions[QUESTIONS];
 
@@ -26,6 +27,13 @@ typedef struct {
     window at;
     uint32_t about; /* for those that take one: the class, over a background or not, the record or the block */
 } question;
+
+/*
+ * The baseline of all questions on an overlay from now on: the map of such a question is today's, and lies over this
+ * one. The baseline's slices are as long as it is now, or of some other length.
+ */
+void lay_over(const map *base);
+void lay_over_slices(const map *base, size_t n_keys, size_t n_classes);
 
 /* With some tile, and about something: mostly a class or a record of the map, or a maximal block of the window. */
 question some_question(const operation *o, const map *a, window at);
@@ -95,6 +103,9 @@ void try_exist(const map *a, window at, const uint8_t *asked, size_t n);
 /* The same with select, about each of the classes. */
 void try_queries(const map *a, window at, const uint8_t *asked, size_t n);
 
+/* The same on an overlay, of which this is today's map. */
+void try_overlay(const map *today, window at, const uint8_t *asked, size_t n);
+
 /* With a tile: decomposing, open, and select about n classes, which must fit what is reported. */
 void try_tile(const map *a, uint32_t tile, window at, const uint8_t *asked, size_t n);
 
@@ -111,6 +122,10 @@ void try_sparse_tile(const map *a, uint32_t tile, window at, uint8_t background,
 
 /* For the answers written out: the reference map, with another m if it is not 2; at m = 0 the map of one pixel. */
 void make_stated_map(map *a, uint32_t m);
+
+/* What the last question left in the border and in the answer slice, where it has them. */
+const uint16_t *border_left(void);
+const uint32_t *answer_left(void);
 
 /* After a question: each cell of the window's border is this, or 0 stands for a border that was not written. */
 void require_border(window at, uint16_t stated);

@@ -95,8 +95,9 @@ static square block_of(const uint64_t digits[MOST_DIGITS], uint64_t m)
 /* The records of a complete map have every pixel. A sparse one may have pixels in no record, and no record at all. */
 typedef enum { COMPLETE, SPARSE } map_kind;
 
-/* A map as it is lent, and the class of a pixel in no record. */
-typedef struct {
+/* A map as it is lent, and the class of a pixel in no record; or where it lies over a baseline, that. */
+typedef struct lent_map lent_map;
+struct lent_map {
     map_kind kind;
     uint32_t m;
     const uint32_t *keys;
@@ -104,18 +105,26 @@ typedef struct {
     const uint8_t *classes;
     size_t n_classes;
     uint8_t background;
-} lent_map;
+    const lent_map *baseline; /* NULL where there is none */
+};
 
 static lent_map complete_map(uint32_t m, const uint32_t *keys, size_t n_keys, const uint8_t *classes, size_t n_classes)
 {
-    lent_map on = {COMPLETE, m, keys, n_keys, classes, n_classes, 0 /* of no pixel */};
+    lent_map on = {COMPLETE, m, keys, n_keys, classes, n_classes, 0 /* of no pixel */, NULL};
     return on;
 }
 
 static lent_map sparse_map(uint32_t m, const uint32_t *keys, size_t n_keys, const uint8_t *classes, size_t n_classes,
                            uint8_t background)
 {
-    lent_map on = {SPARSE, m, keys, n_keys, classes, n_classes, background};
+    lent_map on = {SPARSE, m, keys, n_keys, classes, n_classes, background, NULL};
+    return on;
+}
+
+static lent_map overlay(uint32_t m, const uint32_t *keys, size_t n_keys, const uint8_t *classes, size_t n_classes,
+                        const lent_map *baseline)
+{
+    lent_map on = {SPARSE, m, keys, n_keys, classes, n_classes, 0 /* of no pixel */, baseline};
     return on;
 }
 
@@ -153,6 +162,23 @@ static lutniorad_answer check_map(lent_map on)
     if (ended != side_of_picture(on.m) * side_of_picture(on.m) && on.kind == COMPLETE)
         return refused(5, on.n_keys); /* the last must end with the picture */
     return answered(on.n_keys, 0);
+}
+
+/* The two maps of an overlay, as a refusal names them. */
+enum { TODAY = 1, BASELINE = 2 };
+
+/* Today's map, then the baseline, each with its refusals, and then whether they are of one m. */
+static lutniorad_answer check_overlay(lent_map on)
+{
+    const lent_map maps[] = {on, *on.baseline};
+    for (uint32_t number = TODAY; number <= BASELINE; number++) {
+        lutniorad_answer check = check_map(maps[number - TODAY]);
+        if (check.refusal != 0) {
+            check.first = number;
+            return check;
+        }
+    }
+    return on.m == on.baseline->m ? answered(0, 0) : refused(15, 0);
 }
 
 lutniorad_answer reference_check(uint32_t m,
@@ -400,15 +426,25 @@ static void keep_for(made_for *kept, lent_map on, window at)
     memcpy(kept->keys, on.keys, on.n_keys * sizeof *on.keys);
 }
 
+/* The same of the baseline, where the map at hand lies over one. */
+static uint32_t records_of_baseline[MOST_PIXELS];
+
 /* Paints the records of a sound map. As with the maximal blocks, what was painted last is kept. */
+static void paint_raster(lent_map on, window at, uint32_t *raster, made_for *last)
+{
+    if (is_for(last, on, at))
+        return;
+    if (!(on.kind == COMPLETE ? reference_raster : reference_sparse_raster)(on.m, on.keys, on.n_keys, at, raster))
+        abort();
+    keep_for(last, on, at);
+}
+
 static void paint_records(lent_map on, window at)
 {
-    static made_for last;
-    if (is_for(&last, on, at))
-        return;
-    if (!(on.kind == COMPLETE ? reference_raster : reference_sparse_raster)(on.m, on.keys, on.n_keys, at, records))
-        abort();
-    keep_for(&last, on, at);
+    static made_for last, last_baseline;
+    paint_raster(on, at, records, &last);
+    if (on.baseline != NULL)
+        paint_raster(*on.baseline, at, records_of_baseline, &last_baseline);
 }
 
 /* What every answer about a window on a sound map has: the records painted, and the border as it is in the end. */
@@ -419,16 +455,20 @@ static void begin_answer(lent_map on, window at, uint16_t *border)
         border[i] = (uint16_t)(at.r0 + at.h);
 }
 
+/* 1 and 17, and those from 2 to 5, or refusal 0. */
+static lutniorad_answer check_tile_and_map(lent_map on, uint32_t tile)
+{
+    lutniorad_answer size = size_of_tile(on.m, tile);
+    return size.refusal != 0 ? size : check_map(on);
+}
+
 /*
- * What every question about a window on a map may be refused by: 1 and 17, and those from 2 to 7, or refusal 0. A
- * question without a tile is one with c = m.
+ * What every question about a window may be refused by: those for its map and its tile, or for the two maps of an
+ * overlay, and 6 and 7, or refusal 0. A question without a tile is one with c = m.
  */
 static lutniorad_answer check_question(lent_map on, uint32_t tile, window at, size_t n_border)
 {
-    lutniorad_answer size = size_of_tile(on.m, tile);
-    if (size.refusal != 0)
-        return size;
-    lutniorad_answer check = check_map(on);
+    lutniorad_answer check = on.baseline != NULL ? check_overlay(on) : check_tile_and_map(on, tile);
     if (check.refusal != 0)
         return check;
     if (!is_inside(at, side_of_picture(on.m)))
@@ -743,13 +783,20 @@ static uint8_t class_of(lent_map on, uint32_t record)
     return record == NO_RECORD ? on.background : on.classes[record];
 }
 
+/* Of a pixel of the window at hand, by its place in the raster. */
+static uint8_t class_at(lent_map on, uint64_t place)
+{
+    return on.baseline != NULL && records[place] == NO_RECORD ? class_of(*on.baseline, records_of_baseline[place])
+                                                              : class_of(on, records[place]);
+}
+
 /* The pixels of each class in the window at hand. */
 static void count_classes(lent_map on, window at, uint64_t totals[CLASSES])
 {
     for (uint64_t i = 0; i < CLASSES; i++)
         totals[i] = 0;
     for (uint64_t i = 0; i < (uint64_t)at.h * at.w; i++)
-        totals[class_of(on, records[i])]++;
+        totals[class_at(on, i)]++;
 }
 
 /* 1, yes; or where no pixel has the class: 2, it cannot tell, if some were not seen, and 0, no, if all were. */
@@ -787,6 +834,21 @@ lutniorad_answer reference_sparse_exist(uint32_t m, uint8_t background,
     return ask_exist(sparse_map(m, keys, n_keys, classes, n_classes, background), at, of_class, border, n_border);
 }
 
+lutniorad_answer reference_overlay_exist(uint32_t m,
+                                         const uint32_t *keys, size_t n_keys,
+                                         const uint8_t *classes, size_t n_classes,
+                                         uint32_t base_m,
+                                         const uint32_t *base_keys, size_t n_base_keys,
+                                         const uint8_t *base_classes, size_t n_base_classes,
+                                         uint16_t r0, uint16_t c0, uint16_t h, uint16_t w,
+                                         uint8_t of_class,
+                                         uint16_t *border, size_t n_border)
+{
+    window at = {r0, c0, h, w};
+    lent_map baseline = complete_map(base_m, base_keys, n_base_keys, base_classes, n_base_classes);
+    return ask_exist(overlay(m, keys, n_keys, classes, n_classes, &baseline), at, of_class, border, n_border);
+}
+
 static lutniorad_answer report_window(lent_map on, window at, uint16_t *border, size_t n_border, uint32_t *totals,
                                       size_t n_totals)
 {
@@ -822,6 +884,22 @@ lutniorad_answer reference_sparse_report(uint32_t m, uint8_t background,
 {
     window at = {r0, c0, h, w};
     return report_window(sparse_map(m, keys, n_keys, classes, n_classes, background), at, border, n_border, totals,
+                         n_totals);
+}
+
+lutniorad_answer reference_overlay_report(uint32_t m,
+                                          const uint32_t *keys, size_t n_keys,
+                                          const uint8_t *classes, size_t n_classes,
+                                          uint32_t base_m,
+                                          const uint32_t *base_keys, size_t n_base_keys,
+                                          const uint8_t *base_classes, size_t n_base_classes,
+                                          uint16_t r0, uint16_t c0, uint16_t h, uint16_t w,
+                                          uint16_t *border, size_t n_border,
+                                          uint32_t *totals, size_t n_totals)
+{
+    window at = {r0, c0, h, w};
+    lent_map baseline = complete_map(base_m, base_keys, n_base_keys, base_classes, n_base_classes);
+    return report_window(overlay(m, keys, n_keys, classes, n_classes, &baseline), at, border, n_border, totals,
                          n_totals);
 }
 
@@ -876,6 +954,47 @@ static void keep_class(lent_map on, uint8_t of_class, piece_list *list)
     list->n = kept;
 }
 
+static uint64_t count_class(lent_map on, square block, window at, uint8_t of_class)
+{
+    uint64_t n = 0;
+    for (uint64_t row = block.row; row < block.row + block.side; row++)
+        for (uint64_t col = block.col; col < block.col + block.side; col++)
+            n += class_at(on, place_in_raster(at, row, col)) == of_class;
+    return n;
+}
+
+/*
+ * Lists the fewest blocks that make up the block's pixels of the class. That is the block itself, where it has no other
+ * pixel; and otherwise those of its quadrants, one after another, for no block of the class is then larger than these.
+ */
+static void list_of_class(lent_map on, square block, window at, uint8_t of_class, piece_list *list)
+{
+    uint64_t of_it = count_class(on, block, at, of_class), half = block.side / 2;
+    if (of_it == block.side * block.side) {
+        piece whole = {(uint32_t)key_of(block, side_of_picture(on.m)), NO_RECORD};
+        list->pieces[list->n++] = whole;
+        return;
+    }
+    for (uint64_t i = 0; of_it > 0 && i < 4; i++) {
+        square quadrant = {block.row + i / 2 * half, block.col + i % 2 * half, half};
+        list_of_class(on, quadrant, at, of_class, list);
+    }
+}
+
+/* Of a window on one map by its records, and of one on an overlay by its pixels. */
+static void list_selected(lent_map on, uint32_t tile, window at, uint8_t of_class, piece_list *list)
+{
+    const block_list *maximal = list_maximal(at, side_of_tile(tile));
+    list->n = 0;
+    for (uint64_t i = 0; i < maximal->n; i++)
+        if (on.baseline != NULL)
+            list_of_class(on, maximal->blocks[i], at, of_class, list);
+        else
+            list_pieces(on.m, maximal->blocks[i], at, list);
+    if (on.baseline == NULL)
+        keep_class(on, of_class, list);
+}
+
 static lutniorad_answer select_in(lent_map on, uint32_t tile, window at, uint8_t of_class, uint16_t *border,
                                   size_t n_border, uint32_t *out, size_t n_out)
 {
@@ -883,11 +1002,7 @@ static lutniorad_answer select_in(lent_map on, uint32_t tile, window at, uint8_t
     lutniorad_answer begun = begin_question(on, tile, at, border, n_border);
     if (begun.refusal != 0)
         return begun;
-    const block_list *maximal = list_maximal(at, side_of_tile(tile));
-    list.n = 0;
-    for (uint64_t i = 0; i < maximal->n; i++)
-        list_pieces(on.m, maximal->blocks[i], at, &list);
-    keep_class(on, of_class, &list);
+    list_selected(on, tile, at, of_class, &list);
     if (n_out < list.n)
         return refused(8, list.n);
     for (uint64_t i = 0; i < list.n; i++)
@@ -931,6 +1046,72 @@ lutniorad_answer reference_select(uint32_t m,
 {
     return reference_select_tiled(m, m, keys, n_keys, classes, n_classes, r0, c0, h, w, of_class, border, n_border, out,
                                   n_out);
+}
+
+lutniorad_answer reference_overlay_select(uint32_t m,
+                                          const uint32_t *keys, size_t n_keys,
+                                          const uint8_t *classes, size_t n_classes,
+                                          uint32_t base_m,
+                                          const uint32_t *base_keys, size_t n_base_keys,
+                                          const uint8_t *base_classes, size_t n_base_classes,
+                                          uint16_t r0, uint16_t c0, uint16_t h, uint16_t w,
+                                          uint8_t of_class,
+                                          uint16_t *border, size_t n_border,
+                                          uint32_t *out, size_t n_out)
+{
+    window at = {r0, c0, h, w};
+    lent_map baseline = complete_map(base_m, base_keys, n_base_keys, base_classes, n_base_classes);
+    return select_in(overlay(m, keys, n_keys, classes, n_classes, &baseline), m, at, of_class, border, n_border, out,
+                     n_out);
+}
+
+/* ---- A part of an overlay ---- */
+
+static bool shares_pixels(square a, square b)
+{
+    return a.row < b.row + b.side && b.row < a.row + a.side && a.col < b.col + b.side && b.col < a.col + a.side;
+}
+
+/* The records of a sound map that share pixels with the block. */
+static lutniorad_part part_of(lent_map on, uint32_t map, square block)
+{
+    uint64_t digits[MOST_DIGITS];
+    lutniorad_part part = {0, 0, map, 0, 0};
+    for (uint64_t i = on.n_keys; i > 0; i--) {
+        digits_of(on.keys[i - 1], on.m, digits);
+        if (shares_pixels(block_of(digits, on.m), block)) {
+            part.first = (uint32_t)(i - 1);
+            part.count++;
+        }
+    }
+    return part;
+}
+
+static lutniorad_part no_part(lutniorad_answer refusal)
+{
+    lutniorad_part part = {refusal.refusal, refusal.place, refusal.first, 0, 0};
+    return part;
+}
+
+lutniorad_part reference_overlay_part(uint32_t m,
+                                      const uint32_t *keys, size_t n_keys,
+                                      const uint8_t *classes, size_t n_classes,
+                                      uint32_t base_m,
+                                      const uint32_t *base_keys, size_t n_base_keys,
+                                      const uint8_t *base_classes, size_t n_base_classes,
+                                      uint32_t key)
+{
+    uint64_t digits[MOST_DIGITS];
+    lent_map baseline = complete_map(base_m, base_keys, n_base_keys, base_classes, n_base_classes);
+    lent_map on = overlay(m, keys, n_keys, classes, n_classes, &baseline);
+    lutniorad_answer check = check_overlay(on);
+    if (check.refusal != 0)
+        return no_part(check);
+    if (!digits_of(key, m, digits) || !has_the_form(digits, m))
+        return no_part(refused(27, 0));
+    square block = block_of(digits, m);
+    lutniorad_part of_today = part_of(on, TODAY, block);
+    return of_today.count > 0 ? of_today : part_of(baseline, BASELINE, block);
 }
 
 /* ---- A month ---- */

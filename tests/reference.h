@@ -161,6 +161,45 @@ lutniorad_answer reference_salvage(uint32_t m,
                                    uint8_t *out_classes, size_t n_out_classes,
                                    uint32_t *log, size_t n_log);
 
+lutniorad_answer reference_overlay_exist(uint32_t m,
+                                         const uint32_t *keys, size_t n_keys,
+                                         const uint8_t *classes, size_t n_classes,
+                                         uint32_t base_m,
+                                         const uint32_t *base_keys, size_t n_base_keys,
+                                         const uint8_t *base_classes, size_t n_base_classes,
+                                         uint16_t r0, uint16_t c0, uint16_t h, uint16_t w,
+                                         uint8_t of_class,
+                                         uint16_t *border, size_t n_border);
+
+lutniorad_answer reference_overlay_report(uint32_t m,
+                                          const uint32_t *keys, size_t n_keys,
+                                          const uint8_t *classes, size_t n_classes,
+                                          uint32_t base_m,
+                                          const uint32_t *base_keys, size_t n_base_keys,
+                                          const uint8_t *base_classes, size_t n_base_classes,
+                                          uint16_t r0, uint16_t c0, uint16_t h, uint16_t w,
+                                          uint16_t *border, size_t n_border,
+                                          uint32_t *totals, size_t n_totals);
+
+lutniorad_answer reference_overlay_select(uint32_t m,
+                                          const uint32_t *keys, size_t n_keys,
+                                          const uint8_t *classes, size_t n_classes,
+                                          uint32_t base_m,
+                                          const uint32_t *base_keys, size_t n_base_keys,
+                                          const uint8_t *base_classes, size_t n_base_classes,
+                                          uint16_t r0, uint16_t c0, uint16_t h, uint16_t w,
+                                          uint8_t of_class,
+                                          uint16_t *border, size_t n_border,
+                                          uint32_t *out, size_t n_out);
+
+lutniorad_part reference_overlay_part(uint32_t m,
+                                      const uint32_t *keys, size_t n_keys,
+                                      const uint8_t *classes, size_t n_classes,
+                                      uint32_t base_m,
+                                      const uint32_t *base_keys, size_t n_base_keys,
+                                      const uint8_t *base_classes, size_t n_base_classes,
+                                      uint32_t key);
+
 /* The most pixels that a picture has, how many classes there are, and the class of what the camera did not see. */
 enum { MOST_PIXELS = 4096 * 4096, CLASSES = 256, NOT_SEEN = 255 };
 

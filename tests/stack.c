@@ -186,6 +186,32 @@ static void run_salvage(void)
                                mended.classes, COUNT(mended.classes), out, COUNT(out));
 }
 
+/* The map without its first record over the whole of it. */
+static void run_overlay_exist(void)
+{
+    answer = lutniorad_overlay_exist(a.m, a.keys + 1, a.q - 1, a.classes + 1, a.q - 1, a.m, a.keys, a.q, a.classes,
+                                     a.q, at.r0, at.c0, at.h, at.w, 2, border, COUNT(border));
+}
+
+static void run_overlay_report(void)
+{
+    answer = lutniorad_overlay_report(a.m, a.keys + 1, a.q - 1, a.classes + 1, a.q - 1, a.m, a.keys, a.q, a.classes,
+                                      a.q, at.r0, at.c0, at.h, at.w, border, COUNT(border), out, COUNT(out));
+}
+
+static void run_overlay_select(void)
+{
+    answer = lutniorad_overlay_select(a.m, a.keys + 1, a.q - 1, a.classes + 1, a.q - 1, a.m, a.keys, a.q, a.classes,
+                                      a.q, at.r0, at.c0, at.h, at.w, 1, border, COUNT(border), out, COUNT(out));
+}
+
+static void run_overlay_part(void)
+{
+    lutniorad_part part = lutniorad_overlay_part(a.m, a.keys + 1, a.q - 1, a.classes + 1, a.q - 1, a.m, a.keys, a.q,
+                                                 a.classes, a.q, key_of_last_pixel());
+    answer.refusal = part.refusal;
+}
+
 static const struct {
     const char *name;
     void (*run)(void);
@@ -214,6 +240,10 @@ static const struct {
     {"sparse_read", run_sparse_read},
     {"sparse_write", run_sparse_write},
     {"salvage", run_salvage},
+    {"overlay_exist", run_overlay_exist},
+    {"overlay_report", run_overlay_report},
+    {"overlay_select", run_overlay_select},
+    {"overlay_part", run_overlay_part},
 };
 
 /* ---- The depths ---- */

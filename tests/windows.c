@@ -2,6 +2,7 @@
 
 #include "many.h"
 #include "months.h"
+#include "overlay.h"
 #include "questions.h"
 #include "salvage.h"
 #include "sparse.h"
@@ -451,6 +452,7 @@ static void try_more(window at)
     try_tile(&sound, some_tile(sound.m, at), at, &asked, 1);
     try_reasons(&sound, at);
     try_thinned(&sound, at);
+    try_overlaid(&sound, at);
 }
 
 /* Every operation on the map at hand, and on some windows of it. */

@@ -64,9 +64,12 @@ $1: cannot write standard output" ] && return 0
 }
 
 bad_layout='refused 9 at 0: the layout of the file is wrong'
+no_records='refused 2 at 0: keys and classes differ in number, go over 65,536, or a complete map has none'
 bad_key='refused 3 at 0: the key of a record names no block'
 overlap='refused 4 at 1: a record starts before the last one ended'
+gap='refused 5 at 0: a record starts after the last one ended, or the list ends early'
 bad_window='refused 6 at 0: the window is empty or not inside the picture'
+other_m='refused 15 at 0: the m of the map is not that of the table or of the baseline'
 
 step 'the examples are C++17' examples_as_cpp
 
@@ -644,8 +647,7 @@ step 'month leaves out a file cut short' \
 step 'month leaves out an unsound map' \
     example_says "$three_maps" "unsound: $bad_key" 1 month 0 1 3 3 sound second unsound third
 step 'month leaves out a map of another m' \
-    example_says "$three_maps" 'pixel: refused 15 at 0: the m of the map is not that of the table' 1 \
-    month 0 1 3 3 sound second third pixel
+    example_says "$three_maps" "pixel: $other_m" 1 month 0 1 3 3 sound second third pixel
 step 'month leaves out a missing file' \
     example_says "$three_maps" 'missing: cannot be opened' 1 month 0 1 3 3 missing sound second third
 step 'month leaves out a file that cannot be read' \
@@ -726,12 +728,10 @@ step 'acquire has no answer before the first picture that it takes' example_says
 $of_lake" "$cut" 1 acquire cut lake
 step 'acquire knows a wrong layout as no house file' no_house_file "$bad_layout" cut
 step 'acquire knows a wrong m as no house file' no_house_file 'refused 1 at 0: m is over 12' vast
-step 'acquire knows a wrong count as no house file' no_house_file \
-    'refused 2 at 0: keys and classes differ in number, go over 65,536, or a complete map has none' empty
+step 'acquire knows a wrong count as no house file' no_house_file "$no_records" empty
 step 'acquire knows a wrong key as a broken map' broken_map "$bad_key" keyless
 step 'acquire knows an overlap as a broken map' broken_map "$overlap" twice
-step 'acquire knows a gap as a broken map' \
-    broken_map 'refused 5 at 0: a record starts after the last one ended, or the list ends early' behind
+step 'acquire knows a gap as a broken map' broken_map "$gap" behind
 step 'acquire does not take a smaller picture' \
     not_taken 'pixel: a picture of m 0, and the windows are drawn for m 5' pixel
 step 'acquire does not take a larger picture, in which its windows lie too' \
@@ -746,3 +746,71 @@ step 'acquire knows short totals as its own fault' wrong_program \
     'refused 8 at 256: a slice that would be written is too short' 'totals, LUTNIORAD_CLASSES' 'totals, 255'
 step 'acquire sees that no file is named' example_says '' 'usage: acquire FILE..., house files' 2 acquire
 step 'acquire sees that it cannot write' sees_failed_output acquire lake lake
+
+map_of '9 13 14' '3 2 2' >"$files/changed"
+map_of '5 24' '255 1' >"$files/clouded"
+usage='usage: overlay TODAY BASELINE R0 C0 H W CLASS, with two house files'
+of_both='class 1, pixels 2
+class 2, pixels 6
+class 3, pixels 1
+block 10, today, first record 1, records 2
+block 21, baseline, first record 6, records 1
+block 22, baseline, first record 6, records 1'
+of_baseline='class 1, pixels 4
+class 2, pixels 4
+class 3, pixels 1
+block 13, baseline, first record 3, records 1'
+of_clouded='class 1, pixels 6
+class 2, pixels 5
+class 3, pixels 1
+class 255, pixels 4
+block 5, today, first record 0, records 1'
+
+totals_of() { # TODAY BASELINE R0 C0 H W: what an overlay has of each class there
+    run overlay "$@" 1 </dev/null | grep '^class'
+}
+
+# Under a map of all pixels the other does not show, and over one without records neither does that. Scum is class 1.
+shows_one_map() {
+    for at in '0 0 32 32' '1 1 30 30' '12 8 10 16' '6 4 8 14' '4 8 8 8'; do
+        # shellcheck disable=SC2086 # four numbers
+        nothing=$(totals_of "$files/empty" examples/lake.map $at) \
+            all=$(totals_of examples/lake.map "$files/green" $at) scum=$(run scum examples/lake.map $at 1)
+        [ "$nothing" = "$all" ] && [ "$(echo "$all" | sed -n 's/^class 1, pixels //p')" = "${scum%% of *}" ] && continue
+        echo "overlay said in $at of nothing over the lake '$nothing', of the lake over another map '$all', not '$scum'"
+        return 1
+    done
+}
+
+step 'the example overlay is built' build overlay examples/overlay.c
+step 'overlay joins both maps' example_says "$of_both" '' 0 overlay changed sound 0 1 3 3 2
+step 'overlay shows the baseline where there is nothing today' \
+    example_says "$of_baseline" '' 0 overlay no-record sound 0 1 3 3 3
+step 'overlay shows what was not seen today as not seen' \
+    example_says "$of_clouded" '' 0 overlay clouded sound 0 0 4 4 255
+step 'overlay lists no block of a class that is hidden' \
+    example_says 'class 2, pixels 1' '' 0 overlay changed sound 1 2 1 1 3
+step 'overlay shows one map where that has all, or the other nothing' shows_one_map
+step 'overlay refuses an unsound map of today' \
+    example_says "today: $bad_key" '' 1 overlay unsound unsound 0 1 3 3 1
+step 'overlay refuses an unsound baseline' example_says "baseline: $bad_key" '' 1 overlay changed unsound 0 1 3 3 1
+step 'overlay refuses a baseline with a gap' example_says "baseline: $gap" '' 1 overlay sound changed 0 1 3 3 1
+step 'overlay refuses a baseline without a record' \
+    example_says "baseline: $no_records" '' 1 overlay sound no-record 0 1 3 3 1
+step 'overlay refuses a file of today cut short' example_says "today: $bad_layout" '' 1 overlay short short 0 1 3 3 1
+step 'overlay refuses a file of the baseline cut short' \
+    example_says "baseline: $bad_layout" '' 1 overlay changed short 0 1 3 3 1
+step 'overlay refuses a baseline of another m' example_says "$other_m" '' 1 overlay changed pixel 0 1 3 3 1
+step 'overlay refuses a window that sticks out' example_says "$bad_window" '' 1 overlay changed sound 2 0 3 1 1
+step 'overlay sees that the file of today is missing' \
+    example_says '' 'missing: cannot be opened' 2 overlay missing sound 0 1 3 3 1
+step 'overlay sees that the file of the baseline is missing' \
+    example_says '' 'missing: cannot be opened' 2 overlay changed missing 0 1 3 3 1
+step 'overlay sees that a file cannot be read' \
+    example_says '' 'folder: cannot be read' 2 overlay changed folder 0 1 3 3 1
+step 'overlay sees that a number is too great' example_says '' "$usage" 2 overlay changed sound 0 1 3 65536 1
+step 'overlay sees that a class is too great' example_says '' "$usage" 2 overlay changed sound 0 1 3 3 256
+step 'overlay sees that the class is missing' example_says '' "$usage" 2 overlay changed sound 0 1 3 3
+step 'overlay sees that there is a number too many' example_says '' "$usage" 2 overlay changed sound 0 1 3 3 1 1
+step 'overlay sees that it cannot write' sees_failed_output overlay changed sound 0 1 3 3 1
+step 'overlay sees that it cannot write a refusal' sees_failed_output overlay short sound 0 1 3 3 1

@@ -6,7 +6,6 @@ use mathlib.Core.Bool.{true, false}
 use mathlib.Core.List.{List}
 use Prim.Native.Nat.{ℕ}
 use lib.ListN.{length}
-use Rattle.answers.specs.After.{After}
 use Rattle.answers.proofs.Laws.{on-refused, answer-verdict}
 use Rattle.window.specs.declared.Window.{Window}
 use Rattle.window.specs.Window.{Inside}
@@ -27,14 +26,10 @@ use Rattle.house.specs.File.{fileQ}
 use Rattle.house.proofs.Laws.{read-same, write-same}
 use Rattle.lutniorad.specs.declared.Answer.{Answer}
 use Rattle.lutniorad.specs.Numbers.{refused}
-use Rattle.lutniorad.specs.Calls.{Call, Check, OpenTiled, Exist, Report, SelectTiled, Read, Write}
+use Rattle.lutniorad.specs.Calls.{Check, OpenTiled, Exist, Report, SelectTiled, Read, Write}
 use Rattle.lutniorad.specs.Calls.{SparseCheck, SparseOpen, SparseExist, SparseReport, SparseSelect, SparseRead, SparseWrite}
-use Rattle.lutniorad.proofs.Crossing.{call-one}
+use Rattle.lutniorad.proofs.Crossing.{alike}
 use Rattle.lutniorad.proofs.Answered.{check-says, read-says, write-says}
-
--- calls of outcomes that are the same
-alike : {A N S : Type 0} {say : A → N} {o o′ : After A S} {r r′ : N} {lent lent′ : S} → o ≡ o′ → Call say o r lent → Call say o′ r′ lent′ → (r ≡ r′) × (lent ≡ lent′)
-alike e a b = call-one (rw e at a) b
 
 -- the number of a refusal
 by-number : {r : Answer} {n p : ℕ} → r ≡ refused n p → r .refusal ≡ n

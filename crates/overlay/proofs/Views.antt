@@ -12,7 +12,8 @@ use borrow.Author.Tests.{eq-eqb, ne-eqb}
 use Rattle.lists.specs.Lists.{upFrom}
 use Rattle.lists.proofs.Laws.{never, up-none, up-next}
 use Rattle.answers.specs.declared.Verdict.the-variants as verdict-of
-use Rattle.answers.specs.Refusals.{verdict}
+use Rattle.answers.specs.Refusals.{answer, verdict}
+use Rattle.answers.specs.After.{after}
 use Rattle.answers.proofs.Laws.{refusal-held, refusal-clear, answer-none, refused-not-passed}
 use Rattle.key.specs.declared.Form.{Form}
 use Rattle.key.specs.declared.Form.the-variants as form
@@ -23,12 +24,11 @@ use Rattle.map.specs.Spans.{malformed}
 use Rattle.map.specs.Sound.{Spaced, ended, later, SoundIn}
 use Rattle.map.specs.Runs.{runOf}
 use Rattle.map.proofs.Laws.{spaced, sound-map, malformed-not, malformed-is, block-records}
-use Rattle.pieces.specs.Pair.{Pair}
 use Rattle.overlay.specs.declared.Pairing.{Pairing}
 use Rattle.overlay.specs.declared.Pairing.the-variants as pairing-of
 use Rattle.overlay.specs.declared.Viewed.{Viewed}
 use Rattle.overlay.specs.declared.Viewed.the-variants.{Today, Baseline, Refused}
-use Rattle.overlay.specs.Overlay.{pairing, blockRefusals, recordsOver, viewOf, partIn}
+use Rattle.overlay.specs.Overlay.{pairing, behind, overPair, blockRefusals, recordsOver, viewOf, partIn}
 use Rattle.overlay.proofs.Pairs.{paired, behind-refused, behind-passed}
 
 -- ---- the key, as that of the only record of a map
@@ -84,18 +84,18 @@ module _ (m : ℕ) (keys : List ℕ) (classes baseM : ℕ) (base : List ℕ) (ba
   pub data Seen : Viewed → Type 0 where
     unpaired : {map n p : ℕ} → pairing m keys classes baseM base baseClasses ≡ pairing-of.Refused map n p → Seen (Refused map n p)
     blockless : pairing m keys classes baseM base baseClasses ≡ pairing-of.Passed → malformed (formOf m key) ≡ true → Seen (Refused 0 27 0)
-    today : {i s first count : ℕ} → Pair m keys classes base baseClasses → Names m key i s → first ≡ runOf m keys key .first → count ≡ runOf m keys key .count → ¬ (count ≡ 0)
-        → Seen (Today first count)
-    baseline : {i s first count : ℕ} → Pair m keys classes base baseClasses → Names m key i s → first ≡ runOf m base key .first → count ≡ runOf m base key .count
-        → runOf m keys key .count ≡ 0 → Seen (Baseline first count)
+    ofToday : {i s first count : ℕ} → pairing m keys classes baseM base baseClasses ≡ pairing-of.Passed → Names m key i s → first ≡ runOf m keys key .first
+        → count ≡ runOf m keys key .count → ¬ (count ≡ 0) → Seen (Today first count)
+    ofBaseline : {i s first count : ℕ} → pairing m keys classes baseM base baseClasses ≡ pairing-of.Passed → Names m key i s → first ≡ runOf m base key .first
+        → count ≡ runOf m base key .count → runOf m keys key .count ≡ 0 → Seen (Baseline first count)
 
   pub view-seen : Seen (viewOf m keys classes baseM base baseClasses key)
   view-seen = go (pairing m keys classes baseM base baseClasses) refl
     where
       records : (e : pairing m keys classes baseM base baseClasses ≡ pairing-of.Passed) → SomeBlock m key → Dec (runOf m keys key .count ≡ 0)
           → Seen (viewOf m keys classes baseM base baseClasses key)
-      records e B (yes d) = rw (view-baseline e B d) (baseline (paired m keys classes baseM base baseClasses e) (B .names) refl refl d)
-      records e B (no d) = rw (view-today e B d) (today (paired m keys classes baseM base baseClasses e) (B .names) refl refl d)
+      records e B (yes d) = rw (view-baseline e B d) (ofBaseline e (B .names) refl refl d)
+      records e B (no d) = rw (view-today e B d) (ofToday e (B .names) refl refl d)
 
       block : pairing m keys classes baseM base baseClasses ≡ pairing-of.Passed → (f : Form) → formOf m key ≡ f → Seen (viewOf m keys classes baseM base baseClasses key)
       block e (form.Block i s) d = records e (record { exponent = i; start = s; names = record { is = d } }) (ℕ-discrete (runOf m keys key .count) 0)
@@ -105,18 +105,33 @@ module _ (m : ℕ) (keys : List ℕ) (classes baseM : ℕ) (base : List ℕ) (ba
       go pairing-of.Passed e = block e (formOf m key) refl
       go (pairing-of.Refused map n p) e = rw (view-refused e) (unpaired e)
 
+  -- behind the check of both maps
+  pub view-over-is : {S : Type 0} (lent : S) → after (viewOf m keys classes baseM base baseClasses key) lent
+      ≡ overPair Refused (λ v. v) (pairing m keys classes baseM base baseClasses) lent (after (answer (Refused 0) (blockRefusals m key) (recordsOver m keys base key)) lent)
+  unfolding viewOf
+  view-over-is lent = go (pairing m keys classes baseM base baseClasses) refl
+    where
+      viewing : Viewed
+      viewing = answer (Refused 0) (blockRefusals m key) (recordsOver m keys base key)
+
+      go : (p : Pairing) → pairing m keys classes baseM base baseClasses ≡ p
+          → after (behind Refused (pairing m keys classes baseM base baseClasses) viewing) lent
+          ≡ overPair Refused (λ v. v) (pairing m keys classes baseM base baseClasses) lent (after viewing lent)
+      go pairing-of.Passed e = ap (λ (v : Viewed). after v lent) (behind-passed Refused viewing e) ∙ sym (behind-passed _ (after viewing lent) e)
+      go (pairing-of.Refused map n p) e = ap (λ (v : Viewed). after v lent) (behind-refused Refused viewing e) ∙ sym (behind-refused _ (after viewing lent) e)
+
   -- the part lies in its slice
   pub view-within : {first count : ℕ} → viewOf m keys classes baseM base baseClasses key ≡ Today first count → first + count ≤ classes
   view-within {first} {count} e = go (rw e at view-seen)
     where
       go : Seen (Today first count) → first + count ≤ classes
-      go (today P n f c d) = omega (arith, block-records (P .today) n .room, P .classed, f, c)
+      go (ofToday e n f c d) = let P = paired m keys classes baseM base baseClasses e in omega (arith, block-records (P .today) n .room, P .classed, f, c)
 
   pub view-under : {first count : ℕ} → viewOf m keys classes baseM base baseClasses key ≡ Baseline first count → first + count ≤ baseClasses
   view-under {first} {count} e = go (rw e at view-seen)
     where
       go : Seen (Baseline first count) → first + count ≤ baseClasses
-      go (baseline P n f c d) = omega (arith, block-records (spaced (P .under)) n .room, P .underClassed, f, c)
+      go (ofBaseline e n f c d) = let P = paired m keys classes baseM base baseClasses e in omega (arith, block-records (spaced (P .under)) n .room, P .underClassed, f, c)
 
 -- ---- the classes of a part
 
