@@ -3,4 +3,5 @@ mod Blocks
 mod Pairs
 mod Meets
 mod Views
+pub mod Examples
 pub mod Laws

@@ -364,8 +364,7 @@ pub fn view(
     if let Verdict::Refused {
         number: _,
         place: _,
-    } = sound
-    {
+    } = sound {
         return Viewed::Refused {
             map: 0,
             number: 27,
