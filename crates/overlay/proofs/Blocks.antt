@@ -20,7 +20,7 @@ use Rattle.map.specs.Sound.{Spaced}
 use Rattle.map.proofs.Laws.{start-is, end-is}
 use Rattle.stretch.specs.Promises.{MakesUp, Runs, last, next, NextRun, stretches, runs}
 use Rattle.stretch.specs.Fewest.{stretch}
-use Rattle.stretch.proofs.Laws.{fewest-makes, fewest-least, runs-are, fewest-runs}
+use Rattle.stretch.proofs.Laws.{fewest-makes, fewest-least, stretches-none, stretches-next, runs-are, fewest-runs}
 use Rattle.sparse_select.proofs.Laws.{Made, made-none, made-skip, made-append, made-stretch, made-rising, Blockwise, laid-most, laid-fits}
 use Rattle.overlay.specs.Select.{ofClass, classBlocks, classSelected, classSelection}
 use Rattle.overlay.proofs.Joins.{class-is}
@@ -28,12 +28,12 @@ use Rattle.overlay.proofs.Joins.{class-is}
 -- runs of places with a property, one after another
 runs-made : (m : ℕ) {P : ℕ → Type 0} {T : ℕ → Bool} {at end : ℕ} {rs : List (ℕ × ℕ)} → ((q : ℕ) → T q ≡ true → P q) → ((q : ℕ) → at ≤ q → q < end → P q → T q ≡ true)
     → end ≤ 4 ^ m → at ≤ end → Runs T end at rs → Made m P end at (stretches m rs)
-unfolding stretches
-runs-made m {P} {T} {at} to from room l (last h) = made-none {a = at} (λ q x y p. never (sym (from q x y p) ∙ h q x y))
+runs-made m {P} {T} {at} to from room l (last h) = rw (stretches-none m) (made-none {a = at} (λ q x y p. never (sym (from q x y p) ∙ h q x y)))
 runs-made m {P} {T} {at} {end} to from room l (next {x = x} {y = y} {rs = rs} R N) =
-    made-skip (R .low) (λ q u v p. never (sym (from q u (omega (arith, v, R .some, R .high)) p) ∙ R .ahead q u v))
+    rw (stretches-next m (x, y) rs)
+    (made-skip (R .low) (λ q u v p. never (sym (from q u (omega (arith, v, R .some, R .high)) p) ∙ R .ahead q u v))
     (made-append {c = y} (omega (arith, R .some)) (R .high) (made-stretch x y (omega (arith, R .high)) (λ q u v. to q (R .along q u v)))
-    (runs-made m to (λ q u v p. from q (omega (arith, u, R .low, R .some)) v p) room (R .high) N))
+    (runs-made m to (λ q u v p. from q (omega (arith, u, R .low, R .some)) v p) room (R .high) N)))
 
 module _ (m : ℕ) (rule : ℕ → ℕ) (class : ℕ) where
   -- ---- the places from a up to b

@@ -1,4 +1,4 @@
-// Today's map, which may have gaps, over the season's baseline: a pixel has the class of today's record, or else that of the baseline's.
+// Today's map, which may have gaps, over the season's baseline: a pixel has the class of today's record, or else that of the baseline's. The m of the baseline is `depth`.
 use answers::Verdict;
 use exist::Existence;
 use pieces::Stand;
@@ -64,11 +64,11 @@ pub fn check_pair(
     m: u32,
     keys: &[u32],
     classes: &[u8],
-    base_m: u32,
+    depth: u32,
     base: &[u32],
     beneath: &[u8],
 ) -> Pairing
-    ensures { λ r. ⌜ r ≡ pairing m (now (keys .entry)) (length (now (classes .entry))) «base_m» (now (base .entry)) (length (now (beneath .entry))) ⌝ }
+    ensures { λ r. ⌜ r ≡ pairing m (now (keys .entry)) (length (now (classes .entry))) depth (now (base .entry)) (length (now (beneath .entry))) ⌝ }
 {
     let today = checks::sound(m, keys, classes, false);
     if let Verdict::Refused { number, place } = today {
@@ -78,7 +78,7 @@ pub fn check_pair(
             place,
         };
     }
-    let under = checks::sound(base_m, base, beneath, true);
+    let under = checks::sound(depth, base, beneath, true);
     if let Verdict::Refused { number, place } = under {
         return Pairing::Refused {
             map: 2,
@@ -86,7 +86,7 @@ pub fn check_pair(
             place,
         };
     }
-    if m != base_m {
+    if m != depth {
         return Pairing::Refused {
             map: 0,
             number: 15,
@@ -262,16 +262,16 @@ pub fn exist(
     m: u32,
     keys: &[u32],
     classes: &[u8],
-    base_m: u32,
+    depth: u32,
     base: &[u32],
     beneath: &[u8],
     window: Window,
     class: u8,
     border: &mut [u16],
 ) -> ExistOver
-    ensures { λ r. ⌜ after r (now (border .exit)) ≡ existOver m (now (keys .entry)) (now (classes .entry)) «base_m» (now (base .entry)) (now (beneath .entry)) window class (now (border .entry)) ⌝ }
+    ensures { λ r. ⌜ after r (now (border .exit)) ≡ existOver m (now (keys .entry)) (now (classes .entry)) depth (now (base .entry)) (now (beneath .entry)) window class (now (border .entry)) ⌝ }
 {
-    let pairing = check_pair(m, keys, classes, base_m, base, beneath);
+    let pairing = check_pair(m, keys, classes, depth, base, beneath);
     if let Pairing::Refused { map, number, place } = pairing {
         return ExistOver::Refused { map, number, place };
     }
@@ -284,16 +284,16 @@ pub fn report(
     m: u32,
     keys: &[u32],
     classes: &[u8],
-    base_m: u32,
+    depth: u32,
     base: &[u32],
     beneath: &[u8],
     window: Window,
     border: &mut [u16],
     out: &mut [u32],
 ) -> ReportOver
-    ensures { λ r. ⌜ after r (now (border .exit), now (out .exit)) ≡ reportOver m (now (keys .entry)) (now (classes .entry)) «base_m» (now (base .entry)) (now (beneath .entry)) window (now (border .entry)) (now (out .entry)) ⌝ }
+    ensures { λ r. ⌜ after r (now (border .exit), now (out .exit)) ≡ reportOver m (now (keys .entry)) (now (classes .entry)) depth (now (base .entry)) (now (beneath .entry)) window (now (border .entry)) (now (out .entry)) ⌝ }
 {
-    let pairing = check_pair(m, keys, classes, base_m, base, beneath);
+    let pairing = check_pair(m, keys, classes, depth, base, beneath);
     if let Pairing::Refused { map, number, place } = pairing {
         return ReportOver::Refused { map, number, place };
     }
@@ -306,7 +306,7 @@ pub fn select(
     m: u32,
     keys: &[u32],
     classes: &[u8],
-    base_m: u32,
+    depth: u32,
     base: &[u32],
     beneath: &[u8],
     window: Window,
@@ -314,9 +314,9 @@ pub fn select(
     border: &mut [u16],
     out: &mut [u32],
 ) -> SelectOver
-    ensures { λ r. ⌜ after r (now (border .exit), now (out .exit)) ≡ selectOver m (now (keys .entry)) (now (classes .entry)) «base_m» (now (base .entry)) (now (beneath .entry)) window class (now (border .entry)) (now (out .entry)) ⌝ }
+    ensures { λ r. ⌜ after r (now (border .exit), now (out .exit)) ≡ selectOver m (now (keys .entry)) (now (classes .entry)) depth (now (base .entry)) (now (beneath .entry)) window class (now (border .entry)) (now (out .entry)) ⌝ }
 {
-    let pairing = check_pair(m, keys, classes, base_m, base, beneath);
+    let pairing = check_pair(m, keys, classes, depth, base, beneath);
     if let Pairing::Refused { map, number, place } = pairing {
         return SelectOver::Refused { map, number, place };
     }
@@ -347,14 +347,14 @@ pub fn view(
     m: u32,
     keys: &[u32],
     classes: &[u8],
-    base_m: u32,
+    depth: u32,
     base: &[u32],
     beneath: &[u8],
     key: u32,
 ) -> Viewed
-    ensures { λ r. ⌜ r ≡ viewOf m (now (keys .entry)) (length (now (classes .entry))) «base_m» (now (base .entry)) (length (now (beneath .entry))) key ⌝ }
+    ensures { λ r. ⌜ r ≡ viewOf m (now (keys .entry)) (length (now (classes .entry))) depth (now (base .entry)) (length (now (beneath .entry))) key ⌝ }
 {
-    let pairing = check_pair(m, keys, classes, base_m, base, beneath);
+    let pairing = check_pair(m, keys, classes, depth, base, beneath);
     if let Pairing::Refused { map, number, place } = pairing {
         return Viewed::Refused { map, number, place };
     }
@@ -390,14 +390,14 @@ pub fn part<'a>(
     m: u32,
     keys: &[u32],
     classes: &'a [u8],
-    base_m: u32,
+    depth: u32,
     base: &[u32],
     beneath: &'a [u8],
     key: u32,
 ) -> &'a [u8]
-    ensures { λ r. ⌜ now r ≡ partIn (now (classes .entry)) (now (beneath .entry)) (viewOf m (now (keys .entry)) (length (now (classes .entry))) «base_m» (now (base .entry)) (length (now (beneath .entry))) key) ⌝ }
+    ensures { λ r. ⌜ now r ≡ partIn (now (classes .entry)) (now (beneath .entry)) (viewOf m (now (keys .entry)) (length (now (classes .entry))) depth (now (base .entry)) (length (now (beneath .entry))) key) ⌝ }
 {
-    let viewed = view(m, keys, classes, base_m, base, beneath, key);
+    let viewed = view(m, keys, classes, depth, base, beneath, key);
     match viewed {
         Viewed::Today { first, count } => {
             let start = first as usize;

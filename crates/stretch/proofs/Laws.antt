@@ -6,6 +6,6 @@ pub use Rattle.stretch.proofs.Around.{exponent-le, exponent-part, betwe
 pub use Rattle.stretch.proofs.Listed.{listed, maximal-rising, maximal-is, fewest-makes, fewest-once, fewest-rising}
 pub use Rattle.stretch.proofs.Least.{fewest-least, fewest-only}
 pub use Rattle.stretch.proofs.Parts.{fewest-append, fewest-empty, not-start, cut-out, cut-behind}
-pub use Rattle.stretch.proofs.Runs.{run-end, run-next, gap-last, gap-next, runs-fewest, runs-are, fewest-runs}
+pub use Rattle.stretch.proofs.Runs.{run-end, run-next, gap-last, gap-next, stretches-none, stretches-next, runs-fewest, runs-are, fewest-runs}
 pub use Rattle.stretch.proofs.Steps.{stretch-none, next-aligned, next-room, stretch-next, next-named, stretch-whole}
 pub use Rattle.stretch.proofs.Few.{stretch-few}

@@ -3,7 +3,7 @@
 use mathlib.Core.Path.{_≡_, refl, _∙_}
 use mathlib.Core.Logic.{_⊎_, inl, inr}
 use mathlib.Core.Bool.{Bool, true, false, cond}
-use mathlib.Core.List.{List, _∷_, _++_}
+use mathlib.Core.List.{List, [], _∷_, _++_}
 use Prim.Native.Nat.{ℕ, zero, suc, _+_, _-_, _≤_, _<_}
 use native.Mathlib.Decide.{ℕ-discrete}
 use native.Mathlib.Nat.{eq-or-lt-of-le}
@@ -57,6 +57,14 @@ module _ (m : ℕ) {P : ℕ → Bool} {at t : ℕ} (l : at ≤ t) (along : (q : 
       let g : t + (u - t) ≡ u = omega arith in
       let none = fewest-empty m P t (u - t) (λ q y z. not-start m P (out q y (omega arith))) in
       rw (e, fewest-append m P at (t - at) (u - t + (end - u)), d, fewest-append m P t (u - t) (end - u), g, gap-last (cut-out (out t (omega arith) h)), none)
+
+pub stretches-none : (m : ℕ) → stretches m [] ≡ []
+unfolding stretches
+stretches-none m = refl
+
+pub stretches-next : (m : ℕ) (r : ℕ × ℕ) (rs : List (ℕ × ℕ)) → stretches m (r ∷ rs) ≡ stretch m (r .0) (r .1) ++ stretches m rs
+unfolding stretches
+stretches-next m r rs = refl
 
 -- the fewest blocks of a set are those of its runs, one after another
 pub runs-fewest : (m : ℕ) {P : ℕ → Bool} {at end : ℕ} {rs : List (ℕ × ℕ)} → Runs P end at rs → Cut P at → Cut P end → fewest m P at (end - at) ≡ stretches m rs

@@ -50,7 +50,7 @@ module _ (c : tie.After-enum-told2) where
   abbrev today : tie.After-enum-told
   today = c .before .before .before
 
-  second : verdict (mapRefusals (entry today .args .base-m) (entry today .args .base .now) (length (entry today .args .beneath .now))) ≡ Passed
+  second : verdict (mapRefusals (entry today .args .depth) (entry today .args .base .now) (length (entry today .args .beneath .now))) ≡ Passed
   second = sym (c .before .before .sound2 .ensures) ∙ c .enum-told2 .given .1
 
 returns-3 : tie.Need-returns-3

@@ -23,7 +23,7 @@ module _ (c : tie.After-viewed) where
   abbrev own : tie.Start
   own = c .before .before .before .before .before .before .before
 
-  own-is : viewOf (own .args .m) (own .args .keys .now) (length (own .args .classes .now)) (own .args .base-m) (own .args .base .now) (length (own .args .beneath .now)) (own .args .key)
+  own-is : viewOf (own .args .m) (own .args .keys .now) (length (own .args .classes .now)) (own .args .depth) (own .args .base .now) (length (own .args .beneath .now)) (own .args .key)
       ≡ Today (c .viewed .given .0 .0) (c .viewed .given .0 .1 .0)
   own-is = sym (c .before .before .view .ensures) ∙ c .viewed .given .1
 
@@ -62,7 +62,7 @@ module _ (c : tie.After-viewed2) where
   abbrev under : tie.Start
   under = c .before .before .before .before .before .before .before
 
-  under-is : viewOf (under .args .m) (under .args .keys .now) (length (under .args .classes .now)) (under .args .base-m) (under .args .base .now) (length (under .args .beneath .now)) (under .args .key)
+  under-is : viewOf (under .args .m) (under .args .keys .now) (length (under .args .classes .now)) (under .args .depth) (under .args .base .now) (length (under .args .beneath .now)) (under .args .key)
       ≡ Baseline (c .viewed2 .given .0 .0) (c .viewed2 .given .0 .1 .0)
   under-is = sym (c .before .before .view .ensures) ∙ c .viewed2 .given .1
 

@@ -28,7 +28,7 @@ module _ (c : tie.After-enum-told) where
   abbrev entry : tie.Start
   entry = c .before .before .before .before .before .before .before .before .before
 
-  passed : pairing (entry .args .m) (entry .args .keys .now) (length (entry .args .classes .now)) (entry .args .base-m) (entry .args .base .now) (length (entry .args .beneath .now)) ≡ Passed
+  passed : pairing (entry .args .m) (entry .args .keys .now) (length (entry .args .classes .now)) (entry .args .depth) (entry .args .base .now) (length (entry .args .beneath .now)) ≡ Passed
   passed = sym (c .before .before .check-pair .ensures) ∙ c .enum-told .given .1
 
 report-over-requires : tie.Need-report-over-requires
