@@ -8,6 +8,8 @@ use Prim.Native.Nat.{ℕ, _≤_}
 use native.Mathlib.Omega.{arith}
 use lib.ListN.{length}
 use Rattle.lists.proofs.Laws.{never}
+use Rattle.answers.specs.Refusals.{answer}
+use Rattle.answers.specs.After.{after}
 use Rattle.key.specs.Form.{formOf}
 use Rattle.key.specs.Blocks.{Names, SomeBlock, Among}
 use Rattle.map.specs.Spans.{malformed}
@@ -18,14 +20,14 @@ use Rattle.border.proofs.Laws.{met-run}
 use Rattle.overlay.specs.declared.Pairing.the-variants as pairing-of
 use Rattle.overlay.specs.declared.Viewed.{Viewed}
 use Rattle.overlay.specs.declared.Viewed.the-variants as viewed
-use Rattle.overlay.specs.Overlay.{pairing, viewOf}
+use Rattle.overlay.specs.Overlay.{pairing, blockRefusals, recordsOver, viewOf}
 use Rattle.overlay.proofs.Laws.{Seen, unpaired, blockless, ofToday, ofBaseline, view-seen, view-over-is, pairing-passed, part-are}
 use Rattle.lutniorad.specs.declared.Answer.{Answer}
 use Rattle.lutniorad.specs.declared.Part.{Part}
 use Rattle.lutniorad.specs.Numbers.{part, noPart, ofViewed}
 use Rattle.lutniorad.specs.Calls.{Check, SparseCheck, OverlayPart}
 use Rattle.lutniorad.specs.OverlayPromises.{Overlayable, OverlayRefusals, MeetsBlock, PartOf, OverlayPartPromise}
-use Rattle.lutniorad.proofs.Over.{Layers, over-refusals, over-cases, over-other}
+use Rattle.lutniorad.proofs.Over.{Layers, OnBoth, over-refusals, over-cases, over-other}
 
 -- how it is said
 abbrev viewing : Layers Viewed Viewed Part
@@ -73,15 +75,17 @@ module _ (m : ℕ) (keys classes : List ℕ) (baseM : ℕ) (base baseClasses : L
       go (viewed.Today f c) e (ofToday d N a b h) = own N (numbers e ∙ rw (a, b)) (λ z. h (b ∙ z))
       go (viewed.Baseline f c) e (ofBaseline d N a b h) = under N (numbers e ∙ rw (a, b)) h
 
+  on-both : OnBoth viewing m keys classes baseM base baseClasses (tt {0}) (after (answer (viewed.Refused 0) (blockRefusals m key) (recordsOver m keys base key)) (tt {0})) r (tt {0})
+  on-both = record { outcome = after (viewOf m keys (length classes) baseM base (length baseClasses) key) (tt {0}); is = view-over-is m keys (length classes) baseM base (length baseClasses) key (tt {0}); call = call }
+
   pub overlay-part-refusals : {s t : Answer} → SparseCheck m keys classes s → Check baseM base baseClasses t → OverlayRefusals noPart m baseM s t r
-  overlay-part-refusals a b =
-      over-refusals viewing m keys classes baseM base baseClasses (tt {0}) _ (view-over-is m keys (length classes) baseM base (length baseClasses) key (tt {0})) call a b
+  overlay-part-refusals a b = over-refusals on-both a b
 
   cases : {Goal : Type 0} → ((r .refusal ≤ 5) × (1 ≤ r .refusal) → ¬ Overlayable m keys (length classes) baseM base (length baseClasses) → Goal)
       → (r .refusal ≡ 15 → SoundIn false m keys (length classes) → SoundMap baseM base (length baseClasses) → ¬ (m ≡ baseM) → Goal)
       → (Overlayable m keys (length classes) baseM base (length baseClasses) → Said → Goal) → Goal
   cases first other both =
-      over-cases viewing m keys classes baseM base baseClasses (tt {0}) _ (view-over-is m keys (length classes) baseM base (length baseClasses) key (tt {0})) call
+      over-cases on-both
       (λ l u k. first l u) (λ e S U f k. other e S U f) (λ O. both O (said O))
 
   number : {a : Part} → r ≡ a → r .refusal ≡ a .refusal
@@ -112,7 +116,7 @@ module _ (m : ℕ) (keys classes : List ℕ) (baseM : ℕ) (base baseClasses : L
   overlay-part-15 = cases (λ l u. (λ z. absurd (omega (arith, l, z)), λ t. absurd (omega (arith, l, other t)))) (λ e S U f. (λ z. (S, U, f), λ t. e)) go
     where
       other : SoundIn false m keys (length classes) × SoundMap baseM base (length baseClasses) × ¬ (m ≡ baseM) → r .refusal ≡ 15
-      other = over-other viewing m keys classes baseM base baseClasses (tt {0}) _ (view-over-is m keys (length classes) baseM base (length baseClasses) key (tt {0})) call
+      other = over-other on-both
 
       go : Overlayable m keys (length classes) baseM base (length baseClasses) → Said
           → (r .refusal ≡ 15) ↔ (SoundIn false m keys (length classes) × SoundMap baseM base (length baseClasses) × ¬ (m ≡ baseM))

@@ -13,7 +13,7 @@ use Rattle.answers.specs.declared.Verdict.the-variants as verdict-of
 use Rattle.answers.specs.Refusals.{verdict}
 use Rattle.answers.specs.After.{After}
 use Rattle.answers.proofs.Laws.{on-refused, refused-most, refused-not-passed, number-zero}
-use Rattle.map.specs.Check.{mapRefusalsIn, mapRefusals}
+use Rattle.map.specs.Check.{mapRefusalsIn}
 use Rattle.map.specs.Sound.{SoundIn, SoundMap}
 use Rattle.map.proofs.Laws.{sound-map, numbered-map}
 use Rattle.overlay.specs.declared.Pairing.{Pairing}
@@ -67,13 +67,19 @@ pub record Layers (A B N : Type 0) : Type 0 where
   pub number : N → ℕ
   pub tells : (map n p : ℕ) → number (say (refuse map n p)) ≡ n
 
-module _ {A B N S : Type 0} (L : Layers A B N) (m : ℕ) (keys classes : List ℕ) (baseM : ℕ) (base baseClasses : List ℕ) (lent : S) (x : After A S) {o : After B S} {r : N} {lent′ : S}
-    (is : o ≡ overPair (L .refuse) (L .tell) (pairing m keys (length classes) baseM base (length baseClasses)) lent x) (call : Call (L .say) o r lent′) where
+-- a call on both maps that answers x behind their check
+pub record OnBoth {A B N S : Type 0} (L : Layers A B N) (m : ℕ) (keys classes : List ℕ) (baseM : ℕ) (base baseClasses : List ℕ) (lent : S) (x : After A S) (r : N) (lent′ : S) : Type 0 where
+  pub outcome : After B S
+  pub is : outcome ≡ overPair (L .refuse) (L .tell) (pairing m keys (length classes) baseM base (length baseClasses)) lent x
+  pub call : Call (L .say) outcome r lent′
+
+module _ {A B N S : Type 0} {L : Layers A B N} {m : ℕ} {keys classes : List ℕ} {baseM : ℕ} {base baseClasses : List ℕ} {lent : S} {x : After A S} {r : N} {lent′ : S}
+    (C : OnBoth L m keys classes baseM base baseClasses lent x r lent′) where
   -- a refusal says which map, and leaves the lent slices as they were
   unlaid : {map n p : ℕ} → pairing m keys (length classes) baseM base (length baseClasses) ≡ Refused map n p → (r ≡ L .say (L .refuse map n p)) × (lent′ ≡ lent)
   unlaid e =
-      let d = is ∙ behind-refused _ _ e in
-      (call .answer ∙ ap (λ (y : After B S). L .say (y .answer)) d, call .cells ∙ ap (λ (y : After B S). y .lent) d)
+      let d = C .is ∙ behind-refused _ _ e in
+      (C .call .answer ∙ ap (λ (y : After B S). L .say (y .answer)) d, C .call .cells ∙ ap (λ (y : After B S). y .lent) d)
 
   refused-number : {map n p : ℕ} → pairing m keys (length classes) baseM base (length baseClasses) ≡ Refused map n p → L .number r ≡ n
   refused-number {map} {n} {p} e = ap (L .number) (unlaid e .0) ∙ L .tells map n p
@@ -81,8 +87,8 @@ module _ {A B N S : Type 0} (L : Layers A B N) (m : ℕ) (keys classes : List �
   -- what is answered where both are sound
   pub over-inner : Overlayable m keys (length classes) baseM base (length baseClasses) → Call (λ a. L .say (L .tell a)) x r lent′
   over-inner O =
-      let d = is ∙ behind-passed _ _ (pairing-passed m keys (length classes) baseM base (length baseClasses) .1 (O .today, O .baseline, O .same-m)) in
-      record { answer = call .answer ∙ ap (λ (y : After B S). L .say (y .answer)) d; cells = call .cells ∙ ap (λ (y : After B S). y .lent) d }
+      let d = C .is ∙ behind-passed _ _ (pairing-passed m keys (length classes) baseM base (length baseClasses) .1 (O .today, O .baseline, O .same-m)) in
+      record { answer = C .call .answer ∙ ap (λ (y : After B S). L .say (y .answer)) d; cells = C .call .cells ∙ ap (λ (y : After B S). y .lent) d }
 
   -- what the checks of the maps by themselves say comes first
   pub over-refusals : {s t : Answer} → SparseCheck m keys classes s → Check baseM base baseClasses t → OverlayRefusals (λ map n p. L .say (L .refuse map n p)) m baseM s t r

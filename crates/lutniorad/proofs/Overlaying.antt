@@ -12,8 +12,11 @@ use Rattle.window.proofs.Laws.{key-block}
 use Rattle.map.specs.Sound.{SoundIn, SoundMap}
 use Rattle.used.specs.Promises.{AnswerableIn}
 use Rattle.exist.specs.declared.Existence.{Existence}
+use Rattle.exist.specs.Exist.{existIn}
 use Rattle.report.specs.declared.Reported.{Reported}
+use Rattle.report.specs.Report.{reportIn}
 use Rattle.select.specs.declared.Selected.{Selected}
+use Rattle.select.specs.Select.{selectKeys}
 use Rattle.sparse_select.proofs.Laws.{laid-inside, laid-most}
 use Rattle.pieces.specs.Pair.{classOverMap}
 use Rattle.overlay.specs.declared.ExistOver.{ExistOver}
@@ -23,6 +26,7 @@ use Rattle.overlay.specs.declared.ReportOver.the-variants as report-over
 use Rattle.overlay.specs.declared.SelectOver.{SelectOver}
 use Rattle.overlay.specs.declared.SelectOver.the-variants as select-over
 use Rattle.overlay.specs.Select.{classSelection}
+use Rattle.overlay.specs.Overlay.{existOver, reportOver, selectOver}
 use Rattle.overlay.proofs.Laws.{exist-over-is, report-over-is, select-over-is, selection-flat, class-blockwise, class-most, class-rising, class-makes, class-least}
 use Rattle.lutniorad.specs.declared.Answer.{Answer}
 use Rattle.lutniorad.specs.Numbers.{refusedBy, ofExistOver, ofReportOver, ofSelectOver}
@@ -33,7 +37,7 @@ use Rattle.lutniorad.proofs.Crossing.{both-slices}
 use Rattle.lutniorad.proofs.Answered.{exist-answered, exist-numbered, exist-kept}
 use Rattle.lutniorad.proofs.Asked.{exist-promise, report-answered, report-numbered, report-kept, report-promise}
 use Rattle.lutniorad.proofs.Selecting.{select-answered, select-numbered, select-kept, select-stand, select-laid}
-use Rattle.lutniorad.proofs.Over.{Layers, over-inner, over-refusals, over-answered, over-numbered, over-15, over-kept}
+use Rattle.lutniorad.proofs.Over.{Layers, OnBoth, over-inner, over-refusals, over-answered, over-numbered, over-15, over-kept}
 
 -- how the answers of the three are said
 abbrev existing : Layers Existence ExistOver Answer
@@ -61,34 +65,29 @@ module _ (m : ℕ) (keys classes : List ℕ) (baseM : ℕ) (base baseClasses : L
   -- ---- exist
 
   module _ (class : ℕ) (border : List ℕ) {r : Answer} {border′ : List ℕ} (call : OverlayExist m keys classes baseM base baseClasses W class border r border′) where
+    abbrev on-exist : OnBoth existing m keys classes baseM base baseClasses border (existIn false rule m keys (length classes) W class border) r border′
+    on-exist = record { outcome = existOver m keys classes baseM base baseClasses W class border; is = exist-over-is m keys classes baseM base baseClasses W class border; call = call }
+
     -- where both maps are sound it is exist on today's, by the classes of both
     pub overlay-exist-as : Overlayable m keys (length classes) baseM base (length baseClasses)
         → ExistIn false (classOverMap m keys classes base baseClasses) m keys classes W class border r border′
-    overlay-exist-as O = over-inner existing m keys classes baseM base baseClasses border _ (exist-over-is m keys classes baseM base baseClasses W class border) call O
+    overlay-exist-as O = over-inner on-exist O
 
     -- the checks of both maps come first, then 15
     pub overlay-exist-refusals : {s t : Answer} → SparseCheck m keys classes s → Check baseM base baseClasses t → OverlayRefusals refusedBy m baseM s t r
-    overlay-exist-refusals a b = over-refusals existing m keys classes baseM base baseClasses border _ (exist-over-is m keys classes baseM base baseClasses W class border) call a b
+    overlay-exist-refusals a b = over-refusals on-exist a b
 
     pub overlay-exist-answered : (r .refusal ≡ 0) ↔ (Overlayable m keys (length classes) baseM base (length baseClasses) × AnswerableIn false m keys (length classes) W (length border))
-    overlay-exist-answered =
-        over-answered existing m keys classes baseM base baseClasses border _ (exist-over-is m keys classes baseM base baseClasses W class border) call
-        (λ inner. exist-answered false rule m keys classes W class border inner)
+    overlay-exist-answered = over-answered on-exist (λ inner. exist-answered false rule m keys classes W class border inner)
 
     pub overlay-exist-numbered : r .refusal ≤ 15
-    overlay-exist-numbered =
-        over-numbered existing m keys classes baseM base baseClasses border _ (exist-over-is m keys classes baseM base baseClasses W class border) call (omega arith)
-        (λ inner. omega (arith, exist-numbered false rule m keys classes W class border inner))
+    overlay-exist-numbered = over-numbered on-exist (omega arith) (λ inner. omega (arith, exist-numbered false rule m keys classes W class border inner))
 
     pub overlay-exist-15 : (r .refusal ≡ 15) ↔ (SoundIn false m keys (length classes) × SoundMap baseM base (length baseClasses) × ¬ (m ≡ baseM))
-    overlay-exist-15 =
-        over-15 existing m keys classes baseM base baseClasses border _ (exist-over-is m keys classes baseM base baseClasses W class border) call
-        (λ inner e. omega (arith, exist-numbered false rule m keys classes W class border inner, e))
+    overlay-exist-15 = over-15 on-exist (λ inner e. omega (arith, exist-numbered false rule m keys classes W class border inner, e))
 
     pub overlay-exist-kept : (r .refusal ≡ 0 → ⊥) → border′ ≡ border
-    overlay-exist-kept =
-        over-kept existing m keys classes baseM base baseClasses border _ (exist-over-is m keys classes baseM base baseClasses W class border) call (λ other e. e)
-        (λ inner. exist-kept false rule m keys classes W class border inner)
+    overlay-exist-kept = over-kept on-exist (λ other e. e) (λ inner. exist-kept false rule m keys classes W class border inner)
 
     pub overlay-exist-promise : r .refusal ≡ 0 → ExistPromiseBy (classOverMap m keys classes base baseClasses) W class border r border′
     overlay-exist-promise z = exist-promise false rule m keys classes W class border (overlay-exist-as (overlay-exist-answered .0 z .0)) z
@@ -96,32 +95,28 @@ module _ (m : ℕ) (keys classes : List ℕ) (baseM : ℕ) (base baseClasses : L
   -- ---- report
 
   module _ (border out : List ℕ) {r : Answer} {border′ out′ : List ℕ} (call : OverlayReport m keys classes baseM base baseClasses W border out r border′ out′) where
+    abbrev on-report : OnBoth reporting m keys classes baseM base baseClasses (border, out) (reportIn false rule m keys (length classes) W border out) r (border′, out′)
+    on-report = record { outcome = reportOver m keys classes baseM base baseClasses W border out; is = report-over-is m keys classes baseM base baseClasses W border out; call = call }
+
     pub overlay-report-as : Overlayable m keys (length classes) baseM base (length baseClasses)
         → ReportIn false (classOverMap m keys classes base baseClasses) m keys classes W border out r border′ out′
-    overlay-report-as O = over-inner reporting m keys classes baseM base baseClasses (border, out) _ (report-over-is m keys classes baseM base baseClasses W border out) call O
+    overlay-report-as O = over-inner on-report O
 
     pub overlay-report-refusals : {s t : Answer} → SparseCheck m keys classes s → Check baseM base baseClasses t → OverlayRefusals refusedBy m baseM s t r
-    overlay-report-refusals a b = over-refusals reporting m keys classes baseM base baseClasses (border, out) _ (report-over-is m keys classes baseM base baseClasses W border out) call a b
+    overlay-report-refusals a b = over-refusals on-report a b
 
-    pub overlay-report-answered : (r .refusal ≡ 0) ↔ (Overlayable m keys (length classes) baseM base (length baseClasses) × (AnswerableIn false m keys (length classes) W (length border) × (256 ≤ length out)))
-    overlay-report-answered =
-        over-answered reporting m keys classes baseM base baseClasses (border, out) _ (report-over-is m keys classes baseM base baseClasses W border out) call
-        (λ inner. report-answered false rule m keys classes W border out inner)
+    pub overlay-report-answered : (r .refusal ≡ 0) ↔ (Overlayable m keys (length classes) baseM base (length baseClasses)
+        × (AnswerableIn false m keys (length classes) W (length border) × (256 ≤ length out)))
+    overlay-report-answered = over-answered on-report (λ inner. report-answered false rule m keys classes W border out inner)
 
     pub overlay-report-numbered : r .refusal ≤ 15
-    overlay-report-numbered =
-        over-numbered reporting m keys classes baseM base baseClasses (border, out) _ (report-over-is m keys classes baseM base baseClasses W border out) call (omega arith)
-        (λ inner. omega (arith, report-numbered false rule m keys classes W border out inner))
+    overlay-report-numbered = over-numbered on-report (omega arith) (λ inner. omega (arith, report-numbered false rule m keys classes W border out inner))
 
     pub overlay-report-15 : (r .refusal ≡ 15) ↔ (SoundIn false m keys (length classes) × SoundMap baseM base (length baseClasses) × ¬ (m ≡ baseM))
-    overlay-report-15 =
-        over-15 reporting m keys classes baseM base baseClasses (border, out) _ (report-over-is m keys classes baseM base baseClasses W border out) call
-        (λ inner e. omega (arith, report-numbered false rule m keys classes W border out inner, e))
+    overlay-report-15 = over-15 on-report (λ inner e. omega (arith, report-numbered false rule m keys classes W border out inner, e))
 
     pub overlay-report-kept : (r .refusal ≡ 0 → ⊥) → RefusalLeaves W border out r border′ out′
-    overlay-report-kept =
-        over-kept reporting m keys classes baseM base baseClasses (border, out) _ (report-over-is m keys classes baseM base baseClasses W border out) call kept-all
-        (λ inner. report-kept false rule m keys classes W border out inner)
+    overlay-report-kept = over-kept on-report kept-all (λ inner. report-kept false rule m keys classes W border out inner)
 
     pub overlay-report-promise : r .refusal ≡ 0 → ReportPromiseBy (classOverMap m keys classes base baseClasses) W border out r border′ out′
     overlay-report-promise z = report-promise false rule m keys classes W border out (overlay-report-as (overlay-report-answered .0 z .0)) z
@@ -132,32 +127,30 @@ module _ (m : ℕ) (keys classes : List ℕ) (baseM : ℕ) (base baseClasses : L
     abbrev chosen : List ℕ
     chosen = classSelection m rule W class
 
+    abbrev on-select : OnBoth selecting m keys classes baseM base baseClasses (border, out) (selectKeys false chosen m m keys (length classes) W border out) r (border′, out′)
+    on-select = record { outcome = selectOver m keys classes baseM base baseClasses W class border out; is = select-over-is m keys classes baseM base baseClasses W class border out; call = call }
+
     pub overlay-select-as : Overlayable m keys (length classes) baseM base (length baseClasses)
         → SelectIn false (classSelection m (classOverMap m keys classes base baseClasses) W class) m m keys classes W border out r border′ out′
-    overlay-select-as O = over-inner selecting m keys classes baseM base baseClasses (border, out) _ (select-over-is m keys classes baseM base baseClasses W class border out) call O
+    overlay-select-as O = over-inner on-select O
 
     pub overlay-select-refusals : {s t : Answer} → SparseCheck m keys classes s → Check baseM base baseClasses t → OverlayRefusals refusedBy m baseM s t r
-    overlay-select-refusals a b = over-refusals selecting m keys classes baseM base baseClasses (border, out) _ (select-over-is m keys classes baseM base baseClasses W class border out) call a b
+    overlay-select-refusals a b = over-refusals on-select a b
 
-    pub overlay-select-answered : (r .refusal ≡ 0) ↔ (Overlayable m keys (length classes) baseM base (length baseClasses) × (AnswerableIn false m keys (length classes) W (length border) × (length (classSelection m (classOverMap m keys classes base baseClasses) W class) ≤ length out)))
-    overlay-select-answered =
-        over-answered selecting m keys classes baseM base baseClasses (border, out) _ (select-over-is m keys classes baseM base baseClasses W class border out) call
-        (λ inner. uncapped (select-answered false chosen m m keys classes W border out inner))
+    pub overlay-select-answered : (r .refusal ≡ 0) ↔ (Overlayable m keys (length classes) baseM base (length baseClasses)
+        × (AnswerableIn false m keys (length classes) W (length border) × (length (classSelection m (classOverMap m keys classes base baseClasses) W class) ≤ length out)))
+    overlay-select-answered = over-answered on-select (λ inner. uncapped (select-answered false chosen m m keys classes W border out inner))
 
     pub overlay-select-numbered : r .refusal ≤ 15
     overlay-select-numbered =
-        over-numbered selecting m keys classes baseM base baseClasses (border, out) _ (select-over-is m keys classes baseM base baseClasses W class border out) call (omega arith)
+        over-numbered on-select (omega arith)
         (λ inner. omega (arith, select-numbered false chosen m m keys classes W border out inner (omega arith)))
 
     pub overlay-select-15 : (r .refusal ≡ 15) ↔ (SoundIn false m keys (length classes) × SoundMap baseM base (length baseClasses) × ¬ (m ≡ baseM))
-    overlay-select-15 =
-        over-15 selecting m keys classes baseM base baseClasses (border, out) _ (select-over-is m keys classes baseM base baseClasses W class border out) call
-        (λ inner e. omega (arith, select-numbered false chosen m m keys classes W border out inner (omega arith), e))
+    overlay-select-15 = over-15 on-select (λ inner e. omega (arith, select-numbered false chosen m m keys classes W border out inner (omega arith), e))
 
     pub overlay-select-kept : (r .refusal ≡ 0 → ⊥) → RefusalLeaves W border out r border′ out′
-    overlay-select-kept =
-        over-kept selecting m keys classes baseM base baseClasses (border, out) _ (select-over-is m keys classes baseM base baseClasses W class border out) call kept-all
-        (λ inner. select-kept false chosen m m keys classes W border out inner)
+    overlay-select-kept = over-kept on-select kept-all (λ inner. select-kept false chosen m m keys classes W border out inner)
 
     -- a cell for each pixel of the window is room enough
     pub overlay-select-enough : Overlayable m keys (length classes) baseM base (length baseClasses) → AnswerableIn false m keys (length classes) W (length border) → W .h * W .w ≤ length out

@@ -1,16 +1,14 @@
 -- Calls on today's map over a baseline answer as those on any whole map that shows the same classes: on the baseline where today's has no record, and on today's where it is whole.
 -- Assumes nothing.
 use mathlib.Core.Path.{_≡_, refl, sym, _∙_}
-use mathlib.Core.Bool.{false}
 use mathlib.Core.List.{List, []}
 use Prim.Native.Nat.{ℕ, _^_, _<_}
 use native.Mathlib.Omega.{arith}
 use lib.ListN.{length, take}
 use Rattle.lists.proofs.Laws.{never}
-use Rattle.key.specs.Picture.{Px, place}
+use Rattle.key.specs.Picture.{place}
 use Rattle.key.proofs.Laws.{place-lt}
 use Rattle.window.specs.declared.Window.{Window}
-use Rattle.window.specs.Window.{In}
 use Rattle.window.proofs.Laws.{pixel-in, exists-same, totals-same}
 use Rattle.map.specs.Sound.{ended, SoundMap}
 use Rattle.map.specs.Classes.{classIn}

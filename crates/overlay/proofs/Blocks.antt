@@ -1,25 +1,23 @@
 -- What is listed of one block: the fewest blocks that make up its places of the class.
 -- Assumes nothing.
-use mathlib.Core.Path.{_≡_, refl, ap, sym, _∙_}
-use mathlib.Core.Bool.{Bool, true, false}
+use mathlib.Core.Path.{_≡_, refl, sym, _∙_}
+use mathlib.Core.Bool.{Bool, true}
 use mathlib.Core.List.{List, flatMap}
 use Prim.Native.Nat.{ℕ, _+_, _-_, _*_, _^_, _≤_, _<_}
 use native.Mathlib.Omega.{arith}
 use lib.ListN.{length}
 use Rattle.lists.specs.Lists.{Ordered}
 use Rattle.lists.proofs.Laws.{never}
-use Rattle.key.specs.Form.{formOf}
 use Rattle.key.specs.Blocks.{Names, Among}
 use Rattle.key.proofs.Laws.{block-lies}
 use Rattle.window.specs.declared.Window.{Window}
 use Rattle.window.specs.Window.{Inside}
 use Rattle.window.specs.Keys.{keysOf}
 use Rattle.window.proofs.Laws.{inside-12}
-use Rattle.map.specs.Spans.{start, end}
+use Rattle.map.specs.Spans.{end}
 use Rattle.map.specs.Sound.{Spaced}
 use Rattle.map.proofs.Laws.{start-is, end-is}
-use Rattle.stretch.specs.Promises.{MakesUp, Runs, last, next, NextRun, stretches, runs}
-use Rattle.stretch.specs.Fewest.{stretch}
+use Rattle.stretch.specs.Promises.{MakesUp, Runs, last, next, stretches}
 use Rattle.stretch.proofs.Laws.{fewest-makes, fewest-least, stretches-none, stretches-next, runs-are, fewest-runs}
 use Rattle.sparse_select.proofs.Laws.{Made, made-none, made-skip, made-append, made-stretch, made-rising, Blockwise, laid-most, laid-fits}
 use Rattle.overlay.specs.Select.{ofClass, classBlocks, classSelected, classSelection}

@@ -1,6 +1,6 @@
 -- Today's map over the season's baseline: what each operation answers, and every lent cell, on every input.
 -- Assumes nothing.
-use mathlib.Core.Bool.{Bool, false, not, cond}
+use mathlib.Core.Bool.{false, not, cond}
 use mathlib.Core.List.{List, [], _∷_}
 use Prim.Native.Nat.{ℕ}
 use lib.Dec.{eqb}

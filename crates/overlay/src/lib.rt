@@ -1,7 +1,7 @@
 // Today's map, which may have gaps, over the season's baseline: a pixel has the class of today's record, or else that of the baseline's. The m of the baseline is `depth`.
 use answers::Verdict;
 use exist::Existence;
-use pieces::Stand;
+use pieces::Ahead;
 use report::Reported;
 use select::Selected;
 use window::Next;
@@ -12,7 +12,6 @@ ghost use Prim.Native.Nat.{_+_, _^_, _≤_};
 ghost use lib.ListN.{length};
 ghost use Rattle.answers.specs.Cells.{Listed};
 ghost use Rattle.answers.specs.After.{after};
-ghost use Rattle.key.specs.Spread.{spreads};
 ghost use Rattle.key.specs.Blocks.{SomeBlock};
 ghost use Rattle.key.specs.Along.{onesTable};
 ghost use Rattle.window.specs.Window.{Inside};
@@ -96,7 +95,7 @@ pub fn check_pair(
     Pairing::Passed
 }
 
-// Of the places from where both maps stand up to `end`, lists the fewest blocks that make up those of the class behind n others. How many there are then.
+// Of the block ahead, lists the fewest blocks that make up its places of the class behind n others. How many there are then.
 // Pieces of the class that follow one another are joined: the run from `from` on goes on with the next piece, or is listed.
 fn put_class(
     ones: &[u32; 13],
@@ -105,18 +104,18 @@ fn put_class(
     classes: &[u8],
     base: &[u32],
     beneath: &[u8],
-    first: Stand,
-    end: u32,
+    ahead: Ahead,
     class: u8,
     out: &mut [u32],
     n: u32,
 ) -> u32
-    requires { ⌜ (now ones ≡ onesTable) × Pair m (now keys) (length (now classes)) (now base) (length (now beneath)) × StandsAt m (now keys) (now base) first × (first .place ≤ end) × (end ≤ 4 ^ m) ⌝ }
-    requires { ⌜ n + length (classBlocks m (classOverMap m (now keys) (now classes) (now base) (now beneath)) class (first .place) end) ≤ 4294967295 ⌝ }
-    ensures { λ r. ⌜ Listed n (classBlocks m (classOverMap m (now (keys .entry)) (now (classes .entry)) (now (base .entry)) (now (beneath .entry))) class (first .place) end) (now (out .entry)) r (now (out .exit)) ⌝ }
+    requires { ⌜ (now ones ≡ onesTable) × Pair m (now keys) (length (now classes)) (now base) (length (now beneath)) × StandsAt m (now keys) (now base) (ahead .stand) × (ahead .stand .place ≤ ahead .end) × (ahead .end ≤ 4 ^ m) ⌝ }
+    requires { ⌜ n + length (classBlocks m (classOverMap m (now keys) (now classes) (now base) (now beneath)) class (ahead .stand .place) (ahead .end)) ≤ 4294967295 ⌝ }
+    ensures { λ r. ⌜ Listed n (classBlocks m (classOverMap m (now (keys .entry)) (now (classes .entry)) (now (base .entry)) (now (beneath .entry))) class (ahead .stand .place) (ahead .end)) (now (out .entry)) r (now (out .exit)) ⌝ }
 {
-    let mut stand = first;
-    let mut from = first.place;
+    let end = ahead.end;
+    let mut stand = ahead.stand;
+    let mut from = stand.place;
     let mut k = n;
     while stand.place < end {
         let at = stand.place;
@@ -132,8 +131,6 @@ fn put_class(
 
 // Goes through the window's maximal blocks and lists what each has of the class. How many keys there are; those are written for which there is room.
 fn put_all(
-    ones: &[u32; 13],
-    table: &[u32; 256],
     m: u32,
     keys: &[u32],
     classes: &[u8],
@@ -143,9 +140,11 @@ fn put_all(
     class: u8,
     out: &mut [u32],
 ) -> u32
-    requires { ⌜ (now ones ≡ onesTable) × (now table ≡ spreads) × Pair m (now keys) (length (now classes)) (now base) (length (now beneath)) × Inside m window ⌝ }
+    requires { ⌜ Pair m (now keys) (length (now classes)) (now base) (length (now beneath)) × Inside m window ⌝ }
     ensures { λ r. ⌜ Listed 0 (classSelection m (classOverMap m (now (keys .entry)) (now (classes .entry)) (now (base .entry)) (now (beneath .entry))) window class) (now (out .entry)) r (now (out .exit)) ⌝ }
 {
+    let ones = spots::ones_table();
+    let table = blocks::spread_table();
     let mut at = pieces::first_stand(m, keys, base);
     let mut r = window.r0;
     let mut c = window.c0;
@@ -161,21 +160,9 @@ fn put_all(
         else {
             return n;
         };
-        let ahead = pieces::block_ahead(table, m, keys, base, at, exponent, row, col);
+        let ahead = pieces::block_ahead(&table, m, keys, base, at, exponent, row, col);
         at = ahead.stand;
-        n = put_class(
-            ones,
-            m,
-            keys,
-            classes,
-            base,
-            beneath,
-            at,
-            ahead.end,
-            class,
-            out,
-            n,
-        );
+        n = put_class(&ones, m, keys, classes, base, beneath, ahead, class, out, n);
         r = row;
         c = after;
     }
@@ -196,13 +183,9 @@ fn list_class(
     requires { ⌜ Pair m (now keys) (length (now classes)) (now base) (length (now beneath)) × Inside m window ⌝ }
     ensures { λ r. ⌜ after r (now (out .exit)) ≡ keysInto (classSelection m (classOverMap m (now (keys .entry)) (now (classes .entry)) (now (base .entry)) (now (beneath .entry))) window class) (now (out .entry)) ⌝ }
 {
-    let ones = spots::ones_table();
-    let table = blocks::spread_table();
     let most = (window.h as usize) * (window.w as usize);
     if out.len() < most {
         let needed = put_all(
-            &ones,
-            &table,
             m,
             keys,
             classes,
@@ -219,18 +202,7 @@ fn list_class(
             };
         }
     }
-    let count = put_all(
-        &ones,
-        &table,
-        m,
-        keys,
-        classes,
-        base,
-        beneath,
-        window,
-        class,
-        out,
-    );
+    let count = put_all(m, keys, classes, base, beneath, window, class, out);
     Selected::Done { count }
 }
 
@@ -372,17 +344,15 @@ pub fn view(
         };
     }
     let today = overlapping(m, keys, key);
-    if today.count == 0 {
+    let first = today.first;
+    let count = today.count;
+    if count == 0 {
         let under = overlapping(m, base, key);
-        return Viewed::Baseline {
-            first: under.first,
-            count: under.count,
-        };
+        let first = under.first;
+        let count = under.count;
+        return Viewed::Baseline { first, count };
     }
-    Viewed::Today {
-        first: today.first,
-        count: today.count,
-    }
+    Viewed::Today { first, count }
 }
 
 // The part itself, of the caller's own slice; empty on a refusal.

@@ -7,13 +7,13 @@ use native.Mathlib.Decide.{decLt}
 use native.Mathlib.Omega.{arith}
 use lib.ListN.{length, getD}
 use Rattle.key.specs.Reading.{EndsIn}
-use Rattle.key.specs.Blocks.{SomeBlock, Names}
+use Rattle.key.specs.Blocks.{Names}
 use Rattle.key.proofs.Laws.{block-lies, one-block, pow-least, ends-exponent}
 use Rattle.map.specs.Sound.{Follow}
 use Rattle.map.proofs.Laws.{Record, SomeRecord, Holder, spaced, record-at, apart, holder}
 use Rattle.pieces.specs.declared.Cursor.{Cursor}
-use Rattle.pieces.specs.Cursors.{Spans, held, left, Past, At}
-use Rattle.pieces.proofs.Cursors.{advance-room, advance-next}
+use Rattle.pieces.specs.Cursors.{Spans, held, left, At}
+use Rattle.pieces.proofs.Cursors.{advance-next}
 
 module _ {m : ℕ} {keys : List ℕ} (F : Follow m 0 keys) where
   -- the record that has the place where one ends is a later one

@@ -1,7 +1,7 @@
 -- Keys that are listed for each maximal block, where those of a block make up its places with some property: no key twice, no place in two blocks, no more blocks than pixels, none of
 -- them outside the window, and together exactly its pixels with the property.
 -- Assumes nothing.
-use mathlib.Core.Path.{_≡_, ap, subst, _∙_}
+use mathlib.Core.Path.{_≡_, ap, subst}
 use mathlib.Core.Logic.{_↔_, _≢_}
 use mathlib.Core.Bool.{true}
 use mathlib.Core.List.{List, flatMap, List·Memᴰ}

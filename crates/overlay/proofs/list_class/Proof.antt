@@ -30,12 +30,6 @@ module _ (entry : tie.Start) where
   few : length chosen ≤ entry .args .window .h * entry .args .window .w
   few = class-most (entry .args .m) rule (entry .args .class) (entry .pre .0 .today) (entry .pre .1)
 
-ones-table-requires : tie.Need-ones-table-requires
-ones-table-requires c κs = search needs
-
-spread-table-requires : tie.Need-spread-table-requires
-spread-table-requires c κs = search needs
-
 cast-most : tie.Need-cast-most
 cast-most c = search needs
 
@@ -43,7 +37,7 @@ cast-most-2 : tie.Need-cast-most-2
 cast-most-2 c = search needs
 
 mul-most : tie.Need-mul-most
-mul-most c = let e = c .before .before .before .before .before .before .before .before .before in omega (arith, pixels-most (e .args .window) (inside-12 (e .pre .0 .small) (e .pre .1)))
+mul-most c = let e = c .before .before .before .before .before .before .before in omega (arith, pixels-most (e .args .window) (inside-12 (e .pre .0 .small) (e .pre .1)))
 
 slice-relend-prefix-put-all : tie.Need-slice-relend-prefix-put-all
 slice-relend-prefix-put-all c = search needs
@@ -62,20 +56,20 @@ same-length c = search needs
 
 returns : tie.Need-returns
 returns c =
-    let k = c .before .before .before .before .before .before .before .before .before .before .before .before .before .before .before .before .before in
+    let k = c .before .before .before .before .before .before .before .before .before .before .before .before .before in
     let L = c .before .before .before .put-all .ensures in
     let same = listed-nothing {xs = chosen k} L (lent k) in
     keys-short (chosen k) (lent k) (omega (arith, L .count)) (omega (arith, c .if2 .taken, ap length same)) same
 
 -- where the keys are written: the slice is as it was, and has room for all
 abbrev start : tie.Joined1 → tie.Start
-start c = c .before .before .before .before .before .before .before .before .before .before
+start c = c .before .before .before .before .before .before .before .before
 
 ready : (c : tie.Joined1) → (c .if1 .out ≡ lent (start c)) × (length (chosen (start c)) ≤ length (lent (start c)))
 ready c =
     let e = start c in
     ⊎-elim
-    (λ w. let same = listed-nothing {xs = chosen e} (w .4 .ensures) (lent e) in (w .8 ∙ same, omega (arith, w .4 .ensures .count, w .7 .left, ap length same)))
+    (λ w. let same = listed-nothing {xs = chosen e} (w .2 .ensures) (lent e) in (w .6 ∙ same, omega (arith, w .2 .ensures .count, w .5 .left, ap length same)))
     (λ w. (w .1, omega (arith, few e, w .0 .left)))
     (c .if1 .came)
 
@@ -83,11 +77,11 @@ put-all-requires-2 : tie.Need-put-all-requires-2
 put-all-requires-2 c κs = search needs
 
 same-length-2 : tie.Need-same-length-2
-same-length-2 c = listed-same (c .before .before .put-all2 .ensures) ∙ ap length (ready (c .before .before .before .before .before .before) .0)
+same-length-2 c = listed-same (c .before .before .put-all2 .ensures) ∙ ap length (ready (c .before .before .before .before) .0)
 
 returns-2 : tie.Need-returns-2
 returns-2 c =
-    let j = c .before .before .before .before .before .before in
+    let j = c .before .before .before .before in
     let r = ready j in
     keys-done (chosen (start j)) _ (rw (r .0) at (c .before .before .put-all2 .ensures)) (r .1)
 
@@ -95,8 +89,6 @@ pub list-class-spec : {M : Type 1} → statement M
 list-class-spec =
     tie.close
     (tie.spec
-    ones-table-requires
-    spread-table-requires
     cast-most
     cast-most-2
     mul-most

@@ -1,12 +1,13 @@
 -- `overlay::put_all` meets its contract. The invariant is `Walking`, the measure the number of blocks left.
 -- Assumes nothing.
-use mathlib.Core.Path.{_≡_, sym, refl, _∙_}
-use Prim.Native.Nat.{ℕ, _+_, _^_, _≤_}
+use mathlib.Core.Path.{_≡_, refl}
+use Prim.Native.Nat.{ℕ}
 use native.Mathlib.Omega.{arith}
 use lib.ListN.{length}
 use borrow.Author.Needs.{needs}
 use Rattle.answers.proofs.Laws.{listed-same}
-use Rattle.key.specs.Picture.{place}
+use Rattle.key.specs.Spread.{spreads}
+use Rattle.key.specs.Along.{onesTable}
 use Rattle.key.specs.Key.{blockKey}
 use Rattle.map.proofs.Laws.{spaced}
 use Rattle.window.specs.declared.Next.the-variants.{Block}
@@ -21,23 +22,36 @@ use Rattle.overlay.proofs.put_all.Statement.{statement}
 use Rattle.overlay.proofs.put_all.Tie as tie
 
 abbrev Inv-loop : tie.InvT-loop
-Inv-loop ones table m keys classes base beneath window class out₀ at₀ r₀ c₀ n₀ out at r c n =
+Inv-loop m keys classes base beneath window class out₀ ones table at₀ r₀ c₀ n₀ out at r c n =
     Walking m m window (classSelected m (classOverMap m keys classes base beneath) class) out₀ out (r, c) n × StandsAt m keys base at
 
 abbrev μ-loop : tie.MeasureT-loop
-μ-loop ones table m keys classes base beneath window class out₀ at₀ r₀ c₀ n₀ out at r c n = length (blocksFrom window m (r, c))
+μ-loop m keys classes base beneath window class out₀ ones table at₀ r₀ c₀ n₀ out at r c n = length (blocksFrom window m (r, c))
+
+ones-table-requires : tie.Need-ones-table-requires Inv-loop μ-loop
+ones-table-requires c κs = search needs
+
+spread-table-requires : tie.Need-spread-table-requires Inv-loop μ-loop
+spread-table-requires c κs = search needs
 
 first-stand-requires : tie.Need-first-stand-requires Inv-loop μ-loop
-first-stand-requires c κs = let p = c .before .before .before .before .before .pre .2 in (p .small, p .today, spaced (p .under))
+first-stand-requires c κs = let p = c .before .before .before .before .before .before .before .pre .0 in (p .small, p .today, spaced (p .under))
 
 loop-holds : tie.Need-loop-holds Inv-loop μ-loop
-loop-holds c = (walking-first _ (c .before .before .before .before .before .before .pre .3) _, c .first-stand .ensures)
+loop-holds c = (walking-first _ (c .before .before .before .before .before .before .before .before .pre .1) _, c .first-stand .ensures)
 
 abbrev entry : tie.At-loop Inv-loop μ-loop → tie.Start Inv-loop μ-loop
-entry c = c .before .before .before .before .before .before .before
+entry c = c .before .before .before .before .before .before .before .before .before
+
+-- the tables
+ones-at : (c : tie.At-loop Inv-loop μ-loop) → c .before .before .before .ones-table .result ≡ onesTable
+ones-at c = c .before .before .before .ones-table .ensures
+
+spreads-at : (c : tie.At-loop Inv-loop μ-loop) → c .before .before .spread-table .result ≡ spreads
+spreads-at c = c .before .before .spread-table .ensures
 
 next-block-requires : tie.Need-next-block-requires Inv-loop μ-loop
-next-block-requires c κs = let p = entry c .pre in (p .2 .small, inside-12 (p .2 .small) (p .3), c .loop .inv .0 .walked .cursor)
+next-block-requires c κs = let p = entry c .pre in (p .0 .small, inside-12 (p .0 .small) (p .1), c .loop .inv .0 .walked .cursor)
 
 enum-known-next : tie.Need-enum-known-next Inv-loop μ-loop
 enum-known-next c = search needs
@@ -69,14 +83,15 @@ module _ (c : tie.After-known-told Inv-loop μ-loop) where
 
 block-ahead-requires : tie.Need-block-ahead-requires Inv-loop μ-loop
 block-ahead-requires c κs =
-    let p = start c .pre in
-    let b = goes-block (p .3) (omega arith) (goes c) in
-    (p .1, p .2 .small, p .2 .today, spaced (p .2 .under), turn c .loop .inv .1, b .0, b .1, b .2)
+    let k = c .before in
+    let p = start k .pre in
+    let b = goes-block (p .1) (omega arith) (goes k) in
+    (spreads-at (turn k), p .0 .small, p .0 .today, spaced (p .0 .under), turn k .loop .inv .1, b .0, b .1, b .2)
 
 -- its places, and that its keys are those of its own key
 module _ (c : tie.After-block-ahead Inv-loop μ-loop) where
   abbrev arm : tie.After-known-told Inv-loop μ-loop
-  arm = c .before
+  arm = c .before .before
 
   abbrev named : ℕ
   named = blockKey (start arm .args .m) (arm .before .next .given .0 .1 .1 .0) (arm .before .next .given .0 .0) (arm .before .next .given .0 .1 .0)
@@ -87,26 +102,26 @@ module _ (c : tie.After-block-ahead Inv-loop μ-loop) where
   listed : classBlocks (start arm .args .m) rule (start arm .args .class) (c .block-ahead .result .stand .place) (c .block-ahead .result .end)
       ≡ classSelected (start arm .args .m) rule (start arm .args .class) named
   listed =
-      let b = goes-block (start arm .pre .3) (omega arith) (goes arm) in
+      let b = goes-block (start arm .pre .1) (omega arith) (goes arm) in
       block-listed _ rule _ (b .2) (c .block-ahead .ensures .0) (c .block-ahead .ensures .1)
 
 put-class-requires : tie.Need-put-class-requires Inv-loop μ-loop
 unfolding classSelection
 put-class-requires c κs =
-    let b = c .before .before in
+    let b = c .before .before .before in
     let k = arm b in
     let p = start k .pre in
     let e = b .block-ahead .ensures in
-    let fits = class-fits (start k .args .m) (rule b) (start k .args .class) (p .2 .today) (p .3) (p .2 .small) in
+    let fits = class-fits (start k .args .m) (rule b) (start k .args .class) (p .0 .today) (p .1) (p .0 .small) in
     let room = walking-room (turn k .loop .inv .0) (on k) (k .before .next .given .1) refl fits in
-    ((p .0, p .2, e .3, omega (arith, e .0, e .1), e .2), rw (listed b) (omega (arith, room)))
+    ((ones-at (turn k), p .0, e .3, omega (arith, e .0, e .1), e .2), rw (listed b) (omega (arith, room)))
 
 loop-less : tie.Need-loop-less Inv-loop μ-loop
-loop-less c = goes-less (goes (arm (c .before .before .before .before .before)))
+loop-less c = goes-less (goes (arm (c .before .before .before .before .before .before)))
 
 loop-again : tie.Need-loop-again Inv-loop μ-loop
 loop-again c =
-    let b = c .before .before .before .before .before in
+    let b = c .before .before .before .before .before .before in
     let k = arm b in
     (walking-next (turn k .loop .inv .0) (on k) (k .before .next .given .1) refl (rw (listed b) at (c .before .before .put-class .ensures)), b .block-ahead .ensures .3)
 
@@ -116,6 +131,8 @@ put-all-spec =
     (tie.spec
     Inv-loop
     μ-loop
+    ones-table-requires
+    spread-table-requires
     first-stand-requires
     loop-holds
     next-block-requires

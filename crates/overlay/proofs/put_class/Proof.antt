@@ -1,9 +1,7 @@
 -- `overlay::put_class` meets its contract. The invariant is `Joining`, the measure the number of places left.
 -- Assumes nothing.
-use mathlib.Core.Path.{_∙_}
 use Prim.Native.Nat.{_-_}
 use native.Mathlib.Omega.{arith}
-use borrow.Author.Needs.{needs}
 use Rattle.answers.proofs.Laws.{listed-same}
 use Rattle.pieces.specs.Pair.{classOverMap}
 use Rattle.overlay.proofs.Joins.{Joining, joining-first, joining-same, joining-room, joining-other, joining-rest, joining-last}
@@ -11,17 +9,17 @@ use Rattle.overlay.proofs.put_class.Statement.{statement}
 use Rattle.overlay.proofs.put_class.Tie as tie
 
 abbrev Inv-loop : tie.InvT-loop
-Inv-loop ones m keys classes base beneath end class out₀ n stand₀ from₀ k₀ out stand from k =
+Inv-loop ones m keys classes base beneath class out₀ n end stand₀ from₀ k₀ out stand from k =
     Joining (classOverMap m keys classes base beneath) class m keys base (stand₀ .place) end n out₀ out stand from k
 
 abbrev μ-loop : tie.MeasureT-loop
-μ-loop ones m keys classes base beneath end class out₀ n stand₀ from₀ k₀ out stand from k = end - stand .place
+μ-loop ones m keys classes base beneath class out₀ n end stand₀ from₀ k₀ out stand from k = end - stand .place
 
 loop-holds : tie.Need-loop-holds Inv-loop μ-loop
-loop-holds c = let p = c .before .before .before .before .before .pre in joining-first _ (p .0 .3) (p .0 .2)
+loop-holds c = let p = c .before .before .before .before .before .before .pre in joining-first _ (p .0 .3) (p .0 .2)
 
 abbrev entry : tie.At-loop Inv-loop μ-loop → tie.Start Inv-loop μ-loop
-entry c = c .before .before .before .before .before .before
+entry c = c .before .before .before .before .before .before .before
 
 next-piece-requires : tie.Need-next-piece-requires Inv-loop μ-loop
 next-piece-requires c κs = let at = c .before .before in let p = entry at .pre .0 in (p .1, at .loop .inv .stands, c .if1 .taken, p .4)

@@ -1,15 +1,11 @@
 -- `overlay::select_pair` meets its contract: the keys, behind refusals 6 and 7.
 -- Assumes nothing.
-use mathlib.Core.Path.{_≡_, sym, _∙_}
-use mathlib.Core.Bool.{false}
-use native.Mathlib.Omega.{arith}
+use mathlib.Core.Path.{sym}
 use lib.ListN.{length}
 use borrow.Author.Needs.{needs}
-use Rattle.answers.specs.declared.Verdict.{Verdict}
-use Rattle.answers.specs.declared.Verdict.the-variants.{Passed}
 use Rattle.answers.specs.Refusals.{verdict}
 use Rattle.window.proofs.Laws.{inside-12}
-use Rattle.used.specs.Used.{Usable, tiledRefusals}
+use Rattle.used.specs.Used.{Usable}
 use Rattle.select.proofs.Laws.{select-refused, select-listed}
 use Rattle.sparse.proofs.Laws.{pair-known, pair-tiled}
 use Rattle.overlay.proofs.select_pair.Statement.{statement}

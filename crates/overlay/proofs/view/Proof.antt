@@ -1,8 +1,6 @@
 -- `overlay::view` meets its contract, case by case. The key is that of a block where the check passes it as that of the only record of a map.
 -- Assumes nothing.
 use mathlib.Core.Path.{_≡_, sym, ap₂, _∙_}
-use mathlib.Core.Bool.{false}
-use mathlib.Core.List.{[], _∷_}
 use native.Mathlib.Omega.{arith}
 use lib.ListN.{length}
 use borrow.Author.Needs.{needs}
@@ -74,13 +72,13 @@ overlapping-requires c κs = let p = pair (both c) in (p .small, p .few, p .toda
 
 overlapping-requires-2 : tie.Need-overlapping-requires-2
 overlapping-requires-2 c κs =
-    let t = c .before .before .before in
+    let t = c .before .before in
     let p = pair (both t) in
     (p .small, p .underFew, spaced (p .under), block t)
 
 returns-3 : tie.Need-returns-3
 returns-3 c =
-    let r = c .before .before .before in
+    let r = c .before .before in
     let t = r .before in
     let u = c .overlapping2 .ensures in
     let some = some-records (pair (both t) .under) (block t .names) in
@@ -89,7 +87,7 @@ returns-3 c =
 
 returns-4 : tie.Need-returns-4
 returns-4 c =
-    let r = c .before .before in
+    let r = c .before in
     let t = r .before in
     let u = r .overlapping .ensures in
     ap₂ Today (u .first (c .if1 .left)) (u .count) ∙ sym (view-today _ _ _ _ _ _ _ (passed (both t)) (block t) (λ e. c .if1 .left (u .count ∙ e)))

@@ -1,6 +1,6 @@
 -- `sparse::exist_over` meets its contract: what was found, behind refusals 6 and 7.
 -- Assumes nothing.
-use mathlib.Core.Path.{refl, sym, ap₂, _∙_}
+use mathlib.Core.Path.{sym, ap₂, _∙_}
 use lib.ListN.{length}
 use borrow.Author.Needs.{needs}
 use Rattle.answers.specs.After.{after}
