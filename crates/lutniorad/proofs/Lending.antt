@@ -76,7 +76,11 @@ module _ (m : ℕ) (keys classes : List ℕ) (baseM : ℕ) (base baseClasses : L
       go (viewed.Baseline f c) e (ofBaseline d N a b h) = under N (numbers e ∙ rw (a, b)) h
 
   on-both : OnBoth viewing m keys classes baseM base baseClasses (tt {0}) (after (answer (viewed.Refused 0) (blockRefusals m key) (recordsOver m keys base key)) (tt {0})) r (tt {0})
-  on-both = record { outcome = after (viewOf m keys (length classes) baseM base (length baseClasses) key) (tt {0}); is = view-over-is m keys (length classes) baseM base (length baseClasses) key (tt {0}); call = call }
+  on-both = record {
+    outcome = after (viewOf m keys (length classes) baseM base (length baseClasses) key) (tt {0});
+    is = view-over-is m keys (length classes) baseM base (length baseClasses) key (tt {0});
+    call = call;
+  }
 
   pub overlay-part-refusals : {s t : Answer} → SparseCheck m keys classes s → Check baseM base baseClasses t → OverlayRefusals noPart m baseM s t r
   overlay-part-refusals a b = over-refusals on-both a b
@@ -96,7 +100,8 @@ module _ (m : ℕ) (keys classes : List ℕ) (baseM : ℕ) (base baseClasses : L
   overlay-part-answered =
       cases (λ l u. (λ z. absurd (omega (arith, l, z)), λ t. absurd (u (t .0)))) (λ e S U f. (λ z. absurd (omega (arith, e, z)), λ t. absurd (f (t .0 .same-m)))) go
     where
-      go : Overlayable m keys (length classes) baseM base (length baseClasses) → Said → (r .refusal ≡ 0) ↔ (Overlayable m keys (length classes) baseM base (length baseClasses) × SomeBlock m key)
+      go : Overlayable m keys (length classes) baseM base (length baseClasses) → Said
+          → (r .refusal ≡ 0) ↔ (Overlayable m keys (length classes) baseM base (length baseClasses) × SomeBlock m key)
       go O (none h e) = (λ z. absurd (omega (arith, z, number e)), λ t. absurd (never (sym h ∙ malformed-not (t .1 .names))))
       go O (own {i} {s} N e d) = (λ z. (O, record { exponent = i; start = s; names = N }), λ t. number e)
       go O (under {i} {s} N e d) = (λ z. (O, record { exponent = i; start = s; names = N }), λ t. number e)

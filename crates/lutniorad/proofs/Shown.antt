@@ -40,7 +40,8 @@ module _ (m : ℕ) (keys classes base baseClasses : List ℕ) (O : Overlayable m
 
   -- select by its pixels: it may list them by other blocks
   pub overlay-select-shows : (class : ℕ) (border out other older : List ℕ) {r s : Answer} {border′ out′ other′ older′ : List ℕ}
-      → OverlaySelect m keys classes m base baseClasses W class border out r border′ out′ → r .refusal ≡ 0 → Select m shown painted W class other older s other′ older′ → s .refusal ≡ 0
+      → OverlaySelect m keys classes m base baseClasses W class border out r border′ out′ → r .refusal ≡ 0
+      → Select m shown painted W class other older s other′ older′ → s .refusal ≡ 0
       → SamePixels m W (take (r .first) out′) (take (s .first) older′)
   overlay-select-shows class border out other older a z b y = record {
     same = λ p v.
@@ -75,7 +76,8 @@ module _ (m : ℕ) (base baseClasses : List ℕ) (U : SoundMap m base (length ba
     overlay-report-none = overlay-report-shows m [] [] base baseClasses nothing base baseClasses U none-shows W
 
     pub overlay-select-none : (class : ℕ) (border out other older : List ℕ) {r s : Answer} {border′ out′ other′ older′ : List ℕ}
-        → OverlaySelect m [] [] m base baseClasses W class border out r border′ out′ → r .refusal ≡ 0 → Select m base baseClasses W class other older s other′ older′ → s .refusal ≡ 0
+        → OverlaySelect m [] [] m base baseClasses W class border out r border′ out′ → r .refusal ≡ 0
+        → Select m base baseClasses W class other older s other′ older′ → s .refusal ≡ 0
         → SamePixels m W (take (r .first) out′) (take (s .first) older′)
     overlay-select-none = overlay-select-shows m [] [] base baseClasses nothing base baseClasses U none-shows W
 
@@ -99,6 +101,7 @@ module _ (m : ℕ) (keys classes base baseClasses : List ℕ) (S : SoundMap m ke
     overlay-report-whole = overlay-report-shows m keys classes base baseClasses covering keys classes S whole-shows W
 
     pub overlay-select-whole : (class : ℕ) (border out other older : List ℕ) {r s : Answer} {border′ out′ other′ older′ : List ℕ}
-        → OverlaySelect m keys classes m base baseClasses W class border out r border′ out′ → r .refusal ≡ 0 → Select m keys classes W class other older s other′ older′ → s .refusal ≡ 0
+        → OverlaySelect m keys classes m base baseClasses W class border out r border′ out′ → r .refusal ≡ 0
+        → Select m keys classes W class other older s other′ older′ → s .refusal ≡ 0
         → SamePixels m W (take (r .first) out′) (take (s .first) older′)
     overlay-select-whole = overlay-select-shows m keys classes base baseClasses covering keys classes S whole-shows W

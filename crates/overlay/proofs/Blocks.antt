@@ -24,7 +24,8 @@ use Rattle.overlay.specs.Select.{ofClass, classBlocks, classSelected, cl
 use Rattle.overlay.proofs.Joins.{class-is}
 
 -- runs of places with a property, one after another
-runs-made : (m : ℕ) {P : ℕ → Type 0} {T : ℕ → Bool} {at end : ℕ} {rs : List (ℕ × ℕ)} → ((q : ℕ) → T q ≡ true → P q) → ((q : ℕ) → at ≤ q → q < end → P q → T q ≡ true)
+runs-made : (m : ℕ) {P : ℕ → Type 0} {T : ℕ → Bool} {at end : ℕ} {rs : List (ℕ × ℕ)}
+    → ((q : ℕ) → T q ≡ true → P q) → ((q : ℕ) → at ≤ q → q < end → P q → T q ≡ true)
     → end ≤ 4 ^ m → at ≤ end → Runs T end at rs → Made m P end at (stretches m rs)
 runs-made m {P} {T} {at} to from room l (last h) = rw (stretches-none m) (made-none {a = at} (λ q x y p. never (sym (from q x y p) ∙ h q x y)))
 runs-made m {P} {T} {at} {end} to from room l (next {x = x} {y = y} {rs = rs} R N) =
