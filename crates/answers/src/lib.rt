@@ -1,12 +1,14 @@
 // How operations answer: refusals in a stated order, and cells of a lent slice beyond an answer that keep their content.
 // Stands below keys, maps and files, which share the refusals 1, 2 and 17.
+#![tactic(auto)]
+
 ghost use Rattle.std.specs.Prelude.{◌≡◌};
 ghost use Rattle.answers.specs.Refusals.{verdict};
 ghost use Rattle.answers.specs.Sizes.{size_refusals_in, tile_refusals};
 ghost use Rattle.answers.specs.Cells.{put};
 
 // What a table of refusals says: none of them holds, or the first that does, by its number and its place.
-#[derive(Drop)]
+#[derive(Clone, Copy)]
 pub enum Verdict {
     Passed,
     Refused { number: u32, place: u32 },

@@ -1,4 +1,6 @@
 // What comes before the first window: a file is read, its map is looked at, and what is printed for them is put into bytes that the caller lends.
+#![tactic(auto)]
+
 ghost use Rattle.std.specs.Prelude.{◌≡◌, ◌≤◌, length};
 ghost use Rattle.answers.specs.After.{after};
 ghost use Rattle.text.specs.Text.{put_of};
@@ -8,7 +10,7 @@ use answers::Verdict;
 use house::Reading;
 
 // How the program begins: m and the number of records of the file's map, and how many bytes were put. Where any were, they say a refusal, and there is no map.
-#[derive(Drop)]
+#[derive(Clone, Copy)]
 pub struct Begun {
     pub m: u32,
     pub count: u32,

@@ -1,5 +1,7 @@
 // Keys and sizes of blocks: E by a table, a pixel's key and its place, a block's key, powers, and the alignment of a number.
 // The crates above refuse m over 12 before they call, so functions here ask m ≤ 12, and all keys fit u32.
+#![tactic(auto)]
+
 ghost use Rattle.std.specs.Prelude.{◌≡◌, ◌^◌, ◌<◌, ◌≤◌, get_or};
 ghost use Rattle.key.specs.Spread.{E, spread, spreads, fours};
 ghost use Rattle.key.specs.Picture.{Pixel, place};

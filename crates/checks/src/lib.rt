@@ -1,4 +1,6 @@
 // The check of a map.
+#![tactic(auto)]
+
 ghost use Rattle.std.specs.Prelude.{◌≡◌, length};
 ghost use Rattle.answers.specs.Refusals.{verdict};
 ghost use Rattle.map.specs.Check.{map_refusals_in, check_in};

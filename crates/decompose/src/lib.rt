@@ -1,4 +1,6 @@
 // Decomposing a window: the keys of its maximal blocks.
+#![tactic(auto)]
+
 ghost use Rattle.std.specs.Prelude.{◌≡◌, ◌≤◌};
 ghost use Rattle.answers.specs.Cells.{Listed};
 ghost use Rattle.answers.specs.After.{after};
@@ -12,7 +14,7 @@ use answers::Verdict;
 use window::{Next, Window};
 
 // What decomposing answers: how many keys there are, or a refusal.
-#[derive(Drop)]
+#[derive(Clone, Copy)]
 pub enum Decomposed {
     Done { count: u32 },
     Refused { number: u32, place: u32 },

@@ -1,4 +1,6 @@
 // The digits of keys: reading one, as a block by its span or as a square, and how far a block reaches around another. As in the crate `blocks`, m is at most 12.
+#![tactic(auto)]
+
 ghost use Rattle.std.specs.Prelude.{◌≡◌, cond, ◌*◌, ◌^◌, ◌≤◌, ◌<◌, eqb};
 ghost use Rattle.key.specs.Spread.{spreads};
 ghost use Rattle.key.specs.declared.Form.TheVariants.{Block, Malformed};

@@ -1,4 +1,6 @@
 // Exist: whether some pixel of a window has a class, as far as it was seen.
+#![tactic(auto)]
+
 ghost use Rattle.std.specs.Prelude.{◌≡◌, ◌+◌, ◌≤◌, length};
 ghost use Rattle.lists.specs.Lists.{up_from, any};
 ghost use Rattle.answers.specs.After.{after};
@@ -13,7 +15,7 @@ use border::Found;
 use window::Window;
 
 // What exist answers: whether some pixel has the class, or a refusal. It cannot tell where none has it and some were not seen.
-#[derive(Drop)]
+#[derive(Clone, Copy)]
 pub enum Existence {
     Yes,
     No,
@@ -22,7 +24,7 @@ pub enum Existence {
 }
 
 // Some records, looked through: one has the class, one was not seen.
-#[derive(Drop)]
+#[derive(Clone, Copy)]
 struct Looked {
     has: bool,
     unseen: bool,

@@ -1,4 +1,6 @@
 // The parts that the records of one opening have in a window, added to the totals of their classes.
+#![tactic(auto)]
+
 ghost use Rattle.std.specs.Prelude.{◌≡◌, ◌+◌, ◌≤◌, length};
 ghost use Rattle.lists.specs.Lists.{up_from};
 ghost use Rattle.key.specs.Along.{ones_table, TellsOnes};

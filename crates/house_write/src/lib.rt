@@ -1,4 +1,6 @@
 // Writing a house file: cells to bytes.
+#![tactic(auto)]
+
 ghost use Rattle.std.specs.Prelude.{◌≡◌, false, ◌+◌, ◌*◌, ◌≤◌, length};
 ghost use Rattle.answers.specs.Sizes.{SizedIn};
 ghost use Rattle.answers.specs.Cells.{overwrite};

@@ -1,4 +1,6 @@
 // The input: how long a file is and whether all of it came, a window from its bytes, and what is printed for bytes left over.
+#![tactic(auto)]
+
 ghost use Rattle.std.specs.Prelude.{◌≡◌, ◌+◌, ◌*◌, ◌≤◌, length, take};
 ghost use Rattle.answers.specs.After.{after};
 ghost use Rattle.text.specs.Text.{put_of};

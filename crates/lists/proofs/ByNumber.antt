@@ -18,12 +18,12 @@ pub record Split {A : Type 0} (l : List A) (x : A) : Type 0 where
   pub is : l ≡ front ++ x ∷ back
 
 module _ {A : Type 0} where
-  pub split : {l : List A} {x : A} → Memᴰ x l → Split l x
+  pub split : {x : A} {l : List A} → Memᴰ x l → Split l x
   split (Memᴰ.head {xs = l} e) = record { front = []; back = l; is = ap (λ (y : A). y ∷ l) (sym e) }
   split (Memᴰ.tail {x = y} n) = let s = split n in record { front = y ∷ s.front; back = s.back; is = ap (λ (t : List A). y ∷ t) s.is }
 
   -- each element has a number
-  pub nth_of : {l : List A} {x : A} → Memᴰ x l → (k : ℕ) × Nth l k x
+  pub nth_of : {x : A} {l : List A} → Memᴰ x l → (k : ℕ) × Nth l k x
   nth_of (Memᴰ.head e) = (0, here refl e)
   nth_of (Memᴰ.tail n) = let t = nth_of n in (suc t.0, later refl t.1)
 
@@ -56,9 +56,10 @@ pub only : {A : Type 0} {x y : A} → Memᴰ x (y ∷ []) → x ≡ y
 only (Memᴰ.head e) = e
 only (Memᴰ.tail l) = absurd (Memᴰ.not-nil l)
 
-pub nth-get_d : {l : List ℕ} {k x : ℕ} → Nth l k x → get_or l k 0 ≡ x
-nth-get_d {l = y ∷ l} (here e d) = rw e (sym d)
-nth-get_d {l = y ∷ l} (later e n) = rw e (nth-get_d n)
+pub nth-get_or : {l : List ℕ} {k x : ℕ} → Nth l k x → get_or l k 0 ≡ x
+nth-get_or {l = []} n = elim n [ ]
+nth-get_or {l = y ∷ l} (here e d) = rw e (sym d)
+nth-get_or {l = y ∷ l} (later e n) = rw e (nth-get_or n)
 
 -- ---- the first that passes
 

@@ -55,7 +55,7 @@ module _ {A B : Type 0} (f : A → List B) where
       go ih (inl n) = (x, Memᴰ.head refl, n)
       go ih (inr n) = let t = ih n in (t.0, Memᴰ.tail t.1, t.2)
 
-  pub in-flat : {xs : List A} {x : A} {y : B} → Memᴰ x xs → Memᴰ y (f x) → Memᴰ y (flat_map f xs)
+  pub in-flat : {x : A} {y : B} {xs : List A} → Memᴰ x xs → Memᴰ y (f x) → Memᴰ y (flat_map f xs)
   unfolding flat_map
   in-flat (Memᴰ.head {xs = xs} e) n = Memᴰ.append_left (flat_map f xs) (rw e at n)
   in-flat (Memᴰ.tail {x = z} l) n = Memᴰ.append_right (f z) (in-flat l n)

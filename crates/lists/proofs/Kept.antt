@@ -45,7 +45,7 @@ module _ {A : Type 0} where
       go true e ih (Memᴰ.head d) = rw d e
       go true e ih (Memᴰ.tail n) = ih n
 
-  pub in-keep : (f : A → Bool) {l : List A} {a : A} → Memᴰ a l → f a ≡ true → Memᴰ a (keep f l)
+  pub in-keep : (f : A → Bool) {a : A} {l : List A} → Memᴰ a l → f a ≡ true → Memᴰ a (keep f l)
   unfolding keep
   in-keep f {a = a} (Memᴰ.head {x = x} {xs = l} d) t = go (f x) refl
     where

@@ -51,6 +51,7 @@ ordered-map {B = B} {S = S} f (more {x = x} {l = l} h o) k = more late (ordered-
 
 -- two elements of an ordered list, neither before the other, are one
 pub ordered-one : {A : Type 0} {R : A → A → Type 0} {l : List A} {x y : A} → Ordered R l → Memᴰ x l → Memᴰ y l → (R x y → ⊥) → (R y x → ⊥) → x ≡ y
+ordered-one none m _ p q = elim m [ ]
 ordered-one (more h o) (Memᴰ.head e) (Memᴰ.head d) p q = e ∙ sym d
 ordered-one {y = y} (more h o) (Memᴰ.head e) (Memᴰ.tail n) p q = absurd (p (rw e (h y n)))
 ordered-one {x = x} (more h o) (Memᴰ.tail m) (Memᴰ.head d) p q = absurd (q (rw d (h x m)))

@@ -56,7 +56,7 @@ module _ {A B : Type 0} (part : B → List A) where
       go ih (inl k) = record { at = b; listed = mathlib.Core.List.Memᴰ.head refl; has = k }
       go ih (inr k) = let i = ih k in record { at = i.at; listed = mathlib.Core.List.Memᴰ.tail i.listed; has = i.has }
 
-  in-laid : {bs : List B} {b : B} {x : A} → Memᴰ b bs → Memᴰ x (part b) → Memᴰ x (laid bs)
+  in-laid : {b : B} {x : A} {bs : List B} → Memᴰ b bs → Memᴰ x (part b) → Memᴰ x (laid bs)
   unfolding laid
   in-laid {x = x} (mathlib.Core.List.Memᴰ.head {x = c} {xs = bs} e) h = let k : Memᴰ x (part c) = rw e at h in mathlib.Core.List.Memᴰ.append_left (laid bs) k
   in-laid (mathlib.Core.List.Memᴰ.tail {x = c} n) h = mathlib.Core.List.Memᴰ.append_right (part c) (in-laid n h)

@@ -1,4 +1,6 @@
 // Many windows on one map, which is checked once.
+#![tactic(auto)]
+
 ghost use Rattle.std.specs.Prelude.{◌≡◌, [], ◌∷◌, ◌+◌, ◌*◌, ◌≤◌, length};
 ghost use Rattle.std.proofs.lemmas.List.Edits.{sets};
 ghost use Rattle.answers.specs.Refusals.{verdict};
@@ -12,7 +14,7 @@ use answers::Verdict;
 use window::Window;
 
 // What is said of a window: a refusal, or how many openings it has, records that they hand out, and pixels.
-#[derive(Drop)]
+#[derive(Clone, Copy)]
 pub struct Line {
     pub refusal: u32,
     pub place: u32,
@@ -22,7 +24,7 @@ pub struct Line {
 }
 
 // What is answered: how many windows there are, or a refusal of all.
-#[derive(Drop)]
+#[derive(Clone, Copy)]
 pub enum Many {
     Done { windows: u32 },
     Refused { number: u32, place: u32 },

@@ -10,7 +10,7 @@ use native.Mathlib.Nat.{div-one}
 use native.Mathlib.Omega.{arith}
 use lib.ListN.{length, get_or}
 use borrow.Author.Tests.{lt-ltb, le-ltb}
-use Rattle.lists.proofs.Laws.{refuted, stretch-of, stretch-begins, nth_of, nth-less, nth-get_d, before-none}
+use Rattle.lists.proofs.Laws.{refuted, stretch-of, stretch-begins, nth_of, nth-less, nth-get_or, before-none}
 use Rattle.key.specs.Picture.{Pixel, place}
 use Rattle.key.specs.Key.{pixel_key}
 use Rattle.key.specs.Form.{form_of}
@@ -83,7 +83,7 @@ module _ {m : ℕ} {keys : List ℕ} (F : Spaced m 0 keys) where
       none k l =
           let t = nth_of l in
           let r = record-at F t.0 (nth-less t.1) in
-          refuted _ (λ e. f.none r.is ((holds-is q r.is.names).0 (rw (nth-get_d t.1) e)))
+          refuted _ (λ e. f.none r.is ((holds-is q r.is.names).0 (rw (nth-get_or t.1) e)))
 
   module _ {q : ℕ} (H : Holder m keys q) where
     within : record_of m keys q < length keys

@@ -1,4 +1,6 @@
 // A month: a running table of what maps have in one window.
+#![tactic(auto)]
+
 ghost use Rattle.std.specs.Prelude.{◌≡◌, ◌++◌, min, ◌≤◌, length, replicate, take};
 ghost use Rattle.answers.specs.Refusals.{verdict};
 ghost use Rattle.answers.specs.Cells.{overwrite};
@@ -10,14 +12,14 @@ use answers::Verdict;
 use window::Window;
 
 // What clearing answers.
-#[derive(Drop)]
+#[derive(Clone, Copy)]
 pub enum Cleared {
     Done,
     Refused { number: u32, place: u32 },
 }
 
 // What adding answers: how many maps the table has now, or a refusal.
-#[derive(Drop)]
+#[derive(Clone, Copy)]
 pub enum Added {
     Done { maps: u32 },
     Refused { number: u32, place: u32 },

@@ -1,4 +1,6 @@
 // The records of a block, for whoever asks again: the records around a block that were found last are known, and are not sought again.
+#![tactic(auto)]
+
 ghost use Rattle.std.specs.Prelude.{◌≡◌, ◌↔◌, true, ◌≤◌, length};
 ghost use Rattle.key.specs.Spread.{spreads};
 ghost use Rattle.map.specs.Sound.{Spaced};
@@ -8,7 +10,7 @@ ghost use Rattle.near.specs.Near.{near, seen, LiesIn, Known, Sees};
 use map::Run;
 
 // A record around a block, by its number, its key and the end of its keys: each block in it overlaps it alone. None where the keys end where they begin.
-#[derive(Drop)]
+#[derive(Clone, Copy)]
 pub struct Near {
     pub first: u32,
     pub from: u32,
@@ -16,7 +18,7 @@ pub struct Near {
 }
 
 // The records that overlap a block, and the last two records that were found around one: along the rows of a window the walk comes back to those at its two sides.
-#[derive(Drop)]
+#[derive(Clone, Copy)]
 pub struct Seen {
     pub run: Run,
     pub near: Near,

@@ -1,4 +1,6 @@
 // Opening a window on a map.
+#![tactic(auto)]
+
 ghost use Rattle.std.specs.Prelude.{◌≡◌, length};
 ghost use Rattle.answers.specs.Refusals.{verdict};
 ghost use Rattle.answers.specs.After.{after};
@@ -8,7 +10,7 @@ use answers::Verdict;
 use window::Window;
 
 // What opening answers: how many openings there are and how many records they hand out, or a refusal.
-#[derive(Drop)]
+#[derive(Clone, Copy)]
 pub enum Opened {
     Done { openings: u32, records: u32 },
     Refused { number: u32, place: u32 },

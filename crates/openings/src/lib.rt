@@ -1,4 +1,6 @@
 // From opening to opening.
+#![tactic(auto)]
+
 ghost use Rattle.std.specs.Prelude.{◌≡◌, length};
 ghost use Rattle.key.specs.Spread.{spreads};
 ghost use Rattle.border.specs.Found.{walk, Reached, Finds};

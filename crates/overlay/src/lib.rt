@@ -1,4 +1,6 @@
 // Today's map, which may have gaps, over the season's baseline: a pixel has the class of today's record, or else that of the baseline's. The m of the baseline is `depth`.
+#![tactic(auto)]
+
 ghost use Rattle.std.specs.Prelude.{◌≡◌, false, ◌+◌, ◌^◌, ◌≤◌, length};
 ghost use Rattle.answers.specs.Cells.{Listed};
 ghost use Rattle.answers.specs.After.{after};
@@ -21,40 +23,40 @@ use select::Selected;
 use window::{Next, Window};
 
 // What the check of both maps says: they can be laid over each other; or a refusal, of today's map, which is 1, of the baseline, which is 2, or of neither, which is 0.
-#[derive(Drop)]
+#[derive(Clone, Copy)]
 pub enum Pairing {
     Passed,
     Refused { map: u32, number: u32, place: u32 },
 }
 
 // What exist answers where both maps are sound and of one m, or why they are not. The same of report and of select.
-#[derive(Drop)]
+#[derive(Clone, Copy)]
 pub enum ExistOver {
     Told { existence: Existence },
     Refused { map: u32, number: u32, place: u32 },
 }
 
-#[derive(Drop)]
+#[derive(Clone, Copy)]
 pub enum ReportOver {
     Told { reported: Reported },
     Refused { map: u32, number: u32, place: u32 },
 }
 
-#[derive(Drop)]
+#[derive(Clone, Copy)]
 pub enum SelectOver {
     Told { selected: Selected },
     Refused { map: u32, number: u32, place: u32 },
 }
 
 // So many records of a map, from the first on.
-#[derive(Drop)]
+#[derive(Clone, Copy)]
 pub struct Records {
     pub first: u32,
     pub count: u32,
 }
 
 // Which part of whose classes a viewer is lent, or a refusal.
-#[derive(Drop)]
+#[derive(Clone, Copy)]
 pub enum Viewed {
     Today { first: u32, count: u32 },
     Baseline { first: u32, count: u32 },

@@ -1,4 +1,6 @@
 // All the openings of a window, in one pass.
+#![tactic(auto)]
+
 ghost use Rattle.std.specs.Prelude.{◌≡◌, length};
 ghost use Rattle.key.specs.Spread.{spreads};
 ghost use Rattle.border.specs.Cells.{entered};

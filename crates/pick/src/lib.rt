@@ -1,4 +1,6 @@
 // What a block has of a class: its own key, or those of the records inside it.
+#![tactic(auto)]
+
 ghost use Rattle.std.specs.Prelude.{◌≡◌, ◌+◌, ◌≤◌, ◌<◌, length};
 ghost use Rattle.answers.specs.Cells.{Listed};
 ghost use Rattle.pick.specs.Picked.{picked_run, picked_around, picked, Overlapped};

@@ -1,5 +1,7 @@
 // Today's map, which may have gaps, over a complete baseline: the classes of places, piece by piece, and by them a window's totals and whether it has a class.
 // A map with gaps by itself is one over a baseline of a single record, the whole picture in the background's class.
+#![tactic(auto)]
+
 ghost use Rattle.std.specs.Prelude.{◌≡◌, min, ◌+◌, ◌-◌, ◌^◌, ◌≤◌, ◌<◌, length, replicate};
 ghost use Rattle.key.specs.Spread.{spreads};
 ghost use Rattle.key.specs.Picture.{Pixel, place};
@@ -16,7 +18,7 @@ ghost use Rattle.pieces.specs.Pieces.{Uniform, Tallied, Room, Looks, Finds};
 use window::{Next, Window};
 
 // A record of a map, by its number and its places, from `start` up to the one before `end`. Behind the last record `start` is the end of the picture, and `end` one more.
-#[derive(Drop)]
+#[derive(Clone, Copy)]
 pub struct Cursor {
     pub next: usize,
     pub start: u32,
@@ -24,7 +26,7 @@ pub struct Cursor {
 }
 
 // A place, and in each map the first record that ends behind it.
-#[derive(Drop)]
+#[derive(Clone, Copy)]
 pub struct Stand {
     pub place: u32,
     pub today: Cursor,
@@ -32,21 +34,21 @@ pub struct Stand {
 }
 
 // The block that is next: both maps at its first place, and the place behind its last.
-#[derive(Drop)]
+#[derive(Clone, Copy)]
 pub struct Ahead {
     pub stand: Stand,
     pub end: u32,
 }
 
 // Places of one class, up to the one before `end`.
-#[derive(Drop)]
+#[derive(Clone, Copy)]
 pub struct Piece {
     pub class: u8,
     pub end: u32,
 }
 
 // Places, looked through: one has the class, one was not seen. The second is told only where the first is not so.
-#[derive(Drop)]
+#[derive(Clone, Copy)]
 pub struct Looked {
     pub has: bool,
     pub unseen: bool,

@@ -1,4 +1,6 @@
 // Refusals 3 to 5 of a map, record by record. It may have gaps, unless it is to be whole.
+#![tactic(auto)]
+
 ghost use Rattle.std.specs.Prelude.{◌≡◌, [], ◌≤◌, length};
 ghost use Rattle.answers.specs.Refusals.{verdict};
 ghost use Rattle.key.specs.declared.Fit.TheVariants.{Other};

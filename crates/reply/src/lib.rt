@@ -1,4 +1,6 @@
 // The reply where a window should begin, put into bytes that the caller lends: the text for the window, or that for bytes left over.
+#![tactic(auto)]
+
 ghost use Rattle.std.specs.Prelude.{◌≡◌, ◌≤◌, length};
 ghost use Rattle.answers.specs.After.{after};
 ghost use Rattle.text.specs.Text.{put_of};

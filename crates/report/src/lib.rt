@@ -1,4 +1,6 @@
 // Report: how many pixels of a window each class has.
+#![tactic(auto)]
+
 ghost use Rattle.std.specs.Prelude.{◌≡◌, ◌≤◌, length};
 ghost use Rattle.answers.specs.Cells.{overwrite};
 ghost use Rattle.answers.specs.After.{after};
@@ -9,7 +11,7 @@ use answers::Verdict;
 use window::Window;
 
 // What report answers: how many pixels the window has, or a refusal.
-#[derive(Drop)]
+#[derive(Clone, Copy)]
 pub enum Reported {
     Done { pixels: u32 },
     Refused { number: u32, place: u32 },

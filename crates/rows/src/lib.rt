@@ -1,4 +1,6 @@
 // The rows of a month's table, one for each class.
+#![tactic(auto)]
+
 ghost use Rattle.std.specs.Prelude.{◌≡◌, cond, min, max, ◌≤◌, ◌<◌, eqb, length};
 ghost use Rattle.rows.specs.Rows.{with_map, row_in, any_over};
 ghost use Rattle.rows.specs.Growing.{put_row, grow_rows, Fits, AllFit};

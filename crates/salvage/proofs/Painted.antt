@@ -8,7 +8,7 @@ use Prim.Native.Nat.{ℕ, zero, suc, ◌^◌, ◌<◌}
 use native.Mathlib.Omega.{arith}
 use lib.ListN.{length, get_or}
 use Rattle.lists.specs.Promises.{Nth, here, later}
-use Rattle.lists.proofs.Laws.{never, flat_in, in-flat, nth_of, nth_in, nth-less, only, nth-get_d}
+use Rattle.lists.proofs.Laws.{never, flat_in, in-flat, nth_of, nth_in, nth-less, only, nth-get_or}
 use Rattle.key.specs.Blocks.{Names, Among}
 use Rattle.map.specs.Classes.{class_in, not_seen}
 use Rattle.map.specs.Promises.{is_free}
@@ -71,7 +71,7 @@ module _ (m : ℕ) (keys classes : List ℕ) where
   unfolding key_kept
   kept-unfree {n} {i} {s} l b h =
       let x = nth_of (in-flat (key_kept keys) {x = kept n} l (Memᴰ.head refl)) in
-      unfree (kept-spaced m keys) (record { within = nth-less x.1; names = rw (nth-get_d x.1) b }) h
+      unfree (kept-spaced m keys) (record { within = nth-less x.1; names = rw (nth-get_or x.1) b }) h
 
   -- so the record of a place that is free is a block that was filled in
   free_seen : {p : ℕ × ℕ} {i s q : ℕ} → is_free m (flat_map (key_kept keys) (mends m keys)) q ≡ true → Names m p.0 i s → Among s (4 ^ i) q

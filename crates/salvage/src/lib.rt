@@ -1,4 +1,6 @@
 // Salvage of a broken map: records with a malformed key and records that overlap are dropped, and the gaps filled with blocks that were not seen.
+#![tactic(auto)]
+
 ghost use Rattle.std.specs.Prelude.{◌≡◌, ◌+◌, ◌-◌, ◌*◌, ◌^◌, ◌≤◌, ◌<◌, length, get_or};
 ghost use Rattle.answers.specs.Refusals.{verdict};
 ghost use Rattle.answers.specs.Cells.{put};
@@ -13,14 +15,14 @@ use answers::Verdict;
 use key::{Fit, Form, Spot};
 
 // What is answered: how many records the mended map has and how many entries the log, or a refusal.
-#[derive(Drop)]
+#[derive(Clone, Copy)]
 pub enum Salvaged {
     Done { records: u32, entries: u32 },
     Refused { number: u32, place: u32 },
 }
 
 // How far salvage has come: where the walk stands, and how many records and entries there are.
-#[derive(Drop)]
+#[derive(Clone, Copy)]
 pub struct Mending {
     pub spot: Spot,
     pub records: u32,
@@ -28,7 +30,7 @@ pub struct Mending {
 }
 
 // How far it has come, and the next record.
-#[derive(Drop)]
+#[derive(Clone, Copy)]
 pub struct Progress {
     pub now: Mending,
     pub next: usize,

@@ -10,7 +10,7 @@ use Prim.Native.Nat.{ℕ, ◌+◌, ◌*◌, ◌/◌, ◌^◌, ◌≤◌, ◌<◌
 use native.Mathlib.Omega.{arith}
 use lib.ListN.{length, get_or, length-map, length-append}
 use Rattle.lists.specs.Lists.{Ordered, none, more}
-use Rattle.lists.proofs.Laws.{ordered-append, pigeon, get_d-in}
+use Rattle.lists.proofs.Laws.{ordered-append, pigeon, get_or-in}
 use Rattle.key.specs.Picture.{place, Px}
 use Rattle.key.specs.Form.{form_of}
 use Rattle.key.specs.Blocks.{Names, Among}
@@ -96,7 +96,7 @@ module _ {m top : ℕ} {keys : List ℕ} (F : Spaced m 0 keys) {W : Window} (I :
       where
         go : (f : From x (maximal W top)) → (x ≡ key_of m top W f.corner) ⊎ (x ≡ get_or keys f.part.index 0) → Memᴰ x (map (key_of m top W) (maximal W top) ++ keys)
         go f (inl e) = Memᴰ.append_left keys (Memᴰ.cast e (Memᴰ.map (key_of m top W) f.listed))
-        go f (inr e) = Memᴰ.append_right (map (key_of m top W) (maximal W top)) (Memᴰ.cast e (get_d-in keys f.part.index f.part.is.within))
+        go f (inr e) = Memᴰ.append_right (map (key_of m top W) (maximal W top)) (Memᴰ.cast e (get_or-in keys f.part.index f.part.is.within))
 
     -- so there are no more than blocks and records
     pub selection-most : length (selection m top keys classes W class) ≤ length (maximal W top) + length keys

@@ -1,4 +1,6 @@
 // Select: the keys of a class in a window.
+#![tactic(auto)]
+
 ghost use Rattle.std.specs.Prelude.{◌≡◌, length};
 ghost use Rattle.answers.specs.Cells.{Listed};
 ghost use Rattle.answers.specs.After.{after};
@@ -10,7 +12,7 @@ use answers::Verdict;
 use window::{Next, Window};
 
 // What select answers: how many keys there are, or a refusal.
-#[derive(Drop)]
+#[derive(Clone, Copy)]
 pub enum Selected {
     Done { count: u32 },
     Refused { number: u32, place: u32 },

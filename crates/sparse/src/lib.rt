@@ -1,4 +1,6 @@
 // Exist, report and select on maps that may have gaps: a pixel in no record has the class of the background. And exist and report of such a map over a baseline.
+#![tactic(auto)]
+
 ghost use Rattle.std.specs.Prelude.{◌≡◌, false, cond, ◌≤◌, length};
 ghost use Rattle.answers.specs.After.{after};
 ghost use Rattle.window.specs.Window.{Inside};

@@ -1,4 +1,6 @@
 // Select on maps with gaps: the keys of a class in a window, where a pixel in no record has the class of the background.
+#![tactic(auto)]
+
 ghost use Rattle.std.specs.Prelude.{◌≡◌, length};
 ghost use Rattle.answers.specs.Cells.{Listed};
 ghost use Rattle.answers.specs.After.{after};

@@ -1,4 +1,6 @@
 // Along the keys, from block to block, without their digits. As in the crate `blocks`, m is at most 12.
+#![tactic(auto)]
+
 ghost use Rattle.std.specs.Prelude.{◌≡◌, ◌+◌, ◌^◌, ◌<◌, ◌≤◌};
 ghost use Rattle.key.specs.Key.{ones};
 ghost use Rattle.key.specs.Blocks.{Names};

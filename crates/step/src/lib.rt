@@ -1,4 +1,6 @@
 // One maximal block, one step: what it does to the active border.
+#![tactic(auto)]
+
 ghost use Rattle.std.specs.Prelude.{◌≡◌, ◌-◌, ◌≤◌, length};
 ghost use Rattle.key.specs.Spread.{spreads};
 ghost use Rattle.window.specs.Window.{In, Inside};

@@ -1,4 +1,6 @@
 // Standard input and output for a program that nobody watches: a call that was interrupted is made again, one that failed is told from the end of the input, and text goes out in whole lines.
+#![tactic(auto)]
+
 ghost use Rattle.std.specs.Prelude.{◌≡◌, ◌≤◌, length};
 ghost use Rattle.io.specs.Counts.{IsPrefixLen};
 ghost use Rattle.streams.specs.Streams.{passing, lines_in, piece_of};
@@ -10,13 +12,13 @@ const PATIENCE: u32 = 10_000_000;
 const PIPE_BUF: usize = 4096;
 
 // How many bytes came, and whether a read failed behind them; otherwise the slice is full or the input has ended.
-#[derive(Drop)]
+#[derive(Clone, Copy)]
 pub struct Taken {
     pub count: usize,
     pub failed: bool,
 }
 
-#[derive(Drop)]
+#[derive(Clone, Copy)]
 pub enum Printed {
     Whole,
     // A file took a part of what was written: it is full. Another write could end the program by a signal, before anything is said.

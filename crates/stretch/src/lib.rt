@@ -1,4 +1,6 @@
 // The fewest blocks that make up a stretch of places, in key order.
+#![tactic(auto)]
+
 ghost use Rattle.std.specs.Prelude.{◌≡◌, ◌+◌, ◌^◌, ◌≤◌, ◌<◌, length};
 ghost use Rattle.answers.specs.Cells.{Listed};
 ghost use Rattle.key.specs.Along.{ones_table, Stands};
@@ -8,7 +10,7 @@ ghost use Rattle.stretch.specs.Walk.{largest, Lays};
 use key::Spot;
 
 // A block of a stretch: its key, and where the walk stands behind it.
-#[derive(Drop)]
+#[derive(Clone, Copy)]
 pub struct Laid {
     pub key: u32,
     pub behind: Spot,

@@ -1,4 +1,6 @@
 // The pixels of each class in a window, gathered from opening to opening.
+#![tactic(auto)]
+
 ghost use Rattle.std.specs.Prelude.{◌≡◌, length, replicate};
 ghost use Rattle.key.specs.Spread.{spreads};
 ghost use Rattle.key.specs.Along.{ones_table, TellsOnes};

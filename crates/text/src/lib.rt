@@ -1,4 +1,6 @@
 // Text: numbers in decimal digits, and lines of them, put into bytes that the caller lends.
+#![tactic(auto)]
+
 ghost use Rattle.std.specs.Prelude.{◌≡◌, min, ◌≤◌, length};
 ghost use Rattle.answers.specs.After.{after};
 ghost use Rattle.text.specs.Text.{digits_of, spaced, line_of, put_of};

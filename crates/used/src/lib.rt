@@ -1,4 +1,6 @@
 // What any use of a map and a window asks first, and what it leaves.
+#![tactic(auto)]
+
 ghost use Rattle.std.specs.Prelude.{◌≡◌, ◌≤◌, length};
 ghost use Rattle.answers.specs.Refusals.{verdict};
 ghost use Rattle.used.specs.Used.{border_refusals, view_refusals, use_refusals_in, tiled_refusals};

@@ -1,4 +1,6 @@
 // The walk over the maximal blocks of a window, how many there can be, and whether a window lies in the picture.
+#![tactic(auto)]
+
 ghost use Rattle.std.specs.Prelude.{◌≡◌, min, ◌≤◌};
 ghost use Rattle.window.specs.Window.{Inside, In, beyond, outside};
 ghost use Rattle.window.specs.Blocks.{floor, exponent};

@@ -1,4 +1,6 @@
 // Why a record, or a maximal block, is on the list of a window's openings, or is not.
+#![tactic(auto)]
+
 ghost use Rattle.std.specs.Prelude.{◌≡◌, ◌↔◌, true, ◌≤◌, ◌<◌, length};
 ghost use mathlib.Core.List.{Memᴰ};
 ghost use Rattle.answers.specs.After.{after};
@@ -20,7 +22,7 @@ use key::Square;
 use window::{Next, Window};
 
 // The sides of a window.
-#[derive(Drop)]
+#[derive(Clone, Copy)]
 pub enum Side {
     North,
     South,
@@ -29,7 +31,7 @@ pub enum Side {
 }
 
 // Where pixels lie: all of them on one side of a window, the first that is true; or not so.
-#[derive(Drop)]
+#[derive(Clone, Copy)]
 pub enum Lies {
     Outside { side: Side },
     Across,
@@ -37,7 +39,7 @@ pub enum Lies {
 
 // What is said of a record: an opening hands it out, by its number; or it lies on a side of the window. What is said of a maximal block: it is opened, as which number; or it is
 // skipped for a record that an opening hands out.
-#[derive(Drop)]
+#[derive(Clone, Copy)]
 pub enum Why {
     Handed { index: u32, opening: u32 },
     Outside { index: u32, side: Side },
@@ -47,7 +49,7 @@ pub enum Why {
 }
 
 // The opening that hands out a record, by its number and its block's key.
-#[derive(Drop)]
+#[derive(Clone, Copy)]
 struct Brought {
     opening: u32,
     key: u32,

@@ -1,6 +1,8 @@
 // The window program: it reads a house file and then windows from standard input, and prints for each window what was found.
 // What is printed is put into bytes first, by functions whose contracts say which bytes. Which bytes are handed over, and what is written when, no contract can say.
 // Where a read or a write fails, one line on standard error says so, and the program ends. It has no status to end with.
+#![tactic(auto)]
+
 ghost use Rattle.std.specs.Prelude.{◌≤◌, length};
 ghost use Rattle.map.specs.Sound.{SoundMap};
 ghost use Rattle.window_program.specs.Received.{Received};

@@ -1,0 +1,24 @@
+-- `beginning::put_map` meets its contract.
+use mathlib.Core.Path.{◌≡◌, sym, ◌∙◌}
+use lib.ListN.{length}
+use Rattle.answers.specs.declared.Verdict.{Verdict}
+use Rattle.answers.specs.Refusals.{verdict}
+use Rattle.map.specs.Check.{map_refusals}
+use Rattle.text.proofs.Laws.{put-empty}
+use Rattle.beginning.proofs.Starts.{map-passed, map-refused}
+use Rattle.beginning.proofs.put_map.Goals as goal
+use Rattle.beginning.proofs.put_map.Goals.{After-sound-sound}
+
+-- what the check of the map says
+is : (c : After-sound-sound) {v : Verdict} → c.sound-sound.result ≡ v
+    → (let a = c.before.before.before.before.args in verdict (map_refusals a.m a.keys.now (length a.classes.now)) ≡ v)
+is c d = sym c.sound-sound.ensures ∙ d
+
+pub returns-in_default : goal.returns-in_default
+returns-in_default c = rw (map-passed _ _ _ (is c.before.before c.in_default.is)) (sym (put-empty _))
+
+pub returns : goal.returns
+returns c =
+    let p = c.before.before in
+    let d = p.before.before.before in
+    rw (map-refused _ _ _ (is d.before.before d.in-Refused.is)) p.put_refusal.ensures

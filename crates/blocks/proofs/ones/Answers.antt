@@ -1,0 +1,18 @@
+-- `blocks::ones` meets its contract: E of k bits 1 is k digits 1.
+use mathlib.Core.Path.{ap, ◌∙◌}
+use Prim.Native.Nat.{ℕ, ◌-◌}
+use native.Mathlib.Omega.{arith}
+use Rattle.key.specs.Spread.{spread}
+use Rattle.key.proofs.Loops.{bit, spread-is-ones}
+use Rattle.blocks.proofs.ones.Goals as goal
+
+pub overflow_sub-k : goal.overflow_sub-k
+overflow_sub-k c = omega (arith, bit c.args.k c.requires.1)
+
+pub spread-requires : goal.spread-requires
+spread-requires c = (c.requires.0, omega (arith, bit c.args.k c.requires.1))
+
+pub returns : goal.returns
+returns c =
+    let k = c.before.args.k in
+    c.spread.ensures ∙ ap (λ (x : ℕ). spread 5 (x - 1)) (bit k c.before.requires.1).is ∙ spread-is-ones k

@@ -1,0 +1,15 @@
+-- `blocks::pow5` meets its contract: E of a power of two is that power of 5.
+use mathlib.Core.Path.{ap, ◌∙◌}
+use native.Mathlib.Omega.{arith}
+use Rattle.key.specs.Spread.{spread}
+use Rattle.key.proofs.Loops.{spread-power, bit}
+use Rattle.key.proofs.Laws.{power}
+use Rattle.blocks.proofs.pow5.Goals as goal
+
+pub spread-requires : goal.spread-requires
+spread-requires c = (c.requires.0, omega (arith, bit c.args.k c.requires.1))
+
+pub returns : goal.returns
+returns c =
+    let k = c.before.args.k in
+    power 4 k (c.spread.ensures ∙ ap (spread 5) (bit k c.before.requires.1).is ∙ spread-power 5 k) c.before.requires.1

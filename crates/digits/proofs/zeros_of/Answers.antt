@@ -1,0 +1,22 @@
+use Prim.Native.Nat.{◌-◌}
+use native.Mathlib.Omega.{arith}
+use Rattle.key.proofs.Loops.{ending-first, ending-next, ending-some, ending-all}
+use Rattle.digits.proofs.zeros_of.Goals as goal
+
+pub loop-zeros-init : goal.loop-zeros-init
+loop-zeros-init c = ending-first _ _
+
+pub returns-then-rest-ne0 : goal.returns-then-rest-ne0
+returns-then-rest-ne0 c = ending-some c.before.before.loop-zeros.invariant c.if-rest-ne0.true
+
+pub overflow_add-zeros : goal.overflow_add-zeros
+overflow_add-zeros c = omega (arith, c.before.before.before.requires, c.before.loop-zeros-test)
+
+pub loop-zeros-smaller : goal.loop-zeros-smaller
+loop-zeros-smaller c = omega (arith, c.before.loop-zeros-test)
+
+pub loop-zeros-preserved : goal.loop-zeros-preserved
+loop-zeros-preserved c = ending-next c.before.before.loop-zeros.invariant (omega (arith, c.before.loop-zeros-test)) c.if-rest-ne0.false
+
+pub returns : goal.returns
+returns c = ending-all c.before.loop-zeros.invariant (omega (arith, c.loop-zeros-test))

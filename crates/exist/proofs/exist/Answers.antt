@@ -1,0 +1,28 @@
+-- `exist::exist` meets its contract. Each test decides what its law in `Tables` says.
+use mathlib.Core.Path.{◌≡◌, sym, ◌∙◌}
+use mathlib.Core.Bool.{true}
+use lib.ListN.{length}
+use Rattle.answers.specs.declared.Verdict.TheVariants.{Passed}
+use Rattle.answers.specs.Refusals.{verdict}
+use Rattle.used.specs.Used.{use_refusals}
+use Rattle.used.proofs.Laws.{use-known, use-same, use-whole}
+use Rattle.exist.proofs.Tables.{exist-refused, exist-done}
+use Rattle.exist.proofs.exist.Goals as goal
+use Rattle.exist.proofs.exist.Goals.{In_default}
+
+pub returns-in-Refused : goal.returns-in-Refused
+returns-in-Refused c = sym (exist-refused _ _ _ _ _ _ _ _ (sym c.before.before.before.usable-verdict.ensures ∙ c.before.in-Refused.is))
+
+-- where refusals 1 to 7 do not hold
+passed : (c : In_default)
+    → let a = c.before.before.before.before.before.before.args in
+    verdict (use_refusals a.m a.keys.now (length a.classes.now) a.window (length a.border-1.now)) ≡ Passed
+passed c = sym c.before.before.usable-verdict.ensures ∙ c.in_default.is
+
+pub seek-requires : goal.seek-requires
+seek-requires c =
+    let ok = passed c.before.before.before in
+    (c.before.before.spread_table-table.ensures, use-known true _ _ _ _ _ ok, use-same true _ _ _ _ _ ok, use-whole _ _ _ _ _ ok)
+
+pub returns : goal.returns
+returns c = c.before.before.seek.ensures ∙ sym (exist-done _ _ _ _ _ _ _ _ (passed c.before.before.before.before.before.before))

@@ -1,0 +1,129 @@
+use mathlib.Core.Path.{◌≡◌, ap, sym, ◌∙◌}
+use mathlib.Core.Bool.{Bool, cond}
+use mathlib.Core.List.{List}
+use Prim.Native.Nat.{ℕ}
+use native.Mathlib.Omega.{arith}
+use lib.ListN.{length}
+use Rattle.answers.specs.After.{after}
+use Rattle.window.proofs.Laws.{inside-12}
+use Rattle.border.proofs.Laws.{fresh-same, fresh-usable, fresh-spent, finding-first, finding-usable, finding-spent, finding-last, Opens, finds-opens}
+use Rattle.used.specs.Used.{Usable, spent}
+use Rattle.exist.specs.declared.Existence.TheVariants.{CannotTell, No}
+use Rattle.exist.specs.Exist.{existing}
+use Rattle.exist.proofs.Seeking.{seeking-first, seeking-next, seeking-found, seeking-last}
+use Rattle.exist.proofs.Tables.{existing-yes, existing-none}
+use Rattle.exist.proofs.seek.Goals as goal
+use Rattle.exist.proofs.seek.Goals.{After-fill, After-look-looked, After-next_opening-found, After-slice_known-then-looked-1, At-loop-first, In-Opening, In_default, Start}
+
+pub fill-requires : goal.fill-requires
+fill-requires c = (omega arith, omega (arith, c.before.before.before.before.before.requires.1.wide))
+
+pub loop-first-init : goal.loop-first-init
+loop-first-init c =
+    let p = c.before.before.before.before.before.before.before.before.before.requires in
+    rw c.start-at.ensures (seeking-first _ _ (finding-first _ p.1 c.before.before.before.fill.ensures))
+
+-- at a turn: what was there before the loop, and the map and the window with the border that was filled
+module _ (c : At-loop-first) where
+  abbrev first : Start
+  first = c.before.before.before.before.before.before.before.before.before.before
+
+  abbrev fresh : After-fill
+  fresh = c.before.before.before.before
+
+  usable : Usable first.args.m first.args.m first.args.keys.now first.args.window (length fresh.fill.last.0)
+  usable = fresh-usable _ first.requires.1 fresh.fill.ensures
+
+pub next_opening-found-requires : goal.next_opening-found-requires
+next_opening-found-requires c = let at = c.before in ((first at).requires.0, finding-usable at.loop-first.invariant.finding (usable at), at.loop-first.invariant.finding.reached)
+
+-- where nothing is left to be found
+module _ (c : In_default) where
+  abbrev asked : After-next_opening-found
+  asked = c.before.before.before.before
+
+  abbrev last : At-loop-first
+  last = asked.before.before
+
+  abbrev left : List ℕ
+  left = asked.next_opening-found.last.1.1.1.1.1.1.0
+
+  ended : let a = (first last).args in
+      (length left ≡ length a.border-1.now)
+      × (after (cond last.loop-first.unseen CannotTell No) left ≡ existing a.m a.keys.now a.classes.now a.window a.class a.border-1.now)
+  ended =
+      let p = (first last).requires in
+      let end = finding-last last.loop-first.invariant.finding asked.next_opening-found.ensures c.in_default.is in
+      let known = seeking-last _ _ p.1 p.3 last.loop-first.invariant asked.next_opening-found.ensures c.in_default.is in (
+        end.2.same ∙ fresh-same _ p.1 (fresh last).fill.ensures,
+        existing-none _ _ _ _ known.0 known.1 (end.1 ∙ fresh-spent _ p.1 (fresh last).fill.ensures),
+      )
+
+pub shape_of-border-then-unseen : goal.shape_of-border-then-unseen
+shape_of-border-then-unseen c = (ended c.before).0
+
+pub returns-then-unseen : goal.returns-then-unseen
+returns-then-unseen c = ap (λ (u : Bool). after (cond u CannotTell No) (left c.before)) (sym c.if-unseen.true) ∙ (ended c.before).1
+
+pub shape_of-border-else-unseen : goal.shape_of-border-else-unseen
+shape_of-border-else-unseen c = (ended c.before).0
+
+pub returns-else-unseen : goal.returns-else-unseen
+returns-else-unseen c = ap (λ (u : Bool). after (cond u CannotTell No) (left c.before)) (sym c.if-unseen.false) ∙ (ended c.before).1
+
+-- the arm of an opening
+module _ (c : In-Opening) where
+  abbrev answered : After-next_opening-found
+  answered = c.before.before.before.before.before
+
+  abbrev turn : At-loop-first
+  turn = answered.before.before
+
+  opens : Opens turn.loop-first.invariant.finding c.before.in-Opening.is answered.next_opening-found.last.1.1.1.1.1.1.0
+  opens = finds-opens (first turn).requires.1 turn.loop-first.invariant.finding c.before.in-Opening.is answered.next_opening-found.ensures
+
+pub look-looked-requires : goal.look-looked-requires
+look-looked-requires c =
+    let p = (first (turn c)).requires in
+    (omega (arith, (opens c).room, p.2), omega (arith, p.1.few, p.2))
+
+pub overflow_add-window : goal.overflow_add-window
+overflow_add-window c = let u = (first (turn c.before.before.before.before)).requires.1 in let i = inside-12 u.small u.inside in omega (arith, i)
+
+pub fill-requires-then-looked : goal.fill-requires-then-looked
+fill-requires-then-looked c = let of = c.before.before.before.before in (omega arith, (finding-usable (opens of).next (usable (turn of))).wide)
+
+-- the border, where a record has the class
+module _ (c : After-slice_known-then-looked-1) where
+  abbrev looked : After-look-looked
+  looked = c.before.before.before.before.before.before
+
+  abbrev at : At-loop-first
+  at = turn looked.before
+
+  abbrev filled : List ℕ
+  filled = c.before.before.fill-then-looked.new.0
+
+  spent-now : (filled ≡ spent (first at).args.window (fresh at).fill.last.0) × (length filled ≡ length (fresh at).fill.last.0)
+  spent-now = finding-spent (opens looked.before).next (usable at) c.before.before.fill-then-looked.ensures
+
+pub shape_of-border-then-looked : goal.shape_of-border-then-looked
+shape_of-border-then-looked c = (spent-now c).1 ∙ fresh-same _ (first (at c)).requires.1 (fresh (at c)).fill.ensures
+
+pub returns-then-looked : goal.returns-then-looked
+returns-then-looked c =
+    existing-yes _ _ _ _
+    (seeking-found _ _ (first (at c)).requires.1 (first (at c)).requires.3 (at c).loop-first.invariant (opens (looked c).before)
+    (sym (looked c).look-looked.ensures.0 ∙ c.before.before.before.before.before.if-looked.true))
+    ((spent-now c).0 ∙ fresh-spent _ (first (at c)).requires.1 (fresh (at c)).fill.ensures)
+
+pub loop-first-smaller : goal.loop-first-smaller
+loop-first-smaller c = (opens c.before.before.before).fewer
+
+pub loop-first-preserved : goal.loop-first-preserved
+loop-first-preserved c =
+    let looked = c.before.before in
+    let at = turn looked.before in
+    seeking-next _ _ (first at).requires.1 (first at).requires.3 at.loop-first.invariant (opens looked.before)
+    (sym looked.look-looked.ensures.0 ∙ c.before.if-looked.false)
+    looked.look-looked.ensures.1

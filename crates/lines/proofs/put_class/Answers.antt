@@ -1,0 +1,14 @@
+-- `lines::put_class` meets its contract.
+use mathlib.Core.Path.{sym}
+use Rattle.text.proofs.Laws.{put-empty}
+use Rattle.lines.proofs.Turns.{class-none, class-some}
+use Rattle.lines.proofs.put_class.Goals as goal
+
+pub returns-then-pixels-eq0 : goal.returns-then-pixels-eq0
+returns-then-pixels-eq0 c = rw (class-none c.before.before.args.class c.if-pixels-eq0.true) (sym (put-empty _))
+
+pub returns : goal.returns
+returns c =
+    let put = c.before.before in
+    let some = put.before.before.before in
+    rw (class-some some.before.before.args.class some.if-pixels-eq0.false) put.put_line.ensures

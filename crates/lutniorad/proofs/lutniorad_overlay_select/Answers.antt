@@ -1,0 +1,7 @@
+-- `lutniorad_overlay_select` meets its contract: what select answers, as numbers.
+use mathlib.Core.Path.{refl}
+use Rattle.lutniorad.proofs.Crossing.{crossing}
+use Rattle.lutniorad.proofs.lutniorad_overlay_select.Goals as goal
+
+pub returns : goal.returns
+returns c = crossing refl c.of_select_over.ensures c.before.before.before.before.before.select.ensures

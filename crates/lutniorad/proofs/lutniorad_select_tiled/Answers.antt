@@ -1,0 +1,7 @@
+-- `lutniorad_select_tiled` meets its contract: what select answers, as numbers.
+use mathlib.Core.Path.{refl}
+use Rattle.lutniorad.proofs.Crossing.{crossing}
+use Rattle.lutniorad.proofs.lutniorad_select_tiled.Goals as goal
+
+pub returns : goal.returns
+returns c = crossing refl c.of_selected.ensures c.before.before.before.before.before.select.ensures

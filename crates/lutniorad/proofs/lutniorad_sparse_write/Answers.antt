@@ -1,0 +1,7 @@
+-- `lutniorad_sparse_write` meets its contract: what writing answers, as numbers.
+use mathlib.Core.Path.{refl}
+use Rattle.lutniorad.proofs.Crossing.{crossing}
+use Rattle.lutniorad.proofs.lutniorad_sparse_write.Goals as goal
+
+pub returns : goal.returns
+returns c = crossing refl c.of_writing.ensures c.before.before.before.write.ensures

@@ -1,0 +1,61 @@
+use Prim.Native.Nat.{◌-◌}
+use native.Mathlib.Omega.{arith}
+use Rattle.many.proofs.Loops.{telling-first, telling-wide, telling-room, telling-next, telling-last}
+use Rattle.many.proofs.put_lines.Goals as goal
+use Rattle.many.proofs.put_lines.Goals.{After-slice_known-in-loop-i-2-1, After-table-1, At-loop-i, Start}
+
+pub loop-i-init : goal.loop-i-init
+loop-i-init c = telling-first _ _ _ _ _
+
+-- at a turn, and what was there before the loop
+abbrev turn : After-table-1 → At-loop-i
+turn c = c.before.before
+
+abbrev start : At-loop-i → Start
+start c = c.before.before.before.before.before.before
+
+-- in the end of a turn
+abbrev told : After-slice_known-in-loop-i-2-1 → After-table-1
+told c = c.before.before.before.before.before.before.before.before.before
+
+pub window_at-requires : goal.window_at-requires
+window_at-requires c = omega (arith, c.before.loop-i-test.true)
+
+pub line_of-line-requires : goal.line_of-line-requires
+line_of-line-requires c =
+    let at = turn c.before.before in
+    let first = start at in (
+      at.before.spread_table-table.ensures,
+      first.requires.0,
+      rw c.before.window_at.ensures (telling-wide _ _ _ _ _ first.requires.1 first.requires.2 at.loop-i.invariant c.before.before.before.loop-i-test.true),
+    )
+
+pub put_line-requires : goal.put_line-requires
+put_line-requires c =
+    let table = c.before.before.before.before.before.before in
+    let at = turn table in
+    telling-room _ _ _ _ _ (start at).requires.1 (start at).requires.2 at.loop-i.invariant table.before.loop-i-test.true
+
+pub loop-i-smaller : goal.loop-i-smaller
+loop-i-smaller c = omega (arith, (told c).before.loop-i-test.true)
+
+pub loop-i-preserved : goal.loop-i-preserved
+loop-i-preserved c =
+    let line = c.before.before.before.before.before.before in
+    let at = turn (told c) in
+    let same = line.before.before.window_at.ensures in
+    telling-next
+    _ _ _ _ _ (start at).requires.1 (start at).requires.2 at.loop-i.invariant (told c).before.loop-i-test.true
+    (rw (← same) line.Line-of.ensures.0)
+    (rw (← same) line.Line-of.ensures.1)
+    line.Line-of.auto.1.1.1.1.0
+    c.before.before.put_line.ensures
+
+pub shape_of-border : goal.shape_of-border
+shape_of-border c = c.before.loop-i.invariant.long
+
+pub shape_of-out : goal.shape_of-out
+shape_of-out c = c.before.loop-i.invariant.lines.same
+
+pub returns : goal.returns
+returns c = telling-last _ _ _ _ _ c.before.loop-i.invariant c.loop-i-test.false

@@ -1,0 +1,5 @@
+-- `near::none_seen` meets its contract.
+use Rattle.near.proofs.none_seen.Goals as goal
+
+pub returns : goal.returns
+returns c = rw (c.seen_with.ensures, c.before.inside.ensures, c.before.before.near_to-nowhere.ensures)

@@ -1,0 +1,14 @@
+use Prim.Native.Nat.{◌-◌}
+use native.Mathlib.Omega.{arith}
+use borrow.Author.Rules.{rules}
+use Rattle.answers.proofs.Laws.{filling-first, copy-next, list-last}
+use Rattle.numbers.proofs.copy.Goals as goal
+
+pub loop-i-init : goal.loop-i-init
+loop-i-init c = (omega arith, filling-first _)
+
+pub loop-i-preserved : goal.loop-i-preserved
+loop-i-preserved c = (search rules, copy-next c.before.before.before.args.from.now c.before.before.loop-i.i c.before.before.loop-i.invariant.1 (search rules) (search rules))
+
+pub returns : goal.returns
+returns c = list-last (λ xs. xs) c.before.before.args.from.now c.before.loop-i.i c.before.loop-i.invariant.1 (omega (arith, c.loop-i-test.false))

@@ -1,0 +1,116 @@
+-- `open::open` meets its contract. Each test decides what its law in `Opening` says; what the pass that counts leaves is `Passed`.
+use mathlib.Core.Path.{◌≡◌, sym, ap, ◌∙◌}
+use mathlib.Core.Logic.{⊎_elim}
+use mathlib.Core.List.{List}
+use Prim.Native.Nat.{ℕ, ◌*◌, ◌≤◌}
+use native.Mathlib.Omega.{arith}
+use lib.ListN.{length}
+use Rattle.answers.specs.declared.Verdict.TheVariants.{Passed}
+use Rattle.answers.specs.Refusals.{verdict}
+use Rattle.window.specs.Window.{Inside}
+use Rattle.window.specs.Walk.{most_blocks}
+use Rattle.window.proofs.Laws.{inside-12, blocks-most, most-small}
+use Rattle.border.specs.Openings.{Opening, openings}
+use Rattle.border.proofs.Loops.{passed-nothing}
+use Rattle.border.proofs.Laws.{openings-most}
+use Rattle.used.specs.Used.{Usable, tiled_refusals}
+use Rattle.used.proofs.Laws.{tiled-known}
+use Rattle.open.proofs.Opening.{open-refused, open-short, Writable, writable-first, writable-counted, written_same, written_all}
+use Rattle.open.proofs.open.Goals as goal
+use Rattle.open.proofs.open.Goals.{After-most_blocks, After-pass-counted, After-struct_known-1, In_default, Joined-out-most_blocks, Start}
+
+pub returns-in-Refused : goal.returns-in-Refused
+returns-in-Refused c = sym (open-refused _ _ _ _ _ _ _ _ (sym c.before.before.before.usable_tiled-verdict.ensures ∙ c.before.in-Refused.is))
+
+-- where refusals 1 to 7 and 17 do not hold
+module _ (c : In_default) where
+  abbrev asked : Start
+  asked = c.before.before.before.before.before.before.before
+
+  abbrev all : List Opening
+  all = openings asked.args.m asked.args.top asked.args.keys.now asked.args.window
+
+  passed : verdict (tiled_refusals asked.args.whole asked.args.m asked.args.top asked.args.keys.now (length asked.args.classes.now)
+      asked.args.window (length asked.args.border-1.now)) ≡ Passed
+  passed = sym c.before.before.usable_tiled-verdict.ensures ∙ c.in_default.is
+
+  known : Usable asked.args.m asked.args.top asked.args.keys.now asked.args.window (length asked.args.border-1.now)
+  known = tiled-known _ _ _ _ _ _ _ passed
+
+  drawn : Inside 12 asked.args.window
+  drawn = inside-12 known.small known.inside
+
+  few : length all ≤ most_blocks asked.args.window asked.args.top
+  few = omega (arith, openings-most known.spaced known.inside known.cap, blocks-most asked.args.window asked.args.top known.inside)
+
+  small : most_blocks asked.args.window asked.args.top ≤ 16809982
+  small = most-small asked.args.window asked.args.top drawn
+
+pub most_blocks-requires : goal.most_blocks-requires
+most_blocks-requires c = let k = known c.before in (omega (arith, k.cap, k.small), drawn c.before)
+
+-- behind the number of openings that there can be
+abbrev clear : After-most_blocks → In_default
+clear c = c.before.before
+
+pub overflow_mul-most_blocks : goal.overflow_mul-most_blocks
+overflow_mul-most_blocks c = omega (arith, c.most_blocks.ensures, small (clear c))
+
+pub pass-counted-requires : goal.pass-counted-requires
+pass-counted-requires c = let k = c.before.before.before.before in (k.before.spread_table-table.ensures, known (clear k))
+
+-- how many cells the pass that counts says are needed
+module _ (c : After-struct_known-1) where
+  abbrev counted : After-pass-counted
+  counted = c.before.before.before.before.before
+
+  abbrev of : In_default
+  of = clear counted.before.before.before.before.before
+
+  needed : 3 * counted.pass-counted.result.openings ≡ 3 * length (all of)
+  needed = ap (λ (n : ℕ). 3 * n) counted.pass-counted.ensures.many
+
+pub overflow_mul-needed : goal.overflow_mul-needed
+overflow_mul-needed c = omega (arith, needed c, few (of c), small (of c))
+
+pub returns-then-out-needed : goal.returns-then-out-needed
+returns-then-out-needed c =
+    let k = c.before in
+    let p = (counted k).pass-counted.ensures in
+    let none = passed-nothing (asked (of k)).args.out-1.now p in
+    open-short _ _ _ _ _ _ _ _ (passed (of k)) (needed k) (omega (arith, c.if-out-needed.true, ap length none)) p.ends none
+
+-- where the openings are written
+module _ (c : Joined-out-most_blocks) where
+  abbrev told : In_default
+  told = clear c.before
+
+  abbrev lent : Start
+  lent = asked told
+
+  ready : Writable lent.args.m lent.args.top lent.args.keys.now lent.args.window lent.args.border-1.now lent.args.out-1.now c.if-out-most_blocks.border-1 c.if-out-most_blocks.out-1
+  ready =
+      ⊎_elim
+      (λ w. writable-counted w.4.ensures (known told).wide w.11 w.12 (omega (arith, w.10.left)))
+      (λ w. writable-first w.1 w.2 (omega (arith, few told, c.before.most_blocks.ensures, w.0.left)))
+      c.if-out-most_blocks.branch
+
+pub pass-totals-requires : goal.pass-totals-requires
+pass-totals-requires c =
+    let k = c.before.before.before in
+    (k.before.before.spread_table-table.ensures, rw (ready k).long (known (told k)))
+
+pub shape_of-border : goal.shape_of-border
+shape_of-border c =
+    let k = c.before.before.before.before.before.before.before.before in
+    (written_same (ready k) c.before.before.before.before.pass-totals.ensures (known (told k)).wide).0
+
+pub shape_of-out : goal.shape_of-out
+shape_of-out c =
+    let k = c.before.before.before.before.before.before.before.before in
+    (written_same (ready k) c.before.before.before.before.pass-totals.ensures (known (told k)).wide).1
+
+pub returns : goal.returns
+returns c =
+    let k = c.before.before.before.before.before.before.before.before in
+    written_all (ready k) c.before.before.before.before.pass-totals.ensures _ _ (passed (told k))

@@ -1,0 +1,67 @@
+use Prim.Native.Nat.{◌≤◌}
+use native.Mathlib.Omega.{arith}
+use Rattle.window.specs.declared.Next.TheVariants.{Block}
+use Rattle.window.specs.Walk.{Goes}
+use Rattle.window.proofs.Laws.{inside-12, goes-less}
+use Rattle.border.specs.Found.{walk}
+use Rattle.border.proofs.Loops.{reached-done, skipping-first, skipping-end, skipping-ready, skipping-kept, skipping-next, skipping-room, skipping-found}
+use Rattle.openings.proofs.next_opening.Goals as goal
+use Rattle.openings.proofs.next_opening.Goals.{At-loop-row, In-Block, In-Opened, Start}
+
+pub returns-then-left-eq0 : goal.returns-then-left-eq0
+returns-then-left-eq0 c = reached-done c.before.before.before.requires.2 c.if-left-eq0.true
+
+pub loop-row-init : goal.loop-row-init
+loop-row-init c = skipping-first c.before.before.before.requires.2
+
+pub next_block-next-requires : goal.next_block-next-requires
+next_block-next-requires c = let u = c.before.before.before.before.requires.1 in (omega (arith, u.small, u.cap), inside-12 u.small u.inside, c.loop-row.invariant.reached.walked.cursor)
+
+pub shape_of-border-in_default : goal.shape_of-border-in_default
+shape_of-border-in_default c = c.before.before.before.loop-row.invariant.kept.same
+
+pub returns-in_default : goal.returns-in_default
+returns-in_default c = skipping-end c.before.before.before.loop-row.invariant (rw c.in_default.is at c.before.before.next_block-next.ensures)
+
+-- the arm of a block: where the loop is, and what the walk says
+module _ (c : In-Block) where
+  abbrev turn : At-loop-row
+  turn = c.before.before.before.before
+
+  abbrev start : Start
+  start = c.before.before.before.before.before.before.before.before
+
+  goes : Goes start.args.window start.args.top (turn.loop-row.r, turn.loop-row.c)
+      (Block c.before.in-Block.row c.before.in-Block.col c.before.in-Block.exponent c.before.in-Block.after)
+  goes = rw c.before.in-Block.is at c.before.before.before.next_block-next.ensures
+
+pub step-stepped-requires : goal.step-stepped-requires
+step-stepped-requires c = let at = c.before in ((start at).requires.0, skipping-ready (turn at).loop-row.invariant (start at).requires.1 (goes at))
+
+-- the arm of an opened block
+module _ (c : In-Opened) where
+  abbrev at : In-Block
+  at = c.before.before.before.before.before.before.before
+
+  room : c.before.in-Opened.closed ≤ (start at).args.at.left
+  room = skipping-room (turn at).loop-row.invariant (start at).requires.1 (goes at) c.before.before.before.before.before.step-stepped.ensures c.before.in-Opened.is
+
+pub overflow_sub-left : goal.overflow_sub-left
+overflow_sub-left c = room c
+
+pub shape_of-border-in-Opened : goal.shape_of-border-in-Opened
+shape_of-border-in-Opened c = let k = c.before in (skipping-kept (turn (at k)).loop-row.invariant (start (at k)).requires.1 (goes (at k)) k.before.before.before.before.before.step-stepped.ensures).same
+
+pub returns-in-Opened : goal.returns-in-Opened
+returns-in-Opened c =
+    let k = c.before in
+    rw c.walk_from.ensures
+    (skipping-found (turn (at k)).loop-row.invariant (start (at k)).requires.1 (goes (at k)) k.before.before.before.before.before.step-stepped.ensures k.before.in-Opened.is (omega (arith, room k)))
+
+pub loop-row-smaller : goal.loop-row-smaller
+loop-row-smaller c = goes-less (goes c.before.before.before.before.before.before)
+
+pub loop-row-preserved : goal.loop-row-preserved
+loop-row-preserved c =
+    let at = c.before.before.before.before.before.before in
+    skipping-next (turn at).loop-row.invariant (start at).requires.1 (goes at) c.before.before.before.before.step-stepped.ensures c.in_default-stepped.is

@@ -1,0 +1,60 @@
+-- `overlay::list_class` meets its contract. The pass that counts writes nothing; where keys are written there is room for all.
+use mathlib.Core.Path.{◌≡◌, ap, ◌∙◌}
+use mathlib.Core.Logic.{⊎_elim}
+use mathlib.Core.List.{List}
+use Prim.Native.Nat.{ℕ, ◌*◌, ◌≤◌}
+use native.Mathlib.Omega.{arith}
+use lib.ListN.{length}
+use Rattle.answers.proofs.Laws.{listed-nothing, listed_same}
+use Rattle.window.proofs.Laws.{inside-12, pixels-most}
+use Rattle.select.proofs.Laws.{keys-short, keys-done}
+use Rattle.pieces.specs.Pair.{class_over_map}
+use Rattle.overlay.specs.Select.{class_selection}
+use Rattle.overlay.proofs.Blocks.{class-most}
+use Rattle.overlay.proofs.list_class.Goals as goal
+use Rattle.overlay.proofs.list_class.Goals.{Joined-out-most, Start}
+
+-- what is lent, and chosen from it
+module _ (entry : Start) where
+  abbrev rule : ℕ → ℕ
+  rule = class_over_map entry.args.m entry.args.keys.now entry.args.classes.now entry.args.base.now entry.args.beneath.now
+
+  abbrev chosen : List ℕ
+  chosen = class_selection entry.args.m rule entry.args.window entry.args.class
+
+  abbrev lent : List ℕ
+  lent = entry.args.out-1.now
+
+  few : length chosen ≤ entry.args.window.h * entry.args.window.w
+  few = class-most entry.args.m rule entry.args.class entry.requires.0.today entry.requires.1
+
+pub overflow_mul-most : goal.overflow_mul-most
+overflow_mul-most c = let e = c.before.before.before.before.before.before.before in omega (arith, pixels-most e.args.window (inside-12 e.requires.0.small e.requires.1))
+
+pub returns-then-out-needed : goal.returns-then-out-needed
+returns-then-out-needed c =
+    let k = c.before.before.before.before.before.before.before.before.before.before.before.before.before in
+    let L = c.before.before.before.put_all-needed.ensures in
+    let same = listed-nothing {xs = chosen k} L (lent k) in
+    keys-short (chosen k) (lent k) (omega (arith, L.count)) (omega (arith, c.if-out-needed.true, ap length same)) same
+
+-- where the keys are written: the slice is as it was, and has room for all
+abbrev start : Joined-out-most → Start
+start c = c.before.before.before.before.before.before.before.before
+
+ready : (c : Joined-out-most) → (c.if-out-most.out-1 ≡ lent (start c)) × (length (chosen (start c)) ≤ length (lent (start c)))
+ready c =
+    let e = start c in
+    ⊎_elim
+    (λ w. let same = listed-nothing {xs = chosen e} w.2.ensures (lent e) in (w.6 ∙ same, omega (arith, w.2.ensures.count, w.5.left, ap length same)))
+    (λ w. (w.1, omega (arith, few e, w.0.left)))
+    c.if-out-most.branch
+
+pub shape_of-out : goal.shape_of-out
+shape_of-out c = listed_same c.before.before.put_all-count.ensures ∙ ap length (ready c.before.before.before.before).0
+
+pub returns : goal.returns
+returns c =
+    let j = c.before.before.before.before in
+    let r = ready j in
+    keys-done (chosen (start j)) _ (rw r.0 at c.before.before.put_all-count.ensures) r.1

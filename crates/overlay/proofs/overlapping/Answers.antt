@@ -1,0 +1,71 @@
+-- `overlay::overlapping` meets its contract.
+use mathlib.Core.Path.{refl}
+use Prim.Native.Nat.{◌+◌, ◌^◌, ◌≤◌}
+use native.Mathlib.Omega.{arith}
+use Rattle.key.proofs.Laws.{block-lies, pow-most}
+use Rattle.map.specs.Runs.{Splits}
+use Rattle.map.proofs.Laws.{keys-rise}
+use Rattle.pieces.proofs.Laws.{at_room}
+use Rattle.overlay.proofs.Meets.{meets-bracket, meets-order, meets}
+use Rattle.overlay.proofs.overlapping.Goals as goal
+use Rattle.overlay.proofs.overlapping.Goals.{After-keys_below, After-pow5, After-seek-from, After-span_of-block, Start}
+
+-- behind the block's span
+abbrev entry : After-span_of-block → Start
+entry c = c.before.before
+
+pub seek-from-requires : goal.seek-from-requires
+seek-from-requires c =
+    let b = c.before in
+    let p = (entry b).requires in
+    (p.0, p.2, record { exponent = b.Span-of.result.exponent; names = b.Span-of.ensures })
+
+pub pow5-requires : goal.pow5-requires
+pow5-requires c =
+    let b = c.before.before.before in
+    (c.before.before.spread_table-table.ensures, omega (arith, (block-lies b.Span-of.ensures).small, (entry b).requires.0))
+
+-- and behind the first record
+module _ (c : After-pow5) where
+  abbrev sought : After-seek-from
+  sought = c.before.before
+
+  abbrev block : After-span_of-block
+  block = sought.before.before
+
+pub overflow_add-beyond : goal.overflow_add-beyond
+overflow_add-beyond c =
+    let b = block c in
+    omega (arith, (block-lies b.Span-of.ensures).keys, pow-most 4 _ (entry b).requires.0, c.pow5.ensures.is)
+
+pub keys_below-requires : goal.keys_below-requires
+keys_below-requires c =
+    let b = block c in
+    let F = (entry b).requires.2 in
+    (keys-rise F, rw c.pow5.ensures.is (meets-bracket F b.Span-of.ensures (sought c).seek-from.ensures))
+
+-- the records that overlap it
+module _ (c : After-keys_below) where
+  abbrev powered : After-pow5
+  powered = c.before
+
+  abbrev found : After-span_of-block
+  found = block powered
+
+  splits : Splits (entry found).args.keys.now ((entry found).args.key + 5 ^ found.Span-of.result.exponent) c.keys_below.result
+  splits = rw powered.pow5.ensures.is at c.keys_below.ensures
+
+  order : (sought powered).seek-from.result.next ≤ c.keys_below.result
+  order = meets-order (entry found).requires.2 found.Span-of.ensures (sought powered).seek-from.ensures splits
+
+pub overflow_sub-count : goal.overflow_sub-count
+overflow_sub-count c = omega (arith, order c)
+
+pub overflow_cast-result : goal.overflow_cast-result
+overflow_cast-result c = omega (arith, at_room (sought (powered c)).seek-from.ensures, (entry (found c)).requires.1)
+
+pub overflow_cast-result-2 : goal.overflow_cast-result-2
+overflow_cast-result-2 c = omega (arith, order c, (splits c).room, (entry (found c)).requires.1)
+
+pub returns : goal.returns
+returns c = meets (entry (found c)).requires.2 (found c).Span-of.ensures (sought (powered c)).seek-from.ensures (splits c) refl refl

@@ -1,0 +1,57 @@
+-- `overlay::part` meets its contract: the part that `view` names is within its slice.
+use mathlib.Core.Path.{◌≡◌, sym, ap, ◌∙◌}
+use Prim.Native.Nat.{ℕ, ◌+◌, ◌≤◌}
+use native.Mathlib.Nat.{add-sub_cancel_left}
+use native.Mathlib.Omega.{arith}
+use lib.ListN.{length, take, drop}
+use Rattle.overlay.specs.declared.Viewed.TheVariants.{Today, Baseline}
+use Rattle.overlay.specs.Overlay.{view_of, part_in}
+use Rattle.overlay.proofs.Views.{view-within, view-under}
+use Rattle.overlay.proofs.part.Goals as goal
+use Rattle.overlay.proofs.part.Goals.{In-Baseline-2, In-Today-2, Start}
+
+-- today's part
+module _ (c : In-Today-2) where
+  abbrev own : Start
+  own = c.before.before.before.before.before.before.before
+
+  own_is : view_of own.args.m own.args.keys.now (length own.args.classes.now) own.args.depth own.args.base.now (length own.args.beneath.now) own.args.key
+      ≡ Today c.in-Today.first c.in-Today.count
+  own_is = sym c.before.before.view-viewed.ensures ∙ c.in-Today.is
+
+  own_room : c.in-Today.first + c.in-Today.count ≤ length own.args.classes.now
+  own_room = view-within _ _ _ _ _ _ _ own_is
+
+pub overflow_add-end : goal.overflow_add-end
+overflow_add-end c = omega (arith, own_room c.before)
+
+pub returns-in-Today : goal.returns-in-Today
+unfolding part_in
+returns-in-Today c =
+    let v = c.before.before in
+    rw (own_is v) (ap (λ (n : ℕ). take n (drop v.in-Today.first (own v).args.classes.now)) (add-sub_cancel_left v.in-Today.first v.in-Today.count))
+
+-- the baseline's part
+module _ (c : In-Baseline-2) where
+  abbrev under : Start
+  under = c.before.before.before.before.before.before.before
+
+  under-is : view_of under.args.m under.args.keys.now (length under.args.classes.now) under.args.depth under.args.base.now (length under.args.beneath.now) under.args.key
+      ≡ Baseline c.in-Baseline.first c.in-Baseline.count
+  under-is = sym c.before.before.view-viewed.ensures ∙ c.in-Baseline.is
+
+  under-room : c.in-Baseline.first + c.in-Baseline.count ≤ length under.args.beneath.now
+  under-room = view-under _ _ _ _ _ _ _ under-is
+
+pub overflow_add-end-in-Baseline : goal.overflow_add-end-in-Baseline
+overflow_add-end-in-Baseline c = omega (arith, under-room c.before)
+
+pub returns-in-Baseline : goal.returns-in-Baseline
+unfolding part_in
+returns-in-Baseline c =
+    let v = c.before.before in
+    rw (under-is v) (ap (λ (n : ℕ). take n (drop v.in-Baseline.first (under v).args.beneath.now)) (add-sub_cancel_left v.in-Baseline.first v.in-Baseline.count))
+
+pub returns-in-Refused : goal.returns-in-Refused
+unfolding part_in
+returns-in-Refused c = rw (sym c.before.before.before.view-viewed.ensures ∙ c.before.in-Refused.is)

@@ -1,0 +1,72 @@
+-- `pieces::advance_whole` meets its contract.
+use mathlib.Core.Path.{refl, ap}
+use Prim.Native.Nat.{ℕ, ◌+◌, ◌≤◌, ◌<◌}
+use native.Mathlib.Omega.{arith}
+use lib.ListN.{length}
+use Rattle.key.proofs.Laws.{pow-most}
+use Rattle.map.proofs.Laws.{spaced}
+use Rattle.pieces.proofs.Cursors.{advance-room}
+use Rattle.pieces.proofs.Whole.{whole-left, whole-held, whole_room}
+use Rattle.pieces.proofs.advance_whole.Goals as goal
+use Rattle.pieces.proofs.advance_whole.Goals.{After-pow4, After-zeros_of, Else-a-cursor, Else-next-keys, Start}
+
+-- where the record ends by the place
+module _ (c : Else-a-cursor) where
+  abbrev entry : Start
+  entry = c.before.before.before
+
+  room : entry.args.cursor.next + 1 ≤ length entry.args.keys.now
+  room = advance-room (spaced entry.requires.2) entry.requires.5 entry.requires.3 (omega (arith, c.if-a-cursor.false))
+
+  small : entry.args.cursor.end ≤ 16777216
+  small = omega (arith, c.if-a-cursor.false, entry.requires.3, pow-most 3 _ entry.requires.0)
+
+-- and another one comes behind it
+module _ (c : Else-next-keys) where
+  abbrev ended : Else-a-cursor
+  ended = c.before.before
+
+  more : (entry ended).args.cursor.next + 1 < length (entry ended).args.keys.now
+  more = omega (arith, room ended, c.if-next-keys.false)
+
+pub overflow_add-next : goal.overflow_add-next
+overflow_add-next c = omega (arith, room c.before, (entry c.before).requires.1)
+
+pub overflow_add-result : goal.overflow_add-result
+overflow_add-result c = omega (arith, small c.before.before)
+
+pub returns-then-next-keys : goal.returns-then-next-keys
+returns-then-next-keys c =
+    let e = c.before.before in
+    let p = (entry e).requires in
+    whole-left p.2 p.5 p.3 (omega (arith, e.if-a-cursor.false)) p.6 refl refl c.if-next-keys.true refl
+
+pub offset_bounds-keys-next : goal.offset_bounds-keys-next
+offset_bounds-keys-next c = omega (arith, more c, (entry (ended c)).requires.1)
+
+pub bounds-keys-next : goal.bounds-keys-next
+bounds-keys-next c = more c.before
+
+pub pow4-requires : goal.pow4-requires
+pow4-requires c = omega (arith, c.zeros_of.ensures.most, (entry (ended c.before.before)).requires.0)
+
+-- behind the exponent of that one
+module _ (c : After-pow4) where
+  abbrev told : After-zeros_of
+  told = c.before
+
+  abbrev other : Else-next-keys
+  other = told.before.before
+
+pub overflow_add-end : goal.overflow_add-end
+overflow_add-end c =
+    let p = (entry (ended (other c))).requires in
+    let fits = whole_room p.2 p.5 (more (other c)) (told c).zeros_of.ensures (omega (arith, p.3, (ended (other c)).if-a-cursor.left)) in
+    omega (arith, fits, c.pow4.ensures.is, pow-most 3 _ p.0)
+
+pub returns : goal.returns
+returns c =
+    let e = ended (other c) in
+    let p = (entry e).requires in
+    whole-held p.2 p.5 p.3 (omega (arith, e.if-a-cursor.left)) p.6 refl refl (more (other c)) (told c).zeros_of.ensures
+    (ap (λ (x : ℕ). (entry e).args.cursor.end + x) c.pow4.ensures.is)

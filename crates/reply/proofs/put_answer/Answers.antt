@@ -1,0 +1,65 @@
+-- `reply::put_answer` meets its contract: the first line, and the rest behind it.
+use mathlib.Core.Path.{refl, sym}
+use mathlib.Core.List.{List, [], append-nil}
+use Prim.Native.Nat.{ℕ, ◌+◌, ◌≤◌}
+use native.Mathlib.Omega.{arith}
+use lib.ListN.{length, length-drop}
+use Rattle.answers.proofs.Laws.{back, lent_is}
+use Rattle.text.proofs.Laws.{put-most, Telling, telling-begin, telling-length, telling-room, telling-part, telling-last}
+use Rattle.lines.specs.Lines.{window_line}
+use Rattle.lines.proofs.Laws.{window-most}
+use Rattle.reply.specs.Reply.{result_of, answer_of}
+use Rattle.reply.proofs.Results.{answer-most}
+use Rattle.reply.proofs.put_answer.Goals as goal
+use Rattle.reply.proofs.put_answer.Goals.{After-put_result, After-put_window-at, Start}
+
+module _ (c : Start) where
+  abbrev all : List ℕ
+  all = answer_of c.args.m c.args.keys.now c.args.classes.now c.args.window
+
+  abbrev rest : List ℕ
+  rest = result_of c.args.m c.args.keys.now c.args.classes.now c.args.window
+
+  room : length all ≤ length c.args.out-1.now
+  room = omega (arith, answer-most c.args.m c.args.keys.now c.args.classes.now c.args.window c.requires.0, c.requires.1)
+
+-- with the first line put: how many bytes it is, and the slice then
+module _ (c : After-put_window-at) where
+  abbrev start : Start
+  start = c.before.before.before.before.before
+
+  abbrev at : ℕ
+  at = c.put_window-at.result
+
+  abbrev begun : List ℕ
+  begun = c.put_window-at.new.1.0
+
+  one : Telling (all start) (rest start) at start.args.out-1.now begun
+  unfolding answer_of
+  one = telling-begin (all start) (window_line start.args.window) (rest start) start.args.out-1.now refl (room start) c.put_window-at.ensures
+
+  short : at ≤ 46
+  short = let W = start.args.window in omega (arith, put-most (window_line W) _ c.put_window-at.ensures, window-most W)
+
+-- and with the rest behind it
+module _ (c : After-put_result) where
+  abbrev first : After-put_window-at
+  first = c.before.before.before.before
+
+  two : Telling (all (start first)) [] (at first + c.put_result.result) (start first).args.out-1.now (back (at first) (begun first) c.put_result.new.1.1.1.1.0)
+  two = telling-part (one first) (rest (start first)) [] (sym (append-nil (rest (start first)))) c.put_result.ensures
+
+pub slice_bounds-put_result-count : goal.slice_bounds-put_result-count
+slice_bounds-put_result-count c = omega (arith, telling-room (one c.before.before))
+
+pub put_result-requires : goal.put_result-requires
+put_result-requires c =
+    let o = c.before.before.before in
+    let pre = (start o).requires in
+    (pre.0, rw (lent_is (at o) (begun o), length-drop) (omega (arith, short o, (one o).filled.same, pre.1)))
+
+pub overflow_add-result : goal.overflow_add-result
+overflow_add-result c = omega (arith, telling-length (two c.before.before), (two c.before.before).room)
+
+pub returns : goal.returns
+returns c = telling-last (two c.before.before) refl

@@ -1,0 +1,61 @@
+-- `reply::put_opened` meets its contract.
+use mathlib.Core.Path.{◌∙◌}
+use mathlib.Core.List.{List}
+use Prim.Native.Nat.{ℕ, ◌*◌, ◌≤◌}
+use native.Mathlib.Omega.{arith}
+use lib.ListN.{take, length-take, length-replicate}
+use Rattle.lines.proofs.Laws.{found-most}
+use Rattle.reply.proofs.Results.{Opening, open-never, open-fits, open-found}
+use Rattle.reply.proofs.put_opened.Goals as goal
+use Rattle.reply.proofs.put_opened.Goals.{After-open-opened, In-Done-2, Start}
+
+-- with the window opened: what was asked, and what the call left in the cells and in the border
+module _ (c : After-open-opened) where
+  abbrev asked : Start
+  asked = c.before.before.before.before.before.before.before.before
+
+  abbrev cells : List ℕ
+  cells = c.«open».new.1.1.1.1.1.1.0
+
+  abbrev border : List ℕ
+  border = c.«open».new.1.1.1.1.1.0
+
+  opening : Opening asked.args.m asked.args.keys.now asked.args.classes.now asked.args.window asked.args.border-1.now c.«open».result border cells
+  opening = record { can = asked.requires.0; is = c.«open».ensures; long = c.«open».auto.1.1.1.1.1.1.0 ∙ length-replicate {A = ℕ} 3000 0 }
+
+-- and where it was not refused
+module _ (c : In-Done-2) where
+  abbrev done : After-open-opened
+  done = c.before.before.before.before.before
+
+  abbrev count : ℕ
+  count = c.in-Done.openings
+
+  fits : 3 * count ≤ 3000
+  fits = open-fits (opening done) c.in-Done.is
+
+pub slice_bounds-cells-end : goal.slice_bounds-cells-end
+slice_bounds-cells-end c = omega (arith, fits c.before, (opening (done c.before)).long)
+
+pub slice_bounds-put_found-end : goal.slice_bounds-put_found-end
+slice_bounds-put_found-end c = simp length-take (omega (arith, fits c.before.before, (opening (done c.before.before)).long))
+
+pub put_found-requires : goal.put_found-requires
+put_found-requires c =
+    let d = c.before.before.before in
+    let s = asked (done d) in
+    let most = found-most (take (3 * count d) (cells (done d))) s.args.totals.now (count d) d.in-Done.records s.args.pixels in
+    (s.requires.1, omega (arith, fits d, length-take (3 * count d) (cells (done d)), most))
+
+pub returns-in-Refused : goal.returns-in-Refused
+returns-in-Refused c =
+    let d = c.before.before.before.before.before in
+    let o = d.before.before.before.before.before in
+    open-never (opening o) d.in-Refused.is
+
+pub returns-in-Done : goal.returns-in-Done
+returns-in-Done c =
+    let put = c.before.before in
+    let d = put.before.before.before.before in
+    let s = asked (done d) in
+    rw (← open-found (opening (done d)) d.in-Done.is s.args.totals.now s.args.pixels) put.put_found.ensures

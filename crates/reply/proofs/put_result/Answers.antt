@@ -1,0 +1,48 @@
+-- `reply::put_result` meets its contract.
+use mathlib.Core.Path.{◌∙◌}
+use mathlib.Core.List.{List}
+use Prim.Native.Nat.{ℕ}
+use native.Mathlib.Omega.{arith}
+use lib.ListN.{length-replicate}
+use Rattle.reply.proofs.Results.{Counting, report-refused, report-passed, report-counted}
+use Rattle.reply.proofs.put_result.Goals as goal
+use Rattle.reply.proofs.put_result.Goals.{After-report-reported, Start}
+
+-- with the pixels counted: what was asked, and what the call left
+module _ (c : After-report-reported) where
+  abbrev asked : Start
+  asked = c.before.before.before.before.before.before
+
+  abbrev border : List ℕ
+  border = c.report-reported.new.1.1.1.1.0
+
+  abbrev totals : List ℕ
+  totals = c.report-reported.new.1.1.1.1.1.0
+
+  counting : Counting asked.args.m asked.args.keys.now asked.args.classes.now asked.args.window c.report-reported.result border totals
+  counting = record {
+    is = c.report-reported.ensures;
+    wide = c.report-reported.auto.1.1.1.1.0 ∙ length-replicate {A = ℕ} 4096 0;
+    long = c.report-reported.auto.1.1.1.1.1.0 ∙ length-replicate {A = ℕ} 256 0;
+  }
+
+pub put_opened-requires : goal.put_opened-requires
+put_opened-requires c =
+    let d = c.before.before.before.before in
+    let q = d.before.before.before.before in
+    let pre = (asked q).requires in
+    (report-passed (counting q) d.in-Done.is pre.0, omega (arith, (counting q).long), pre.1)
+
+pub returns-in-Refused : goal.returns-in-Refused
+returns-in-Refused c =
+    let said = c.before.before in
+    let d = said.before.before.before in
+    let q = d.before.before.before.before in
+    rw (← report-refused (counting q) d.in-Refused.is) said.put_refusal.ensures
+
+pub returns-in-Done : goal.returns-in-Done
+returns-in-Done c =
+    let said = c.before.before.before in
+    let d = said.before.before.before.before.before in
+    let q = d.before.before.before.before in
+    rw (← report-counted (counting q) d.in-Done.is) said.put_opened.ensures

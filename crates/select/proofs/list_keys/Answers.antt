@@ -1,0 +1,74 @@
+-- `select::list_keys` meets its contract. The pass that counts writes nothing; where keys are written there is room for all.
+use mathlib.Core.Path.{◌≡◌, ap, ◌∙◌}
+use mathlib.Core.Logic.{⊎_elim}
+use mathlib.Core.List.{List}
+use Prim.Native.Nat.{ℕ, ◌+◌, ◌≤◌}
+use native.Mathlib.Omega.{arith}
+use lib.ListN.{length}
+use Rattle.answers.proofs.Laws.{listed-nothing, listed_same}
+use Rattle.window.specs.Window.{Inside}
+use Rattle.window.specs.Walk.{most_blocks}
+use Rattle.window.proofs.Laws.{inside-12, blocks-most, most-small}
+use Rattle.select.specs.Select.{selection}
+use Rattle.select.proofs.Selection.{selection-most}
+use Rattle.select.proofs.Tables.{keys-short, keys-done}
+use Rattle.select.proofs.list_keys.Goals as goal
+use Rattle.select.proofs.list_keys.Goals.{After-most_blocks, Joined-out-most_blocks, Start}
+
+-- what is lent, and chosen from it
+module _ (entry : Start) where
+  abbrev chosen : List ℕ
+  chosen = selection entry.args.m entry.args.top entry.args.keys.now entry.args.classes.now entry.args.window entry.args.class
+
+  abbrev lent : List ℕ
+  lent = entry.args.out-1.now
+
+  drawn : Inside 12 entry.args.window
+  drawn = inside-12 entry.requires.1.small entry.requires.1.inside
+
+  few : length chosen ≤ most_blocks entry.args.window entry.args.top + length entry.args.keys.now
+  few =
+      let u = entry.requires.1 in
+      let most = selection-most u.spaced u.inside u.cap entry.args.classes.now entry.args.class in
+      omega (arith, most, blocks-most entry.args.window entry.args.top u.inside)
+
+pub most_blocks-requires : goal.most_blocks-requires
+most_blocks-requires c = let e = c.before.before.before in (omega (arith, e.requires.1.cap, e.requires.1.small), drawn e)
+
+-- behind the number of keys that there can be
+abbrev start : After-most_blocks → Start
+start c = c.before.before.before.before
+
+pub overflow_add-most_blocks : goal.overflow_add-most_blocks
+overflow_add-most_blocks c = let e = start c in omega (arith, c.most_blocks.ensures, most-small e.args.window e.args.top (drawn e), e.requires.1.few)
+
+pub pick_all-needed-requires : goal.pick_all-needed-requires
+pick_all-needed-requires c = (start c.before.before).requires
+
+pub returns-then-out-needed : goal.returns-then-out-needed
+returns-then-out-needed c =
+    let k = start c.before.before.before.before.before.before in
+    let L = c.before.before.before.pick_all-needed.ensures in
+    let same = listed-nothing {xs = chosen k} L (lent k) in
+    keys-short (chosen k) (lent k) (omega (arith, L.count)) (omega (arith, c.if-out-needed.true, ap length same)) same
+
+-- where the keys are written: the slice is as it was, and has room for all
+ready : (c : Joined-out-most_blocks) → let e = start c.before in (c.if-out-most_blocks.out-1 ≡ lent e) × (length (chosen e) ≤ length (lent e))
+ready c =
+    let e = start c.before in
+    ⊎_elim
+    (λ w. let same = listed-nothing {xs = chosen e} w.2.ensures (lent e) in (w.6 ∙ same, omega (arith, w.2.ensures.count, w.5.left, ap length same)))
+    (λ w. (w.1, omega (arith, few e, c.before.most_blocks.ensures, w.0.left)))
+    c.if-out-most_blocks.branch
+
+pub pick_all-count-requires : goal.pick_all-count-requires
+pick_all-count-requires c = (start c.before.before).requires
+
+pub shape_of-out : goal.shape_of-out
+shape_of-out c = listed_same c.before.before.pick_all-count.ensures ∙ ap length (ready c.before.before.before.before).0
+
+pub returns : goal.returns
+returns c =
+    let j = c.before.before.before.before in
+    let r = ready j in
+    keys-done (chosen (start j.before)) _ (rw r.0 at c.before.before.pick_all-count.ensures) r.1

@@ -1,0 +1,43 @@
+-- `sparse::exist_over` meets its contract: what was found, behind refusals 6 and 7.
+use mathlib.Core.Path.{sym, ap₂, ◌∙◌}
+use lib.ListN.{length}
+use Rattle.answers.specs.After.{after}
+use Rattle.window.proofs.Laws.{inside-12}
+use Rattle.used.specs.Used.{Usable}
+use Rattle.exist.proofs.Laws.{exist-refused, exist-done, existing-is}
+use Rattle.sparse.proofs.Found.{found-presence}
+use Rattle.sparse.proofs.Over.{pair-view, pair-known}
+use Rattle.sparse.proofs.exist_over.Goals as goal
+use Rattle.sparse.proofs.exist_over.Goals.{In_default, Start}
+
+pub in_view-verdict-requires : goal.in_view-verdict-requires
+in_view-verdict-requires c = c.before.before.before.before.before.requires.small
+
+pub returns-in-Refused : goal.returns-in-Refused
+returns-in-Refused c =
+    let e = c.before.before.before in
+    sym (exist-refused _ _ _ _ _ _ _ _ (pair-view e.before.before.before.before.before.before.requires _ _ e.in_view-verdict.ensures c.before.in-Refused.is))
+
+-- where refusals 6 and 7 do not hold
+module _ (c : In_default) where
+  abbrev entry : Start
+  entry = c.before.before.before.before.before.before.before.before
+
+  known : Usable entry.args.m entry.args.m entry.args.keys.now entry.args.window (length entry.args.border-1.now)
+  known = pair-known entry.requires _ _ c.before.before.in_view-verdict.ensures c.in_default.is
+
+pub spend-requires : goal.spend-requires
+spend-requires c = let u = known c.before in (inside-12 u.small u.inside, u.wide)
+
+pub find-requires : goal.find-requires
+find-requires c =
+    let told = c.before.before.before.before.before.before in
+    (c.before.spread_table-table.ensures, (entry told).requires, (known told).inside)
+
+pub returns : goal.returns
+returns c =
+    let spent-now = c.before.before.before.before.before.before in
+    let told = spent-now.before.before in
+    ap₂ after (c.say.ensures ∙ found-presence _ _ _ c.before.find.ensures) spent-now.spend.ensures
+    ∙ sym (existing-is _ _ _ _)
+    ∙ sym (exist-done _ _ _ _ _ _ _ _ (pair-view (entry told).requires _ _ told.before.before.in_view-verdict.ensures told.in_default.is))

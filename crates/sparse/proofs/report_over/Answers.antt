@@ -1,0 +1,64 @@
+-- `sparse::report_over` meets its contract: the totals, behind refusals 6 to 8.
+use mathlib.Core.Path.{◌≡◌, refl, sym, ap, ◌∙◌}
+use mathlib.Core.Bool.{false}
+use native.Mathlib.Omega.{arith}
+use lib.ListN.{length}
+use Rattle.answers.specs.declared.Verdict.TheVariants.{Passed}
+use Rattle.answers.specs.Refusals.{verdict}
+use Rattle.window.proofs.Laws.{inside-12, pixels-most, totals-by-length}
+use Rattle.used.specs.Used.{Usable, use_refusals_in}
+use Rattle.report.proofs.Laws.{report-refused, report-short, report-done}
+use Rattle.sparse.proofs.Over.{pair-view, pair-known}
+use Rattle.sparse.proofs.report_over.Goals as goal
+use Rattle.sparse.proofs.report_over.Goals.{In_default, Start}
+
+pub in_view-verdict-requires : goal.in_view-verdict-requires
+in_view-verdict-requires c = c.before.before.before.before.before.before.requires.small
+
+pub returns-in-Refused : goal.returns-in-Refused
+returns-in-Refused c =
+    let e = c.before.before.before in
+    sym (report-refused _ _ _ _ _ _ _ _ (pair-view e.before.before.before.before.before.before.before.requires _ _ e.in_view-verdict.ensures c.before.in-Refused.is))
+
+-- where refusals 6 and 7 do not hold
+module _ (c : In_default) where
+  abbrev entry : Start
+  entry = c.before.before.before.before.before.before.before.before.before
+
+  passed : verdict (use_refusals_in false entry.args.m entry.args.keys.now (length entry.args.classes.now) entry.args.window (length entry.args.border-1.now)) ≡ Passed
+  passed = pair-view entry.requires _ _ c.before.before.in_view-verdict.ensures c.in_default.is
+
+  known : Usable entry.args.m entry.args.m entry.args.keys.now entry.args.window (length entry.args.border-1.now)
+  known = pair-known entry.requires _ _ c.before.before.in_view-verdict.ensures c.in_default.is
+
+pub spend-requires : goal.spend-requires
+spend-requires c = let u = known c.before in (inside-12 u.small u.inside, u.wide)
+
+pub returns-then-out-lt256 : goal.returns-then-out-lt256
+returns-then-out-lt256 c =
+    let spends = c.before.before.before in
+    report-short _ _ _ _ _ _ _ _ (passed spends.before.before) spends.spend.ensures
+    (omega (arith, c.if-out-lt256.true))
+
+pub add_up-requires : goal.add_up-requires
+add_up-requires c =
+    let told = c.before.before.before.before.before.before.before.before in
+    (c.before.before.spread_table-table.ensures, (entry told).requires, (known told).inside, refl)
+
+pub put_totals-requires : goal.put_totals-requires
+put_totals-requires c =
+    (ap length c.before.before.add_up.ensures ∙ totals-by-length _ _, omega (arith, c.before.before.before.before.before.before.if-out-lt256.false))
+
+pub overflow_mul-result : goal.overflow_mul-result
+overflow_mul-result c =
+    let told = c.before.before.before.before.before.before.before.before.before.before.before.before.before.before.before.before in
+    let u = known told in
+    omega (arith, pixels-most (entry told).args.window (inside-12 u.small u.inside))
+
+pub returns : goal.returns
+returns c =
+    let spends = c.before.before.before.before.before.before.before.before.before.before.before.before.before.before in
+    report-done _ _ _ _ _ _ _ _ (passed spends.before.before) spends.spend.ensures
+    (omega (arith, c.before.before.before.before.before.before.before.before.before.before.before.if-out-lt256.false))
+    c.before.before.before.before.before.before.before.add_up.ensures
+    c.before.before.before.before.put_totals.ensures

@@ -1,0 +1,14 @@
+-- `sparse::spend` meets its contract.
+use mathlib.Core.Path.{◌∙◌}
+use native.Mathlib.Omega.{arith}
+use Rattle.border.proofs.Laws.{filled-spent}
+use Rattle.sparse.proofs.spend.Goals as goal
+
+pub overflow_add-window : goal.overflow_add-window
+overflow_add-window c = omega (arith, c.before.before.before.before.requires.0)
+
+pub fill-requires : goal.fill-requires
+fill-requires c = (omega arith, c.before.before.before.before.requires.1)
+
+pub returns : goal.returns
+returns c = c.before.before.fill.ensures ∙ filled-spent _ _ c.before.before.before.before.before.before.before.requires.1

@@ -1,0 +1,56 @@
+-- `sparse_select::list_background` meets its contract. The pass that counts writes nothing; where keys are written there is room for all.
+use mathlib.Core.Path.{◌≡◌, ap, ◌∙◌}
+use mathlib.Core.Logic.{⊎_elim}
+use mathlib.Core.List.{List}
+use Prim.Native.Nat.{ℕ, ◌*◌, ◌≤◌}
+use native.Mathlib.Omega.{arith}
+use lib.ListN.{length}
+use Rattle.answers.proofs.Laws.{listed-nothing, listed_same}
+use Rattle.window.proofs.Laws.{inside-12, pixels-most}
+use Rattle.select.proofs.Laws.{keys-short, keys-done}
+use Rattle.sparse_select.specs.Select.{sparse_selection}
+use Rattle.sparse_select.proofs.Window.{sparse-most}
+use Rattle.sparse_select.proofs.list_background.Goals as goal
+use Rattle.sparse_select.proofs.list_background.Goals.{Joined-out-most, Start}
+
+-- what is lent, and chosen from it
+module _ (entry : Start) where
+  abbrev chosen : List ℕ
+  chosen = sparse_selection entry.args.m entry.args.top entry.args.class entry.args.keys.now entry.args.classes.now entry.args.window entry.args.class
+
+  abbrev lent : List ℕ
+  lent = entry.args.out-1.now
+
+  few : length chosen ≤ entry.args.window.h * entry.args.window.w
+  few = let u = entry.requires.1 in sparse-most u.spaced u.inside u.cap entry.args.class entry.args.classes.now entry.requires.2 entry.args.class
+
+pub overflow_mul-most : goal.overflow_mul-most
+overflow_mul-most c = let e = c.before.before.before.before.before.before in omega (arith, pixels-most e.args.window (inside-12 e.requires.1.small e.requires.1.inside))
+
+pub returns-then-out-needed : goal.returns-then-out-needed
+returns-then-out-needed c =
+    let k = c.before.before.before.before.before.before.before.before.before.before.before.before.before in
+    let L = c.before.before.before.put_all-needed.ensures in
+    let same = listed-nothing {xs = chosen k} L (lent k) in
+    keys-short (chosen k) (lent k) (omega (arith, L.count)) (omega (arith, c.if-out-needed.true, ap length same)) same
+
+-- where the keys are written: the slice is as it was, and has room for all
+abbrev start : Joined-out-most → Start
+start c = c.before.before.before.before.before.before.before
+
+ready : (c : Joined-out-most) → (c.if-out-most.out-1 ≡ lent (start c)) × (length (chosen (start c)) ≤ length (lent (start c)))
+ready c =
+    let e = start c in
+    ⊎_elim
+    (λ w. let same = listed-nothing {xs = chosen e} w.3.ensures (lent e) in (w.7 ∙ same, omega (arith, w.3.ensures.count, w.6.left, ap length same)))
+    (λ w. (w.1, omega (arith, few e, w.0.left)))
+    c.if-out-most.branch
+
+pub shape_of-out : goal.shape_of-out
+shape_of-out c = listed_same c.before.before.put_all-count.ensures ∙ ap length (ready c.before.before.before.before.before).0
+
+pub returns : goal.returns
+returns c =
+    let j = c.before.before.before.before.before in
+    let r = ready j in
+    keys-done (chosen (start j)) _ (rw r.0 at c.before.before.put_all-count.ensures) r.1

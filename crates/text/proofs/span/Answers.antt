@@ -1,0 +1,25 @@
+use mathlib.Core.Path.{ap}
+use Prim.Native.Nat.{◌-◌}
+use native.Mathlib.Omega.{arith}
+use lib.ListN.{length}
+use Rattle.text.proofs.Digits.{spaced-none, span-next}
+use Rattle.text.proofs.span.Goals as goal
+
+pub returns-then-most-total : goal.returns-then-most-total
+returns-then-most-total c =
+    let turn = c.before.before.before in
+    let xs = turn.before.before.before.args.numbers.now in
+    let i = turn.before.loop-i.i in
+    omega (arith, turn.before.loop-i.invariant.0, c.before.width-n.ensures, c.if-most-total.true, span-next xs i turn.loop-i-test.true)
+
+pub loop-i-preserved : goal.loop-i-preserved
+loop-i-preserved c =
+    let turn = c.before.before.before in
+    let xs = turn.before.before.before.args.numbers.now in
+    let i = turn.before.loop-i.i in
+    omega (arith, turn.before.loop-i.invariant.0, c.before.width-n.ensures, c.if-most-total.false, span-next xs i turn.loop-i-test.true)
+
+pub returns : goal.returns
+returns c =
+    let none = ap length (spaced-none c.before.before.before.args.numbers.now c.before.loop-i.i c.loop-i-test.false) in
+    omega (arith, c.before.loop-i.invariant.0)

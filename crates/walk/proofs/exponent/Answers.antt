@@ -1,0 +1,34 @@
+-- `walk::exponent` meets its contract: the least of what rows, columns and `top` allow.
+use mathlib.Core.Path.{◌≡◌, ap}
+use Prim.Native.Nat.{ℕ, min, ◌+◌, ◌-◌, ◌*◌, ◌≤◌}
+use native.Mathlib.Omega.{arith}
+use lib.Count.{count_leading_zeros}
+use Rattle.key.proofs.Laws.{leading-most}
+use Rattle.window.specs.Blocks.{exponent}
+use Rattle.window.proofs.Loops.{exponent-least}
+use Rattle.walk.proofs.exponent.Goals as goal
+use Rattle.walk.proofs.exponent.Goals.{After-least-both, Start}
+
+-- both reaches are known
+module _ (c : After-least-both) where
+  abbrev entry : Start
+  entry = c.before.before.before
+
+  bit : count_leading_zeros 32 (2 * c.least-both.result + 1) ≤ 30
+  bit =
+      let rows = c.before.before.reach-rows.ensures in
+      leading-most _ (omega (arith, c.least-both.ensures, rows.some, c.before.reach-cols.ensures.some)) (omega (arith, c.least-both.ensures, rows.most))
+
+  is : min entry.args.top (30 - count_leading_zeros 32 (2 * c.least-both.result + 1)) ≡ exponent entry.args.window entry.args.top (entry.args.row, entry.args.col)
+  is =
+      exponent-least _ _ entry.requires.2 entry.requires.0 c.before.before.reach-rows.ensures c.before.reach-cols.ensures
+      (ap (λ (x : ℕ). 30 - count_leading_zeros 32 (2 * x + 1)) c.least-both.ensures)
+
+pub overflow_sub-i : goal.overflow_sub-i
+overflow_sub-i c = omega (arith, bit c)
+
+pub returns-then-i-top : goal.returns-then-i-top
+returns-then-i-top c = omega (arith, is c.before, c.if-i-top.true)
+
+pub returns-else-i-top : goal.returns-else-i-top
+returns-else-i-top c = omega (arith, is c.before, c.if-i-top.false)

@@ -1,0 +1,115 @@
+-- `why::of_block` meets its contract. Each test decides what its law in `Tables` and `Blocks` says.
+use mathlib.Core.Path.{◌≡◌, sym, ap, ◌∙◌}
+use mathlib.Core.Bool.{Bool, true, not, not-not}
+use mathlib.Core.List.{Memᴰ}
+use native.Mathlib.Omega.{arith}
+use lib.ListN.{length}
+use Rattle.lists.proofs.Laws.{never}
+use Rattle.answers.specs.declared.Verdict.TheVariants.{Passed}
+use Rattle.answers.specs.Refusals.{verdict}
+use Rattle.answers.specs.After.{after}
+use Rattle.window.specs.Keys.{keys_of}
+use Rattle.map.specs.Sound.{Follow}
+use Rattle.map.specs.Runs.{run_of}
+use Rattle.border.proofs.Laws.{first-at}
+use Rattle.used.specs.Used.{Usable, use_refusals}
+use Rattle.used.proofs.Laws.{use-known, use-whole}
+use Rattle.why.specs.declared.Why.{Why}
+use Rattle.why.specs.Why.{block_said, why_block_of}
+use Rattle.why.proofs.Listed.{listed-names}
+use Rattle.why.proofs.Blocks.{said-opened, said-skipped}
+use Rattle.why.proofs.Tables.{why-refused, why-more, why-done, key-refused, key-passed}
+use Rattle.why.proofs.of_block.Goals as goal
+use Rattle.why.proofs.of_block.Goals.{After-bring-brought, After-maximal, After-record_at-index, After-square_of-square, After-struct_known-1, Else-not-maximal, In_default, Start}
+
+pub returns-in-Refused : goal.returns-in-Refused
+returns-in-Refused c = sym (why-refused _ _ _ _ _ _ _ (sym c.before.before.before.usable-verdict.ensures ∙ c.before.in-Refused.is))
+
+-- where refusals 1 to 7 do not hold
+module _ (c : In_default) where
+  abbrev first : Start
+  first = c.before.before.before.before.before.before
+
+  passed : let a = first.args in verdict (use_refusals a.m a.keys.now (length a.classes.now) a.window (length a.border-1.now)) ≡ Passed
+  passed = sym c.before.before.usable-verdict.ensures ∙ c.in_default.is
+
+  known : let a = first.args in Usable a.m a.m a.keys.now a.window (length a.border-1.now)
+  known = use-known true _ _ _ _ _ passed
+
+pub square_of-square-requires : goal.square_of-square-requires
+square_of-square-requires c = (known c.before).small
+
+-- what is asked of the key
+module _ (c : After-maximal) where
+  abbrev squared : After-square_of-square
+  squared = c.before.before
+
+  abbrev at : In_default
+  at = squared.before.before
+
+pub maximal-requires : goal.maximal-requires
+maximal-requires c =
+    let squared = c.before in
+    let U = known squared.before.before in
+    (squared.before.spread_table-table.ensures, U.small, U.inside, squared.square_of-square.ensures)
+
+turned : {b t : Bool} → not b ≡ t → b ≡ not t
+turned {b} e = sym (not-not b) ∙ ap not e
+
+pub returns-then-not-maximal : goal.returns-then-not-maximal
+returns-then-not-maximal c =
+    let asked = c.before in
+    sym (why-more _ _ _ _ _ _ _ (passed (at asked)) (key-refused _ _ _ (λ n. never (sym (asked.maximal.ensures.1 n) ∙ turned c.if-not-maximal.true))))
+
+-- the arm of a maximal block
+module _ (c : Else-not-maximal) where
+  abbrev told : In_default
+  told = at c.before
+
+  listed : let a = (first told).args in Memᴰ a.key (keys_of a.m a.m a.window)
+  listed = c.before.maximal.ensures.0 (turned c.if-not-maximal.false)
+
+  whole : Follow (first told).args.m 0 (first told).args.keys.now
+  whole = use-whole _ _ _ _ _ (passed told)
+
+pub record_at-index-requires : goal.record_at-index-requires
+record_at-index-requires c =
+    let of = c.before in
+    let U = known (told of) in
+    ((squared of.before).before.spread_table-table.ensures, U.small, U.few, whole of, (squared of.before).square_of-square.ensures.pixel)
+
+pub bring-brought-requires : goal.bring-brought-requires
+bring-brought-requires c =
+    let of = c.before.before.before.before in
+    ((squared of.before).before.spread_table-table.ensures, known (told of))
+
+-- what is said, by the opening that brings the record of the block's corner
+module _ (c : After-struct_known-1) where
+  abbrev brought : After-bring-brought
+  brought = c.before.before.before
+
+  abbrev found : After-record_at-index
+  found = brought.before.before.before
+
+  abbrev of : Else-not-maximal
+  of = found.before.before
+
+  answers : {s : Why} → let a = (first (told of)).args in
+      block_said a.m a.keys.now a.window a.key ≡ s
+      → after s brought.bring-brought.last.1.1.1.1.1.0 ≡ why_block_of a.m a.keys.now (length a.classes.now) a.window a.key a.border-1.now
+  answers e = why-done _ _ _ _ _ _ _ (passed (told of)) ((key-passed _ _ _).1 (listed of)) e brought.bring-brought.ensures.1
+
+  first-is : let a = (first (told of)).args in found.record_at-index.result ≡ (run_of a.m a.keys.now a.key).first
+  first-is =
+      let S = (squared of.before).square_of-square.ensures in
+      found.record_at-index.ensures ∙ first-at (whole of) (known (told of)).inside (omega arith) (listed of) (listed-names (known (told of)).inside S (listed of))
+
+pub returns-then-brought-key : goal.returns-then-brought-key
+returns-then-brought-key c =
+    let s = c.before in
+    answers s (said-opened (whole (of s)) (known (told (of s))).inside (listed (of s)) (first-is s) (brought s).bring-brought.ensures.0 c.if-brought-key.true)
+
+pub returns : goal.returns
+returns c =
+    let s = c.before in
+    answers s (said-skipped (whole (of s)) (known (told (of s))).inside (listed (of s)) (first-is s) (brought s).bring-brought.ensures.0 c.if-brought-key.false)

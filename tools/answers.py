@@ -1,0 +1,235 @@
+#!/usr/bin/env python3
+"""Turns a function's Proof.antt of the older kit into Invariants.antt and Answers.antt.
+
+usage: python3 tools/answers.py NAMES CRATE [FUNCTION ..]     NAMES: the folder that `rt names` wrote
+
+What `search rules` proved goes, since the check tries that by itself. What it finds no name for is said and left out.
+"""
+
+import json
+import os
+import re
+import sys
+
+TOKEN = r"[A-Za-z₀-₉_][\w'₀-₉-]*"
+
+
+def norm(s):
+    return s.replace("_", "-")
+
+
+def items_of(text):
+    """Yields (comment, kind, name, signature, body lines) of the top-level items, and the head and use lines first."""
+    lines = text.split("\n")
+    head, uses, items, comment, cur = [], [], [], [], None
+    started = False
+    for line in lines:
+        if not started and line.startswith("--"):
+            head.append(line)
+            continue
+        if line.startswith("use ") or line.startswith("pub use "):
+            started = True
+            uses.append(line)
+            continue
+        if line.startswith("--"):
+            comment.append(line)
+            continue
+        m = re.match(r"(?:(?:abbrev|unfoldable|pub) )*(" + TOKEN + r") :(?: (.*))?$", line)
+        if line.startswith("module ") or m:
+            cur = {"comment": comment, "name": m.group(1) if m else None, "lines": [line]}
+            comment = []
+            items.append(cur)
+            continue
+        if line.strip() == "" and cur is None:
+            continue
+        if cur is not None:
+            if comment:
+                cur["lines"] += comment
+                comment = []
+            cur["lines"].append(line)
+    for it in items:
+        while it["lines"] and it["lines"][-1].strip() == "":
+            it["lines"].pop()
+    return head, uses, items
+
+
+def used(names, text):
+    """The names of a use line that the text has."""
+    out = []
+    for n in names:
+        if "◌" in n:
+            core = [p for p in n.split("◌") if p]
+            if all(p in text for p in core):
+                out.append(n)
+        elif n == "[]":
+            if "[]" in text:
+                out.append(n)
+        elif re.search(r"(?<![\w'.-])" + re.escape(n) + r"(?![\w'-])", text):
+            out.append(n)
+    return out
+
+
+def filtered(uses, text):
+    out = []
+    for u in uses:
+        m = re.match(r"((?:pub )?use \S+\.)\{(.*)\}$", u)
+        if not m:
+            out.append(u)
+            continue
+        keep = used([n.strip() for n in m.group(2).split(",")], text)
+        if keep:
+            out.append(m.group(1) + "{" + ", ".join(keep) + "}")
+    return out
+
+
+def turn(names, crate, path, folder):
+    key = f"Rattle-{crate}-proofs.{path.replace('/', '.')}.Lts"
+    if key not in names:
+        print(f"{crate}::{path}: no names")
+        return
+    d = names[key]
+    with open(os.path.join(folder, "Proof.antt"), encoding="utf-8") as f:
+        text = f.read()
+    head, uses, items = items_of(text)
+    needs = {}
+    for old, new in d["needs"]:
+        needs.setdefault(norm(old), new)
+    settled = {norm(s) for s in d["settled"]}
+    places = {}
+    steps = {}
+    for (old, _, step, _, extra), new in zip(d["places"], d["places_by_name"]):
+        places[norm(old)] = new
+        if step[0]:
+            steps[norm(step[0])] = step[1]
+    # fields of arms: a step and a path of the older form are a field of the arm's step
+    fields = []
+    for arm in d["arms"]:
+        if arm:
+            for new, step, at in arm[2]:
+                if at and not new.endswith("-own"):
+                    fields.append((norm(step), at, arm[0], new))
+    fields.sort(key=lambda x: -len(x[1]))
+    renamed, goals, said = {}, {}, []
+    for it in items:
+        m = re.match(r"(?:(?:abbrev|pub) )*(" + TOKEN + r") : tie\.Need-(" + TOKEN + r")((?: invariant-\S+| decreases-\S+)*)$", it["lines"][0])
+        if m:
+            need = norm(m.group(2))
+            new = None
+            for k in (need, re.sub(r"^(overflow|nonzero)-", "", need)):
+                new = new or needs.get(k)
+            if new is None:
+                said.append(f"{'settled' if need in settled else 'unknown'} need {m.group(2)}")
+            it["need"], it["goal"] = need, new
+            if new is not None:
+                renamed[it["name"]] = new
+
+    def step_of(s):
+        for t in (s, re.sub(r"_lem$", "", s)):
+            if norm(t) in steps:
+                return steps[norm(t)]
+        return None
+
+    def body(s):
+        s = re.sub(r"tie\.(" + TOKEN + r")((?: invariant-" + TOKEN + r"| decreases-" + TOKEN + r")*)", place, s)
+        s = re.sub(r"\.pre(?![\w'-])", ".requires", s)
+        s = re.sub(r"\.inv(?![\w'-])", ".invariant", s)
+        for step, at, arm, new in fields:
+            pat = r"\.(" + re.sub(r"\\?-", "[-_]", re.escape(step)) + r"(?:_lem)?)" + "".join(r"\." + re.escape(a) for a in at) + r"(?![\w'-])"
+            s = re.sub(pat, f".{arm}.{new}", s)
+        s = re.sub(r"\.(" + TOKEN + r")", lambda m: "." + (step_of(m.group(1)) or m.group(1)), s)
+        s = re.sub(r"(?<![\w'.₀-₉-])(" + TOKEN + r")", lambda m: renamed.get(m.group(1), m.group(1)), s)
+        s = re.sub(r"(-test)\.left(?![\w'-])", r"\1.false", s)
+        return s
+
+    wanted = set()
+
+    def place(m):
+        p = places.get(norm(m.group(1)))
+        if p is None:
+            said.append(f"unknown place {m.group(1)}")
+            return m.group(0)
+        wanted.add(p)
+        return p
+
+    inv, ans = [], []
+    loops = {}
+    for i, lp in enumerate(d["loops"]):
+        (old, new), variables = lp[0], lp[1]
+        loops[old] = (new, variables, d["changed"][i])
+    first_tie = next((k for k, it in enumerate(items) if "tie." in "\n".join(it["lines"])), len(items))
+    for k, it in enumerate(items):
+        if it["name"] and it["name"].endswith("spec") and "statement M" in it["lines"][0]:
+            continue
+        m = re.match(r"(?:(?:abbrev|pub) )*(invariant|decreases)-(" + TOKEN + r") : tie\.", it["lines"][0])
+        if m:
+            kind, lp = m.group(1), m.group(2)
+            if lp not in loops:
+                said.append(f"unknown loop {lp}")
+                continue
+            new, variables, changed = loops[lp]
+            rest = "\n".join(it["lines"][1:])
+            mm = re.match(r"((?:unfolding[^\n]*\n)?)" + re.escape(f"{kind}-{lp}") + r" ([^=]*?)\s*=(?!\w)(.*)$", rest, re.S)
+            if not mm:
+                said.append(f"cannot read {kind}-{lp}")
+                continue
+            params = mm.group(2).split()
+            values = {}
+            n = len(variables)
+            for p, v, c in zip(params[:n], variables, changed):
+                values[p] = f"l.initial.{v}" if c else f"l.{v}"
+            for p, v in zip(params[n:], [v for v, c in zip(variables, changed) if c]):
+                values[p] = f"l.{v}"
+            if len(params) != n + sum(changed):
+                said.append(f"{kind}-{lp}: {len(params)} parameters, {n} variables, {sum(changed)} changed")
+            b = re.sub(r"(?<![\w'.₀-₉-])(" + TOKEN + r")", lambda q: values.get(q.group(1), q.group(1)), mm.group(3))
+            inv.append("\n".join(it["comment"] + [f"abbrev pub {kind}-{new} : goal.{kind}-{new}"] + ([mm.group(1).strip()] if mm.group(1) else []) + [f"{kind}-{new} l ={b}"]))
+            continue
+        if "need" in it:
+            if it["goal"] is None:
+                continue
+            b = "\n".join(it["lines"][1:])
+            if re.match(re.escape(it["name"]) + r" c( κs)? = (search rules|tt|omega arith)$", b.strip()):
+                continue
+            b = re.sub(r"(?m)^(" + re.escape(it["name"]) + r"(?: \S+)*) κs( *=)", r"\1\2", b)
+            if "κs" in b:
+                said.append(f"κs in {it['name']}")
+            new = it["goal"]
+            ans.append("\n".join(it["comment"] + [f"pub {new} : goal.{new}", body(b)]))
+            continue
+        ans.append("\n".join(it["comment"] + [body("\n".join(it["lines"]))]))
+    uses = [u for u in uses if not re.search(r"\.Statement\.\{statement\}$|\.Tie as tie$", u)]
+    mod = f"Rattle.{crate}.proofs.{path.replace('/', '.')}"
+    # definitions that the invariants cite
+    if inv:
+        t = "\n\n".join(inv)
+        local = [it for it in items if it["name"] and re.search(r"(?<![\w'.-])" + re.escape(it["name"]) + r"(?![\w'-])", t) and "need" not in it and not re.match(r"(invariant|decreases)-", it["name"])]
+        if local:
+            said.append("invariants cite " + ", ".join(it["name"] for it in local))
+        with open(os.path.join(folder, "Invariants.antt"), "w", encoding="utf-8") as f:
+            f.write("\n".join([h for h in head if "Assumes nothing" not in h] + filtered(uses, t) + [f"use {mod}.Given as goal", "", t, ""]))
+    if any(re.search(r"(?m)^pub \S+ : goal\.", a) for a in ans):
+        t = "\n\n".join(ans)
+        more = [f"use {mod}.Goals as goal"]
+        if wanted:
+            more.append(f"use {mod}.Goals.{{{', '.join(sorted(wanted))}}}")
+        hd = [h for h in head if "Assumes nothing" not in h] if not inv else []
+        with open(os.path.join(folder, "Answers.antt"), "w", encoding="utf-8") as f:
+            f.write("\n".join(hd + filtered(uses, t) + more + ["", t, ""]))
+    os.remove(os.path.join(folder, "Proof.antt"))
+    for s in said:
+        print(f"{crate}::{path}: {s}")
+
+
+def main(argv):
+    names_at, crate, only = argv[0], argv[1], argv[2:]
+    with open(os.path.join(names_at, "crates", crate, "names.json"), encoding="utf-8") as f:
+        names = json.load(f)
+    root = os.path.join("crates", crate, "proofs")
+    for folder, _, files in sorted(os.walk(root)):
+        if "Proof.antt" in files:
+            path = os.path.relpath(folder, root)
+            if not only or path in only:
+                turn(names, crate, path, folder)
+
+
+main(sys.argv[1:])
