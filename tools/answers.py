@@ -95,12 +95,17 @@ def turn(names, crate, path, folder):
     for old, new in d["needs"]:
         needs.setdefault(norm(old), new)
     settled = {norm(s) for s in d["settled"]}
-    places = {}
-    steps = {}
-    for (old, _, step, _, extra), new in zip(d["places"], d["places_by_name"]):
+    places, steps, raw, typed = {}, {}, {}, set()
+    for (old, _, step, _, extra), new, learnt in zip(d["places"], d["places_by_name"], d["typed"]):
         places[norm(old)] = new
+        raw[new] = old
+        if learnt:
+            typed.add(new)
         if step[0]:
             steps[norm(step[0])] = step[1]
+    asked = {}
+    for (_, new), (_, where) in zip(d["needs"], d["asked_at"]):
+        asked[new] = where
     # fields of arms: a step and a path of the older form are a field of the arm's step
     fields = []
     for arm in d["arms"]:
@@ -115,7 +120,7 @@ def turn(names, crate, path, folder):
         if m:
             need = norm(m.group(2))
             new = None
-            for k in (need, re.sub(r"^(overflow|nonzero)-", "", need)):
+            for k in (need, re.sub(r"^(overflow|nonzero)-", "", need), re.sub(r"^slice-bounds-", "part-", need)):
                 new = new or needs.get(k)
             if new is None:
                 said.append(f"{'settled' if need in settled else 'unknown'} need {m.group(2)}")
@@ -139,7 +144,12 @@ def turn(names, crate, path, folder):
         s = re.sub(r"\.(" + TOKEN + r")", lambda m: "." + (step_of(m.group(1)) or m.group(1)), s)
         s = re.sub(r"(?<![\w'.₀-₉-])(" + TOKEN + r")", lambda m: renamed.get(m.group(1), m.group(1)), s)
         s = re.sub(r"(-test)\.left(?![\w'-])", r"\1.false", s)
+        s = re.sub(r"(?:\.before)+(?=\.(?!before))", "", s)
         return s
+
+    def lower(s):
+        """In an answer whose place has what the types say beside it: the place itself stands one further up."""
+        return re.sub(r"(?<![\w'.₀-₉-])c(?![\w'-])(?!(?:\.before)*\.(?!before))", "c.before", s)
 
     wanted = set()
 
@@ -194,7 +204,10 @@ def turn(names, crate, path, folder):
             if "κs" in b:
                 said.append(f"κs in {it['name']}")
             new = it["goal"]
-            ans.append("\n".join(it["comment"] + [f"pub {new} : goal.{new}", body(b)]))
+            b = body(b)
+            if asked.get(new) in typed:
+                b = re.sub(r"(?ms)^(" + re.escape(new) + r" c\s*=)(.*)$", lambda m: m.group(1) + lower(m.group(2)), b)
+            ans.append("\n".join(it["comment"] + [f"pub {new} : goal.{new}", b]))
             continue
         ans.append("\n".join(it["comment"] + [body("\n".join(it["lines"]))]))
     uses = [u for u in uses if not re.search(r"\.Statement\.\{statement\}$|\.Tie as tie$", u)]
@@ -210,8 +223,15 @@ def turn(names, crate, path, folder):
     if any(re.search(r"(?m)^pub \S+ : goal\.", a) for a in ans):
         t = "\n\n".join(ans)
         more = [f"use {mod}.Goals as goal"]
-        if wanted:
-            more.append(f"use {mod}.Goals.{{{', '.join(sorted(wanted))}}}")
+        plain = sorted(w for w in wanted if w not in typed)
+        if plain:
+            more.append(f"use {mod}.Goals.{{{', '.join(plain)}}}")
+        told = [w for w in d["places_by_name"] if w in wanted and w in typed]
+        if told:
+            more += [f"use {mod}.{m} as {m.lower()}" for m in ("Lts", "Reads", "Tie")]
+            loop = "".join(f" goal.the-invariant-{new} goal.the-decreases-{new}" for new, _, _ in loops.values())
+            for w in told:
+                more += ["", f"abbrev {w} : Type 0", f"{w} = lts.{raw[w]} tie.the-claims reads.Pre reads.Post{loop}"]
         hd = [h for h in head if "Assumes nothing" not in h] if not inv else []
         with open(os.path.join(folder, "Answers.antt"), "w", encoding="utf-8") as f:
             f.write("\n".join(hd + filtered(uses, t) + more + ["", t, ""]))

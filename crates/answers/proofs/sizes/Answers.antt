@@ -15,7 +15,7 @@ pub returns-then-keys-gt65536 : goal.returns-then-keys-gt65536
 returns-then-keys-gt65536 c = sym (not-sized _ _ _ _ (omega arith) (λ s. omega (arith, s.most)))
 
 pub returns-then-keys-eq0 : goal.returns-then-keys-eq0
-returns-then-keys-eq0 c = sym (not-sized _ _ _ _ (omega arith) (λ s. omega (arith, s.some c.before.if-whole.true)))
+returns-then-keys-eq0 c = sym (not-sized _ _ _ _ (omega arith) (λ s. omega (arith, s.some c.if-whole.true)))
 
 pub returns-then-whole : goal.returns-then-whole
 returns-then-whole c = sym (sized.1 (omega arith))

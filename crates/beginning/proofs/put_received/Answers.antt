@@ -3,6 +3,6 @@ use Rattle.beginning.proofs.put_received.Goals as goal
 
 pub returns : goal.returns
 returns c =
-    let p = c.before.before.before.before.before.before in
+    let p = c.before.before.before.before.before.before.before in
     let w = p.before.before.before.before.before in
     rw (← w.whole-size.ensures.0) p.put_start.ensures

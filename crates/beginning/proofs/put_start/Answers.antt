@@ -5,7 +5,16 @@ use native.Mathlib.Omega.{arith}
 use lib.ListN.{length, length-take}
 use Rattle.beginning.proofs.Starts.{Got, start-room, start-holds, start-refused, start-some, start-read}
 use Rattle.beginning.proofs.put_start.Goals as goal
-use Rattle.beginning.proofs.put_start.Goals.{After-read-reading, In-Read-2, Start}
+use Rattle.beginning.proofs.put_start.Goals.{Start}
+use Rattle.beginning.proofs.put_start.Lts as lts
+use Rattle.beginning.proofs.put_start.Reads as reads
+use Rattle.beginning.proofs.put_start.Tie as tie
+
+abbrev After-read-reading : Type 0
+After-read-reading = lts.After-read tie.the-claims reads.Pre reads.Post
+
+abbrev In-Read-2 : Type 0
+In-Read-2 = lts.After-reading2 tie.the-claims reads.Pre reads.Post
 
 -- with the file read: what was asked, and what reading answers
 module _ (c : After-read-reading) where
@@ -27,20 +36,20 @@ module _ (c : In-Read-2) where
   room = (start-room (got read) c.in-Read.is, read.read-reading.kept.1.0 ∙ (asked read).requires.0, read.read-reading.kept.1.1.0 ∙ (asked read).requires.1)
 
 pub slice_bounds-put_map-end : goal.slice_bounds-put_map-end
-slice_bounds-put_map-end c = omega (arith, room c.before)
+slice_bounds-put_map-end c = omega (arith, room c.before.before)
 
 pub slice_bounds-put_map-end-in-Read : goal.slice_bounds-put_map-end-in-Read
-slice_bounds-put_map-end-in-Read c = simp length-take (omega (arith, room c.before.before))
+slice_bounds-put_map-end-in-Read c = simp length-take (omega (arith, room c.before.before.before))
 
 pub slice_bounds-put_map-end-in-Read-2 : goal.slice_bounds-put_map-end-in-Read-2
-slice_bounds-put_map-end-in-Read-2 c = omega (arith, room c.before.before)
+slice_bounds-put_map-end-in-Read-2 c = omega (arith, room c.before.before.before)
 
 pub slice_bounds-put_map-end-in-Read-3 : goal.slice_bounds-put_map-end-in-Read-3
-slice_bounds-put_map-end-in-Read-3 c = simp length-take (omega (arith, room c.before.before.before))
+slice_bounds-put_map-end-in-Read-3 c = simp length-take (omega (arith, room c.before.before.before.before))
 
 pub returns-in-Refused : goal.returns-in-Refused
 returns-in-Refused c =
-    let p = c.before.before in
+    let p = c.before.before.before in
     let d = p.before.before.before in
     let g = got d.before.before.before.before.before.before in
     let told = d.in-Refused.is in
@@ -48,7 +57,7 @@ returns-in-Refused c =
 
 pub returns-in-Read : goal.returns-in-Read
 returns-in-Read c =
-    let p = c.before.before in
+    let p = c.before.before.before in
     let d = p.before.before.before.before.before in
     let g = got (read d) in
     let told = d.in-Read.is in

@@ -23,7 +23,7 @@ pub pixel_key-requires : goal.pixel_key-requires
 pixel_key-requires c = (c.requires.0, c.requires.1, omega (arith, row c, col c, corner-pixel c.args.i c.requires.3))
 
 -- the corner's key
-corner : (c : After-pixel_key) → block_key c.before.args.m c.before.args.i c.before.args.row c.before.args.col + ones c.before.args.i ≡ c.pixel_key.result
+corner : (c : After-pixel_key) → block_key c.args.m c.args.i c.args.row c.args.col + ones c.args.i ≡ c.pixel_key.result
 corner c =
     let s = c.before in
     corner-key s.args.i s.requires.2 s.requires.3 ∙ ap₂ (pixel_key s.args.m) (sym (row s)) (sym (col s)) ∙ sym c.pixel_key.ensures

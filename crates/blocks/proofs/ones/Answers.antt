@@ -14,5 +14,5 @@ spread-requires c = (c.requires.0, omega (arith, bit c.args.k c.requires.1))
 
 pub returns : goal.returns
 returns c =
-    let k = c.before.args.k in
-    c.spread.ensures ∙ ap (λ (x : ℕ). spread 5 (x - 1)) (bit k c.before.requires.1).is ∙ spread-is-ones k
+    let k = c.args.k in
+    c.spread.ensures ∙ ap (λ (x : ℕ). spread 5 (x - 1)) (bit k c.requires.1).is ∙ spread-is-ones k

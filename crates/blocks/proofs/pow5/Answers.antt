@@ -11,5 +11,5 @@ spread-requires c = (c.requires.0, omega (arith, bit c.args.k c.requires.1))
 
 pub returns : goal.returns
 returns c =
-    let k = c.before.args.k in
-    power 4 k (c.spread.ensures ∙ ap (spread 5) (bit k c.before.requires.1).is ∙ spread-power 5 k) c.before.requires.1
+    let k = c.args.k in
+    power 4 k (c.spread.ensures ∙ ap (spread 5) (bit k c.requires.1).is ∙ spread-power 5 k) c.requires.1

@@ -7,10 +7,16 @@ use Rattle.answers.specs.Sizes.{size_refusals_in}
 use Rattle.answers.proofs.Laws.{sized}
 use Rattle.map.proofs.Loops.{sizes-refused, sizes-passed}
 use Rattle.checks.proofs.sound.Goals as goal
-use Rattle.checks.proofs.sound.Goals.{In_default, Start}
+use Rattle.checks.proofs.sound.Goals.{Start}
+use Rattle.checks.proofs.sound.Lts as lts
+use Rattle.checks.proofs.sound.Reads as reads
+use Rattle.checks.proofs.sound.Tie as tie
+
+abbrev In_default : Type 0
+In_default = lts.After-enum_told tie.the-claims reads.Pre reads.Post
 
 pub returns-in-Refused : goal.returns-in-Refused
-returns-in-Refused c = sym (sizes-refused _ _ _ _ (sym c.before.before.before.sizes-sizes.ensures ∙ c.before.in-Refused.is))
+returns-in-Refused c = sym (sizes-refused _ _ _ _ (sym c.sizes-sizes.ensures ∙ c.in-Refused.is))
 
 -- behind the first test: the sizes have passed
 module _ (c : In_default) where
@@ -18,10 +24,10 @@ module _ (c : In_default) where
   start = c.before.before.before.before.before
 
   passed : verdict (size_refusals_in start.args.whole start.args.m (length start.args.keys.now) (length start.args.classes.now)) ≡ Passed
-  passed = sym c.before.before.sizes-sizes.ensures ∙ c.in_default.is
+  passed = sym c.sizes-sizes.ensures ∙ c.in_default.is
 
 pub records-requires : goal.records-requires
-records-requires c = let s = sized.0 (passed c) in (s.small, s.most)
+records-requires c = let s = sized.0 (passed c.before) in (s.small, s.most)
 
 pub returns : goal.returns
-returns c = c.records.ensures ∙ sym (sizes-passed _ _ _ _ (passed c.before))
+returns c = c.records.ensures ∙ sym (sizes-passed _ _ _ _ (passed c.before.before))

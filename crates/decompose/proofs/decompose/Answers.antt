@@ -16,10 +16,22 @@ use Rattle.window.specs.Keys.{keys_of}
 use Rattle.window.proofs.Laws.{inside, inside-12, keys_length, blocks-most}
 use Rattle.decompose.proofs.Tables.{decompose-tile, decompose-outside, decompose-short, decompose-done}
 use Rattle.decompose.proofs.decompose.Goals as goal
-use Rattle.decompose.proofs.decompose.Goals.{After-most_blocks, Else-outside, In_default, Joined-out-most_blocks, Start}
+use Rattle.decompose.proofs.decompose.Goals.{Joined-out-most_blocks, Start}
+use Rattle.decompose.proofs.decompose.Lts as lts
+use Rattle.decompose.proofs.decompose.Reads as reads
+use Rattle.decompose.proofs.decompose.Tie as tie
+
+abbrev In_default : Type 0
+In_default = lts.After-enum_told tie.the-claims reads.Pre reads.Post
+
+abbrev Else-outside : Type 0
+Else-outside = lts.Else1 tie.the-claims reads.Pre reads.Post
+
+abbrev After-most_blocks : Type 0
+After-most_blocks = lts.After-most_blocks tie.the-claims reads.Pre reads.Post
 
 pub returns-in-Refused : goal.returns-in-Refused
-returns-in-Refused c = sym (decompose-tile _ _ _ _ (sym c.before.before.before.tile-tile.ensures ∙ c.before.in-Refused.is))
+returns-in-Refused c = sym (decompose-tile _ _ _ _ (sym c.tile-tile.ensures ∙ c.in-Refused.is))
 
 -- where refusals 1 and 17 do not hold
 module _ (c : In_default) where
@@ -27,7 +39,7 @@ module _ (c : In_default) where
   entry = c.before.before.before.before
 
   passed : verdict (tile_refusals entry.args.m entry.args.top) ≡ Passed
-  passed = sym c.before.before.tile-tile.ensures ∙ c.in_default.is
+  passed = sym c.tile-tile.ensures ∙ c.in_default.is
 
   small : (entry.args.m ≤ 12) × (entry.args.top ≤ entry.args.m)
   small = (tile-passed _ _).0 passed
@@ -39,10 +51,10 @@ module _ (c : In_default) where
   lent = entry.args.out-1.now
 
 pub outside-requires : goal.outside-requires
-outside-requires c = omega (arith, small c)
+outside-requires c = omega (arith, small c.before)
 
 pub returns-then-outside : goal.returns-then-outside
-returns-then-outside c = sym (decompose-outside _ _ _ _ (passed c.before.before) (sym c.before.outside.ensures ∙ c.if-outside.true))
+returns-then-outside c = sym (decompose-outside _ _ _ _ (passed c.before.before.before) (sym c.outside.ensures ∙ c.if-outside.true))
 
 -- nor 6
 module _ (c : Else-outside) where
@@ -50,13 +62,13 @@ module _ (c : Else-outside) where
   told = c.before.before
 
   within : outside (entry told).args.m (entry told).args.window ≡ false
-  within = sym c.before.outside.ensures ∙ c.if-outside.false
+  within = sym c.outside.ensures ∙ c.if-outside.false
 
   drawn : Inside (entry told).args.m (entry told).args.window
   drawn = inside _ _ within
 
 pub most_blocks-requires : goal.most_blocks-requires
-most_blocks-requires c = let e = c.before in let s = small (told e) in (omega (arith, s), inside-12 s.0 (drawn e))
+most_blocks-requires c = let e = c.before.before in let s = small (told e) in (omega (arith, s), inside-12 s.0 (drawn e))
 
 -- behind the number of keys that there can be
 abbrev clear : After-most_blocks → Else-outside
@@ -66,13 +78,13 @@ pub list_blocks-needed-requires : goal.list_blocks-needed-requires
 list_blocks-needed-requires c =
     let k = c.before.before.before in
     let s = small (told (clear k)) in
-    (k.before.spread_table-table.ensures, s.0, s.1, drawn (clear k))
+    (k.spread_table-table.ensures, s.0, s.1, drawn (clear k))
 
 pub returns-then-out-needed : goal.returns-then-out-needed
 returns-then-out-needed c =
-    let k = c.before.before.before.before.before.before.before in
+    let k = c.before.before.before.before.before.before.before.before in
     let e = told (clear k) in
-    let L = c.before.before.before.list_blocks-needed.ensures in
+    let L = c.list_blocks-needed.ensures in
     let same = listed-nothing L (lent e) in
     ap (after _) same ∙ sym (decompose-short _ _ _ _ (passed e) (within (clear k)) (listed-count L) (omega (arith, c.if-out-needed.true, ap length same)))
 
@@ -86,19 +98,19 @@ module _ (c : Joined-out-most_blocks) where
       let few = blocks-most (entry now).args.window (entry now).args.top (drawn (clear c.before)) in
       ⊎_elim
       (λ w. let same = listed-nothing w.3.ensures (lent now) in (w.7 ∙ same, omega (arith, listed-count w.3.ensures, w.6.left, ap length same)))
-      (λ w. (w.1, omega (arith, keys_length (entry now).args.m (entry now).args.top (entry now).args.window, few, c.before.most_blocks.ensures, w.0.left)))
+      (λ w. (w.1, omega (arith, keys_length (entry now).args.m (entry now).args.top (entry now).args.window, few, c.most_blocks.ensures, w.0.left)))
       c.if-out-most_blocks.branch
 
 pub list_blocks-count-requires : goal.list_blocks-count-requires
 list_blocks-count-requires c =
     let k = c.before.before.before in
     let s = small (told (clear k)) in
-    (k.before.spread_table-table.ensures, s.0, s.1, drawn (clear k))
+    (k.spread_table-table.ensures, s.0, s.1, drawn (clear k))
 
 pub shape_of-out : goal.shape_of-out
-shape_of-out c = listed_same c.before.before.list_blocks-count.ensures ∙ ap length (ready c.before.before.before.before.before).0
+shape_of-out c = listed_same c.list_blocks-count.ensures ∙ ap length (ready c.before.before.before.before.before.before).0
 
 pub returns : goal.returns
 returns c =
-    let j = c.before.before.before.before.before in
-    sym (decompose-done _ _ _ _ (passed (now j)) (within (clear j.before)) (rw (ready j).0 at c.before.before.list_blocks-count.ensures) (ready j).1)
+    let j = c.before.before.before.before.before.before in
+    sym (decompose-done _ _ _ _ (passed (now j)) (within (clear j.before)) (rw (ready j).0 at c.list_blocks-count.ensures) (ready j).1)

@@ -5,19 +5,25 @@ use Rattle.window.specs.Walk.{Goes}
 use Rattle.window.proofs.Laws.{goes_in, goes-exponent, goes-less, exponent-le, inside-12, pixel-in}
 use Rattle.decompose.proofs.Listing.{listing-first, listing-few, listing-next, listing-last}
 use Rattle.decompose.proofs.list_blocks.Goals as goal
-use Rattle.decompose.proofs.list_blocks.Goals.{After-slice_known-in-loop-row-1, At-loop-row, In-Block, Start}
+use Rattle.decompose.proofs.list_blocks.Goals.{At-loop-row, In-Block, Start}
+use Rattle.decompose.proofs.list_blocks.Lts as lts
+use Rattle.decompose.proofs.list_blocks.Reads as reads
+use Rattle.decompose.proofs.list_blocks.Tie as tie
+
+abbrev After-slice_known-in-loop-row-1 : Type 0
+After-slice_known-in-loop-row-1 = lts.After-slice_known2 tie.the-claims reads.Pre reads.Post goal.the-invariant-loop-row goal.the-decreases-loop-row
 
 pub loop-row-init : goal.loop-row-init
-loop-row-init c = listing-first c.before.requires.3 _
+loop-row-init c = listing-first c.requires.3 _
 
 pub next_block-next-requires : goal.next_block-next-requires
-next_block-next-requires c = (omega (arith, c.before.before.requires), inside-12 c.before.before.requires.1 c.before.before.requires.3, c.loop-row.invariant.walked.cursor)
+next_block-next-requires c = (omega (arith, c.requires), inside-12 c.requires.1 c.requires.3, c.loop-row.invariant.walked.cursor)
 
 pub shape_of-out-in_default : goal.shape_of-out-in_default
-shape_of-out-in_default c = listed_same c.before.before.before.loop-row.invariant.listed
+shape_of-out-in_default c = listed_same c.loop-row.invariant.listed
 
 pub returns-in_default : goal.returns-in_default
-returns-in_default c = listing-last c.before.before.before.loop-row.invariant (rw c.in_default.is at c.before.before.next_block-next.ensures)
+returns-in_default c = listing-last c.loop-row.invariant (rw c.in_default.is at c.next_block-next.ensures)
 
 -- the arm of a block
 module _ (c : In-Block) where
@@ -29,13 +35,13 @@ module _ (c : In-Block) where
 
   -- what the walk says
   goes : Goes entry.args.window entry.args.top (at.loop-row.r, at.loop-row.c)
-      (Block c.before.in-Block.row c.before.in-Block.col c.before.in-Block.exponent c.before.in-Block.after)
-  goes = rw c.before.in-Block.is at c.before.before.before.next_block-next.ensures
+      (Block c.in-Block.row c.in-Block.col c.in-Block.exponent c.in-Block.after)
+  goes = rw c.in-Block.is at c.next_block-next.ensures
 
 pub block_key-key-requires : goal.block_key-key-requires
 block_key-key-requires c =
     let e = entry c in
-    let low = exponent-le e.args.window e.args.top (c.before.in-Block.row, c.before.in-Block.col) in
+    let low = exponent-le e.args.window e.args.top (c.in-Block.row, c.in-Block.col) in
     (e.requires.0, e.requires.1, omega (arith, goes-exponent (goes c), low, e.requires.2), pixel-in e.requires.3 (goes_in (goes c)))
 
 -- behind the key
@@ -44,10 +50,10 @@ module _ (c : After-slice_known-in-loop-row-1) where
   arm = c.before.before.before.before.before
 
 pub overflow_add-n : goal.overflow_add-n
-overflow_add-n c = omega (arith, listing-few (at (arm c)).loop-row.invariant (goes (arm c)) (inside-12 (entry (arm c)).requires.1 (entry (arm c)).requires.3))
+overflow_add-n c = omega (arith, listing-few (at (arm c.before)).loop-row.invariant (goes (arm c.before)) (inside-12 (entry (arm c.before)).requires.1 (entry (arm c.before)).requires.3))
 
 pub loop-row-smaller : goal.loop-row-smaller
-loop-row-smaller c = goes-less (goes (arm c))
+loop-row-smaller c = goes-less (goes (arm c.before))
 
 pub loop-row-preserved : goal.loop-row-preserved
-loop-row-preserved c = rw c.before.before.put.ensures (listing-next (at (arm c)).loop-row.invariant (goes (arm c)) c.before.before.before.before.block_key-key.ensures)
+loop-row-preserved c = rw c.put.ensures (listing-next (at (arm c.before)).loop-row.invariant (goes (arm c.before)) c.block_key-key.ensures)

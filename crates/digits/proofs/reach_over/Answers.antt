@@ -6,13 +6,13 @@ use Rattle.digits.proofs.reach_over.Goals as goal
 use Rattle.digits.proofs.reach_over.Goals.{In-loop-p, Start}
 
 pub returns-then-own-eq0 : goal.returns-then-own-eq0
-returns-then-own-eq0 c = reached-all c.before.requires.2 c.if-own-eq0.true
+returns-then-own-eq0 c = reached-all c.requires.2 c.if-own-eq0.true
 
 pub overflow_sub-over : goal.overflow_sub-over
-overflow_sub-over c = omega (arith, c.before.requires.2.less)
+overflow_sub-over c = omega (arith, c.requires.2.less)
 
 pub pow5-p-requires : goal.pow5-p-requires
-pow5-p-requires c = (c.before.requires.0, omega (arith, (below-room c.before.requires.2).small, c.before.requires.1))
+pow5-p-requires c = (c.requires.0, omega (arith, (below-room c.requires.2).small, c.requires.1))
 
 pub loop-p-init : goal.loop-p-init
 loop-p-init c = grown-first c.pow5-p.ensures.is
@@ -22,10 +22,10 @@ module _ (c : In-loop-p) where
   abbrev start : Start
   start = c.before.before.before.before
 
-  next : Grown start.args.i (start.args.key - start.args.own) (5 * c.before.loop-p.p) (c.before.loop-p.e + 1)
-  next = grown-next c.before.loop-p.invariant (omega arith)
+  next : Grown start.args.i (start.args.key - start.args.own) (5 * c.loop-p.p) (c.loop-p.e + 1)
+  next = grown-next c.loop-p.invariant (omega arith)
 
-  room : c.before.loop-p.e + 1 ≤ start.args.m
+  room : c.loop-p.e + 1 ≤ start.args.m
   room = grown-most start.requires.2 next
 
 pub overflow_mul-p : goal.overflow_mul-p
@@ -43,14 +43,14 @@ pub loop-p-preserved : goal.loop-p-preserved
 loop-p-preserved c = next c
 
 pub nonzero_rem-own : goal.nonzero_rem-own
-nonzero_rem-own c = omega (arith, c.before.loop-p.invariant.power, pow-least 4 c.before.loop-p.e)
+nonzero_rem-own c = omega (arith, c.loop-p.invariant.power, pow-least 4 c.loop-p.e)
 
 pub returns-then-own-p-ne0 : goal.returns-then-own-p-ne0
 returns-then-own-p-ne0 c =
     let s = c.before.before.before.before.before in
-    unreached s.requires.2 c.before.before.loop-p.invariant (omega arith) c.if-own-p-ne0.true
+    unreached s.requires.2 c.loop-p.invariant (omega arith) c.if-own-p-ne0.true
 
 pub returns : goal.returns
 returns c =
     let s = c.before.before.before.before.before in
-    reached s.requires.2 c.before.before.loop-p.invariant (omega arith) c.if-own-p-ne0.false
+    reached s.requires.2 c.loop-p.invariant (omega arith) c.if-own-p-ne0.false

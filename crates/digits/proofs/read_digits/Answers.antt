@@ -12,15 +12,15 @@ pub loop-rest-init : goal.loop-rest-init
 loop-rest-init c = reading-first c.requires.1
 
 pub pair_place-place-requires : goal.pair_place-place-requires
-pair_place-place-requires c = (c.before.before.requires.0, omega arith)
+pair_place-place-requires c = (c.requires.0, omega arith)
 
 pub returns-then-place-eq16 : goal.returns-then-place-eq16
 returns-then-place-eq16 c =
     let l = c.before.before in
-    sym (reading-gap l.before.loop-rest.invariant l.before.before.args.m refl (omega (arith, l.loop-rest-test.true)) (sym c.before.pair_place-place.ensures ∙ c.if-place-eq16.true))
+    sym (reading-gap l.loop-rest.invariant l.args.m refl (omega (arith, l.loop-rest-test.true)) (sym c.pair_place-place.ensures ∙ c.if-place-eq16.true))
 
 pub pow4-requires : goal.pow4-requires
-pow4-requires c = let l = c.before.before in omega (arith, reading-few l.before.loop-rest.invariant 0 (omega (arith, l.loop-rest-test.true)) l.before.before.requires.2)
+pow4-requires c = let l = c.before.before in omega (arith, reading-few l.loop-rest.invariant 0 (omega (arith, l.loop-rest-test.true)) l.requires.2)
 
 -- after the turn
 module _ (c : After-pow4) where
@@ -28,22 +28,22 @@ module _ (c : After-pow4) where
   at = c.before.before.before.before
 
   abbrev low : Stripped
-  low = at.before.args.low
+  low = at.args.low
 
-  next : Reading (low.rest * 5 ^ low.zeros) low.zeros (at.loop-rest.k + 2) (at.loop-rest.rest / 25) (c.before.before.pair_place-place.result * c.pow4.result + at.loop-rest.start)
-  next = reading-next at.loop-rest.invariant c.pow4.ensures.is (pixel-told _ c.before.before.pair_place-place.ensures c.before.if-place-eq16.false) c.before.before.before.loop-rest-test.true
+  next : Reading (low.rest * 5 ^ low.zeros) low.zeros (at.loop-rest.k + 2) (at.loop-rest.rest / 25) (c.pair_place-place.result * c.pow4.result + at.loop-rest.start)
+  next = reading-next at.loop-rest.invariant c.pow4.ensures.is (pixel-told _ c.pair_place-place.ensures c.if-place-eq16.false) c.loop-rest-test.true
 
 pub overflow_mul-start : goal.overflow_mul-start
-overflow_mul-start c = omega (arith, reading_small (next c) (at c).before.requires.2)
+overflow_mul-start c = omega (arith, reading_small (next c) (at c).requires.2)
 
 pub overflow_add-start : goal.overflow_add-start
-overflow_add-start c = omega (arith, reading_small (next c) (at c).before.requires.2)
+overflow_add-start c = omega (arith, reading_small (next c) (at c).requires.2)
 
 pub overflow_add-k : goal.overflow_add-k
-overflow_add-k c = omega (arith, reading-few (next c) 0 (omega (arith, c.before.before.before.loop-rest-test.true)) (at c).before.requires.2)
+overflow_add-k c = omega (arith, reading-few (next c) 0 (omega (arith, c.loop-rest-test.true)) (at c).requires.2)
 
 pub loop-rest-smaller : goal.loop-rest-smaller
-loop-rest-smaller c = omega (arith, c.before.before.before.loop-rest-test.true)
+loop-rest-smaller c = omega (arith, c.loop-rest-test.true)
 
 pub loop-rest-preserved : goal.loop-rest-preserved
 loop-rest-preserved c = next c
@@ -54,7 +54,7 @@ module _ (c : Then-rest-lt5) where
   end = c.before.before
 
   few : end.loop-rest.k + 0 < 12
-  few = reading-few end.loop-rest.invariant 0 end.loop-rest.invariant.some end.before.requires.2
+  few = reading-few end.loop-rest.invariant 0 end.loop-rest.invariant.some end.requires.2
 
 pub overflow_add-k-then-rest-lt5 : goal.overflow_add-k-then-rest-lt5
 overflow_add-k-then-rest-lt5 c = omega (arith, few c)
@@ -68,7 +68,7 @@ pow4-requires-then-rest-lt5 c = omega (arith, few c)
 room : (c : After-pow4-then-rest-lt5) → ((end c.before).loop-rest.rest - 1) * c.pow4-then-rest-lt5.result + (end c.before).loop-rest.start < 4 ^ 12
 room c =
     let l = (end c.before).loop-rest in
-    reading-room l.invariant 0 c.pow4-then-rest-lt5.ensures.is l.invariant.some c.before.if-rest-lt5.true (digit-told l.invariant.some c.before.if-rest-lt5.true) (end c.before).before.requires.2
+    reading-room l.invariant 0 c.pow4-then-rest-lt5.ensures.is l.invariant.some c.if-rest-lt5.true (digit-told l.invariant.some c.if-rest-lt5.true) (end c.before).requires.2
 
 pub overflow_mul-rest : goal.overflow_mul-rest
 overflow_mul-rest c = omega (arith, room c)
@@ -80,33 +80,33 @@ pub returns-then-rest-lt5 : goal.returns-then-rest-lt5
 returns-then-rest-lt5 c =
     let b = c.before.before in
     let l = (end b).loop-rest in
-    c.form_of_digits.ensures ∙ reading-last l.invariant 0 c.before.pow4-then-rest-lt5.ensures.is l.invariant.some b.if-rest-lt5.true (digit-told l.invariant.some b.if-rest-lt5.true) (end b).before.args.m
+    c.form_of_digits.ensures ∙ reading-last l.invariant 0 c.pow4-then-rest-lt5.ensures.is l.invariant.some b.if-rest-lt5.true (digit-told l.invariant.some b.if-rest-lt5.true) (end b).args.m
 
 -- two digits are
 pub pair_place-place-requires-2 : goal.pair_place-place-requires-2
-pair_place-place-requires-2 c = (c.before.before.before.requires.0, omega (arith, c.before.loop-rest-test.false))
+pair_place-place-requires-2 c = (c.requires.0, omega (arith, c.loop-rest-test.false))
 
 pub returns-then-place-eq16-2 : goal.returns-then-place-eq16-2
 returns-then-place-eq16-2 c =
     let l = c.before.before.before in
-    sym (reading-gap l.before.loop-rest.invariant l.before.before.args.m (omega (arith, l.loop-rest-test.false)) (omega (arith, c.before.before.if-rest-lt5.false))
-    (sym c.before.pair_place-place-2.ensures ∙ c.if-place-eq16-2.true))
+    sym (reading-gap l.loop-rest.invariant l.args.m (omega (arith, l.loop-rest-test.false)) (omega (arith, c.if-rest-lt5.false))
+    (sym c.pair_place-place-2.ensures ∙ c.if-place-eq16-2.true))
 
 module _ (c : Else-place-eq16-2) where
   abbrev last : After-loop-rest
   last = c.before.before.before
 
-  more : 5 ≤ last.before.loop-rest.rest
-  more = omega (arith, c.before.before.if-rest-lt5.false)
+  more : 5 ≤ last.loop-rest.rest
+  more = omega (arith, c.if-rest-lt5.false)
 
-  less : last.before.loop-rest.rest < 25
+  less : last.loop-rest.rest < 25
   less = omega (arith, last.loop-rest-test.false)
 
-  told : form_of 2 last.before.loop-rest.rest ≡ Block 0 c.before.pair_place-place-2.result
-  told = pixel-told _ c.before.pair_place-place-2.ensures c.if-place-eq16-2.false
+  told : form_of 2 last.loop-rest.rest ≡ Block 0 c.pair_place-place-2.result
+  told = pixel-told _ c.pair_place-place-2.ensures c.if-place-eq16-2.false
 
-  fewer : last.before.loop-rest.k + 1 < 12
-  fewer = reading-few last.before.loop-rest.invariant 1 more last.before.before.requires.2
+  fewer : last.loop-rest.k + 1 < 12
+  fewer = reading-few last.loop-rest.invariant 1 more last.requires.2
 
 pub overflow_add-k-2 : goal.overflow_add-k-2
 overflow_add-k-2 c = omega (arith, fewer c)
@@ -114,10 +114,10 @@ overflow_add-k-2 c = omega (arith, fewer c)
 pub pow4-requires-2 : goal.pow4-requires-2
 pow4-requires-2 c = omega (arith, fewer c)
 
-room-2 : (c : After-pow4-2) → c.before.before.pair_place-place-2.result * c.pow4-2.result + (last c.before).before.loop-rest.start < 4 ^ 12
+room-2 : (c : After-pow4-2) → c.pair_place-place-2.result * c.pow4-2.result + (last c.before).loop-rest.start < 4 ^ 12
 room-2 c =
     let b = c.before in
-    reading-room (last b).before.loop-rest.invariant 1 c.pow4-2.ensures.is (more b) (less b) (told b) (last b).before.before.requires.2
+    reading-room (last b).loop-rest.invariant 1 c.pow4-2.ensures.is (more b) (less b) (told b) (last b).requires.2
 
 pub overflow_mul-place : goal.overflow_mul-place
 overflow_mul-place c = omega (arith, room-2 c)
@@ -128,4 +128,4 @@ overflow_add-place c = omega (arith, room-2 c)
 pub returns : goal.returns
 returns c =
     let b = c.before.before in
-    c.form_of_digits-2.ensures ∙ reading-last (last b).before.loop-rest.invariant 1 c.before.pow4-2.ensures.is (more b) (less b) (told b) (last b).before.before.args.m
+    c.form_of_digits-2.ensures ∙ reading-last (last b).loop-rest.invariant 1 c.pow4-2.ensures.is (more b) (less b) (told b) (last b).args.m

@@ -7,10 +7,10 @@ use Rattle.key.proofs.Loops.{form-whole, form-big}
 use Rattle.digits.proofs.read_key.Goals as goal
 
 pub returns-then-key-eq0 : goal.returns-then-key-eq0
-returns-then-key-eq0 c = sym (ap (form_of c.before.args.m) c.if-key-eq0.true ∙ form-whole c.before.args.m)
+returns-then-key-eq0 c = sym (ap (form_of c.args.m) c.if-key-eq0.true ∙ form-whole c.args.m)
 
 pub returns-then-key-ge244140625 : goal.returns-then-key-ge244140625
-returns-then-key-ge244140625 c = sym (form-big _ _ (omega (arith, pow-most 4 _ c.before.before.requires)))
+returns-then-key-ge244140625 c = sym (form-big _ _ (omega (arith, pow-most 4 _ c.requires)))
 
 pub returns : goal.returns
-returns c = c.read_digits.ensures ∙ ap (form_of _) (sym c.before.strip_zeros.ensures.is)
+returns c = c.read_digits.ensures ∙ ap (form_of _) (sym c.strip_zeros.ensures.is)

@@ -7,4 +7,4 @@ pub returns : goal.returns
 returns c =
     let e = c.before.before.before.before in
     let n = e.requires.1.names in
-    rw (ends-exponent n c.before.before.zeros_of-exponent.ensures, c.start_of-start.ensures ∙ start-told e.requires.0 n) n
+    rw (ends-exponent n c.zeros_of-exponent.ensures, c.start_of-start.ensures ∙ start-told e.requires.0 n) n

@@ -9,19 +9,19 @@ pub loop-k-init : goal.loop-k-init
 loop-k-init c = squaring-first _ _
 
 pub side-side-requires : goal.side-side-requires
-side-side-requires c = omega (arith, c.before.before.requires, c.loop-k-test)
+side-side-requires c = omega (arith, c.requires, c.loop-k-test)
 
 pub overflow_add-k : goal.overflow_add-k
-overflow_add-k c = omega (arith, c.before.before.before.requires, c.before.loop-k-test)
+overflow_add-k c = omega (arith, c.requires, c.loop-k-test)
 
 pub overflow_add-exponent : goal.overflow_add-exponent
-overflow_add-exponent c = let at = c.before.before.before in omega (arith, at.before.requires, at.loop-k.invariant.within, at.loop-k.invariant.so.small)
+overflow_add-exponent c = let at = c.before.before.before in omega (arith, at.requires, at.loop-k.invariant.within, at.loop-k.invariant.so.small)
 
 pub loop-k-smaller-then-digit-eq0 : goal.loop-k-smaller-then-digit-eq0
-loop-k-smaller-then-digit-eq0 c = omega (arith, c.before.before.loop-k-test)
+loop-k-smaller-then-digit-eq0 c = omega (arith, c.loop-k-test)
 
 pub loop-k-preserved-then-digit-eq0 : goal.loop-k-preserved-then-digit-eq0
-loop-k-preserved-then-digit-eq0 c = squaring-zero c.before.before.before.loop-k.invariant (omega (arith, c.before.before.loop-k-test)) c.if-digit-eq0.true
+loop-k-preserved-then-digit-eq0 c = squaring-zero c.loop-k.invariant (omega (arith, c.loop-k-test)) c.if-digit-eq0.true
 
 -- a digit that is not 0: row and column are still those of a pixel
 module _ (c : Else-digit-eq0) where
@@ -30,15 +30,15 @@ module _ (c : Else-digit-eq0) where
 
   next : let q = at.loop-k in
       let quadrant = q.rest % 5 - 1 in
-      let side = c.before.side-side.result in
-      Squaring at.before.args.m at.before.args.key (q.rest / 5) q.exponent (q.row + quadrant / 2 * side) (q.col + quadrant % 2 * side) (q.k + 1)
-  next = squaring-digit at.loop-k.invariant (omega (arith, c.before.before.loop-k-test)) c.if-digit-eq0.false c.before.side-side.ensures.is
+      let side = c.side-side.result in
+      Squaring at.args.m at.args.key (q.rest / 5) q.exponent (q.row + quadrant / 2 * side) (q.col + quadrant % 2 * side) (q.k + 1)
+  next = squaring-digit at.loop-k.invariant (omega (arith, c.loop-k-test)) c.if-digit-eq0.false c.side-side.ensures.is
 
   small : let q = at.loop-k in
       let quadrant = q.rest % 5 - 1 in
-      let side = c.before.side-side.result in
+      let side = c.side-side.result in
       Pixel 12 (q.row + quadrant / 2 * side) (q.col + quadrant % 2 * side)
-  small = larger {n = 12} (omega (arith, at.before.requires, next.within)) next.so.pixel
+  small = larger {n = 12} (omega (arith, at.requires, next.within)) next.so.pixel
 
 pub overflow_sub-row : goal.overflow_sub-row
 overflow_sub-row c = omega (arith, c.if-digit-eq0.false)
@@ -59,10 +59,10 @@ pub overflow_add-col : goal.overflow_add-col
 overflow_add-col c = omega (arith, small c)
 
 pub loop-k-smaller : goal.loop-k-smaller
-loop-k-smaller c = omega (arith, c.before.before.loop-k-test)
+loop-k-smaller c = omega (arith, c.loop-k-test)
 
 pub loop-k-preserved : goal.loop-k-preserved
 loop-k-preserved c = next c
 
 pub returns : goal.returns
-returns c = squaring-last c.before.loop-k.invariant (omega (arith, c.loop-k-test))
+returns c = squaring-last c.loop-k.invariant (omega (arith, c.loop-k-test))

@@ -7,16 +7,16 @@ pub loop-zeros-init : goal.loop-zeros-init
 loop-zeros-init c = ending-first _ _
 
 pub returns-then-rest-ne0 : goal.returns-then-rest-ne0
-returns-then-rest-ne0 c = ending-some c.before.before.loop-zeros.invariant c.if-rest-ne0.true
+returns-then-rest-ne0 c = ending-some c.loop-zeros.invariant c.if-rest-ne0.true
 
 pub overflow_add-zeros : goal.overflow_add-zeros
-overflow_add-zeros c = omega (arith, c.before.before.before.requires, c.before.loop-zeros-test)
+overflow_add-zeros c = omega (arith, c.requires, c.loop-zeros-test)
 
 pub loop-zeros-smaller : goal.loop-zeros-smaller
-loop-zeros-smaller c = omega (arith, c.before.loop-zeros-test)
+loop-zeros-smaller c = omega (arith, c.loop-zeros-test)
 
 pub loop-zeros-preserved : goal.loop-zeros-preserved
-loop-zeros-preserved c = ending-next c.before.before.loop-zeros.invariant (omega (arith, c.before.loop-zeros-test)) c.if-rest-ne0.false
+loop-zeros-preserved c = ending-next c.loop-zeros.invariant (omega (arith, c.loop-zeros-test)) c.if-rest-ne0.false
 
 pub returns : goal.returns
-returns c = ending-all c.before.loop-zeros.invariant (omega (arith, c.loop-zeros-test))
+returns c = ending-all c.loop-zeros.invariant (omega (arith, c.loop-zeros-test))

@@ -13,15 +13,39 @@ use Rattle.exist.specs.Exist.{existing}
 use Rattle.exist.proofs.Seeking.{seeking-first, seeking-next, seeking-found, seeking-last}
 use Rattle.exist.proofs.Tables.{existing-yes, existing-none}
 use Rattle.exist.proofs.seek.Goals as goal
-use Rattle.exist.proofs.seek.Goals.{After-fill, After-look-looked, After-next_opening-found, After-slice_known-then-looked-1, At-loop-first, In-Opening, In_default, Start}
+use Rattle.exist.proofs.seek.Goals.{Start}
+use Rattle.exist.proofs.seek.Lts as lts
+use Rattle.exist.proofs.seek.Reads as reads
+use Rattle.exist.proofs.seek.Tie as tie
+
+abbrev After-fill : Type 0
+After-fill = lts.After-fill tie.the-claims reads.Pre reads.Post goal.the-invariant-loop-first goal.the-decreases-loop-first
+
+abbrev At-loop-first : Type 0
+At-loop-first = lts.At-loop tie.the-claims reads.Pre reads.Post goal.the-invariant-loop-first goal.the-decreases-loop-first
+
+abbrev After-next_opening-found : Type 0
+After-next_opening-found = lts.After-next_opening tie.the-claims reads.Pre reads.Post goal.the-invariant-loop-first goal.the-decreases-loop-first
+
+abbrev In-Opening : Type 0
+In-Opening = lts.After-known_told tie.the-claims reads.Pre reads.Post goal.the-invariant-loop-first goal.the-decreases-loop-first
+
+abbrev In_default : Type 0
+In_default = lts.After-enum_told tie.the-claims reads.Pre reads.Post goal.the-invariant-loop-first goal.the-decreases-loop-first
+
+abbrev After-look-looked : Type 0
+After-look-looked = lts.After-look tie.the-claims reads.Pre reads.Post goal.the-invariant-loop-first goal.the-decreases-loop-first
+
+abbrev After-slice_known-then-looked-1 : Type 0
+After-slice_known-then-looked-1 = lts.After-slice_known4 tie.the-claims reads.Pre reads.Post goal.the-invariant-loop-first goal.the-decreases-loop-first
 
 pub fill-requires : goal.fill-requires
-fill-requires c = (omega arith, omega (arith, c.before.before.before.before.before.requires.1.wide))
+fill-requires c = (omega arith, omega (arith, c.requires.1.wide))
 
 pub loop-first-init : goal.loop-first-init
 loop-first-init c =
-    let p = c.before.before.before.before.before.before.before.before.before.requires in
-    rw c.start-at.ensures (seeking-first _ _ (finding-first _ p.1 c.before.before.before.fill.ensures))
+    let p = c.requires in
+    rw c.start-at.ensures (seeking-first _ _ (finding-first _ p.1 c.fill.ensures))
 
 -- at a turn: what was there before the loop, and the map and the window with the border that was filled
 module _ (c : At-loop-first) where
@@ -35,7 +59,7 @@ module _ (c : At-loop-first) where
   usable = fresh-usable _ first.requires.1 fresh.fill.ensures
 
 pub next_opening-found-requires : goal.next_opening-found-requires
-next_opening-found-requires c = let at = c.before in ((first at).requires.0, finding-usable at.loop-first.invariant.finding (usable at), at.loop-first.invariant.finding.reached)
+next_opening-found-requires c = let at = c.before.before in ((first at).requires.0, finding-usable at.loop-first.invariant.finding (usable at), at.loop-first.invariant.finding.reached)
 
 -- where nothing is left to be found
 module _ (c : In_default) where
@@ -60,16 +84,16 @@ module _ (c : In_default) where
       )
 
 pub shape_of-border-then-unseen : goal.shape_of-border-then-unseen
-shape_of-border-then-unseen c = (ended c.before).0
+shape_of-border-then-unseen c = (ended c.before.before).0
 
 pub returns-then-unseen : goal.returns-then-unseen
-returns-then-unseen c = ap (λ (u : Bool). after (cond u CannotTell No) (left c.before)) (sym c.if-unseen.true) ∙ (ended c.before).1
+returns-then-unseen c = ap (λ (u : Bool). after (cond u CannotTell No) (left c.before.before)) (sym c.if-unseen.true) ∙ (ended c.before.before).1
 
 pub shape_of-border-else-unseen : goal.shape_of-border-else-unseen
-shape_of-border-else-unseen c = (ended c.before).0
+shape_of-border-else-unseen c = (ended c.before.before).0
 
 pub returns-else-unseen : goal.returns-else-unseen
-returns-else-unseen c = ap (λ (u : Bool). after (cond u CannotTell No) (left c.before)) (sym c.if-unseen.false) ∙ (ended c.before).1
+returns-else-unseen c = ap (λ (u : Bool). after (cond u CannotTell No) (left c.before.before)) (sym c.if-unseen.false) ∙ (ended c.before.before).1
 
 -- the arm of an opening
 module _ (c : In-Opening) where
@@ -79,19 +103,19 @@ module _ (c : In-Opening) where
   abbrev turn : At-loop-first
   turn = answered.before.before
 
-  opens : Opens turn.loop-first.invariant.finding c.before.in-Opening.is answered.next_opening-found.last.1.1.1.1.1.1.0
-  opens = finds-opens (first turn).requires.1 turn.loop-first.invariant.finding c.before.in-Opening.is answered.next_opening-found.ensures
+  opens : Opens turn.loop-first.invariant.finding c.in-Opening.is answered.next_opening-found.last.1.1.1.1.1.1.0
+  opens = finds-opens (first turn).requires.1 turn.loop-first.invariant.finding c.in-Opening.is answered.next_opening-found.ensures
 
 pub look-looked-requires : goal.look-looked-requires
 look-looked-requires c =
-    let p = (first (turn c)).requires in
-    (omega (arith, (opens c).room, p.2), omega (arith, p.1.few, p.2))
+    let p = (first (turn c.before)).requires in
+    (omega (arith, (opens c.before).room, p.2), omega (arith, p.1.few, p.2))
 
 pub overflow_add-window : goal.overflow_add-window
-overflow_add-window c = let u = (first (turn c.before.before.before.before)).requires.1 in let i = inside-12 u.small u.inside in omega (arith, i)
+overflow_add-window c = let u = (first (turn c.before.before.before.before.before)).requires.1 in let i = inside-12 u.small u.inside in omega (arith, i)
 
 pub fill-requires-then-looked : goal.fill-requires-then-looked
-fill-requires-then-looked c = let of = c.before.before.before.before in (omega arith, (finding-usable (opens of).next (usable (turn of))).wide)
+fill-requires-then-looked c = let of = c.before.before.before.before.before in (omega arith, (finding-usable (opens of).next (usable (turn of))).wide)
 
 -- the border, where a record has the class
 module _ (c : After-slice_known-then-looked-1) where
@@ -102,28 +126,28 @@ module _ (c : After-slice_known-then-looked-1) where
   at = turn looked.before
 
   abbrev filled : List ℕ
-  filled = c.before.before.fill-then-looked.new.0
+  filled = c.fill-then-looked.new.0
 
   spent-now : (filled ≡ spent (first at).args.window (fresh at).fill.last.0) × (length filled ≡ length (fresh at).fill.last.0)
-  spent-now = finding-spent (opens looked.before).next (usable at) c.before.before.fill-then-looked.ensures
+  spent-now = finding-spent (opens looked.before).next (usable at) c.fill-then-looked.ensures
 
 pub shape_of-border-then-looked : goal.shape_of-border-then-looked
-shape_of-border-then-looked c = (spent-now c).1 ∙ fresh-same _ (first (at c)).requires.1 (fresh (at c)).fill.ensures
+shape_of-border-then-looked c = (spent-now c.before).1 ∙ fresh-same _ (first (at c.before)).requires.1 (fresh (at c.before)).fill.ensures
 
 pub returns-then-looked : goal.returns-then-looked
 returns-then-looked c =
     existing-yes _ _ _ _
-    (seeking-found _ _ (first (at c)).requires.1 (first (at c)).requires.3 (at c).loop-first.invariant (opens (looked c).before)
-    (sym (looked c).look-looked.ensures.0 ∙ c.before.before.before.before.before.if-looked.true))
-    ((spent-now c).0 ∙ fresh-spent _ (first (at c)).requires.1 (fresh (at c)).fill.ensures)
+    (seeking-found _ _ (first (at c.before)).requires.1 (first (at c.before)).requires.3 (at c.before).loop-first.invariant (opens (looked c.before).before)
+    (sym (looked c.before).look-looked.ensures.0 ∙ c.if-looked.true))
+    ((spent-now c.before).0 ∙ fresh-spent _ (first (at c.before)).requires.1 (fresh (at c.before)).fill.ensures)
 
 pub loop-first-smaller : goal.loop-first-smaller
-loop-first-smaller c = (opens c.before.before.before).fewer
+loop-first-smaller c = (opens c.before.before.before.before).fewer
 
 pub loop-first-preserved : goal.loop-first-preserved
 loop-first-preserved c =
-    let looked = c.before.before in
+    let looked = c.before.before.before in
     let at = turn looked.before in
     seeking-next _ _ (first at).requires.1 (first at).requires.3 at.loop-first.invariant (opens looked.before)
-    (sym looked.look-looked.ensures.0 ∙ c.before.if-looked.false)
+    (sym looked.look-looked.ensures.0 ∙ c.if-looked.false)
     looked.look-looked.ensures.1

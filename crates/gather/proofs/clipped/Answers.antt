@@ -14,12 +14,12 @@ use Rattle.gather.proofs.clipped.Goals.{After-shared-cols, After-side-side, Star
 pub shared-rows-requires : goal.shared-rows-requires
 shared-rows-requires c =
     let start = c.before.before in
-    omega (arith, c.floor.ensures, floor-le start.args.e start.args.row, c.before.side-side.ensures, start.requires)
+    omega (arith, c.floor.ensures, floor-le start.args.e start.args.row, c.side-side.ensures, start.requires)
 
 pub shared-cols-requires : goal.shared-cols-requires
 shared-cols-requires c =
     let start = c.before.before.before.before in
-    omega (arith, c.floor-2.ensures, floor-le start.args.e start.args.col, c.before.before.before.side-side.ensures, start.requires)
+    omega (arith, c.floor-2.ensures, floor-le start.args.e start.args.col, c.side-side.ensures, start.requires)
 
 -- where both numbers are known
 module _ (c : After-shared-cols) where
@@ -35,13 +35,13 @@ module _ (c : After-shared-cols) where
   abbrev pixel : Px
   pixel = (start.args.row, start.args.col)
 
-  rows : c.before.before.shared-rows.result ≡ shared W.r0 W.h (floor start.args.e pixel.0) (2 ^ start.args.e)
-  rows = c.before.before.shared-rows.ensures ∙ ap₂ (shared W.r0 W.h) c.before.before.before.floor.ensures sided.side-side.ensures.is
+  rows : c.shared-rows.result ≡ shared W.r0 W.h (floor start.args.e pixel.0) (2 ^ start.args.e)
+  rows = c.shared-rows.ensures ∙ ap₂ (shared W.r0 W.h) c.floor.ensures sided.side-side.ensures.is
 
   cols : c.shared-cols.result ≡ shared W.c0 W.w (floor start.args.e pixel.1) (2 ^ start.args.e)
-  cols = c.shared-cols.ensures ∙ ap₂ (shared W.c0 W.w) c.before.floor-2.ensures sided.side-side.ensures.is
+  cols = c.shared-cols.ensures ∙ ap₂ (shared W.c0 W.w) c.floor-2.ensures sided.side-side.ensures.is
 
-  product : c.before.before.shared-rows.result * c.shared-cols.result ≡ clipped W start.args.e pixel
+  product : c.shared-rows.result * c.shared-cols.result ≡ clipped W start.args.e pixel
   product = ap₂ ◌*◌ rows cols ∙ sym (clipped-is W start.args.e pixel)
 
 pub overflow_mul-result : goal.overflow_mul-result

@@ -9,17 +9,32 @@ use Rattle.window.proofs.Laws.{inside-12}
 use Rattle.totals.specs.Gather.{area, Fills}
 use Rattle.totals.proofs.Loops.{fills-small, fills_first, fills-key, fills-within, fills-begins, fills-area, fills-next, Adding, adding-first, adding-most, adding-next, adding-last}
 use Rattle.gather.proofs.gather_run.Goals as goal
-use Rattle.gather.proofs.gather_run.Goals.{After-pow4, After-shared_slice_known-in-loop-n-2-1, At-loop-n, In-loop-n, Start}
+use Rattle.gather.proofs.gather_run.Goals.{Start}
+use Rattle.gather.proofs.gather_run.Lts as lts
+use Rattle.gather.proofs.gather_run.Reads as reads
+use Rattle.gather.proofs.gather_run.Tie as tie
+
+abbrev At-loop-n : Type 0
+At-loop-n = lts.At-loop tie.the-claims reads.Pre reads.Post goal.the-invariant-loop-n goal.the-decreases-loop-n
+
+abbrev In-loop-n : Type 0
+In-loop-n = lts.In-loop tie.the-claims reads.Pre reads.Post goal.the-invariant-loop-n goal.the-decreases-loop-n
+
+abbrev After-pow4 : Type 0
+After-pow4 = lts.After-pow4 tie.the-claims reads.Pre reads.Post goal.the-invariant-loop-n goal.the-decreases-loop-n
+
+abbrev After-shared_slice_known-in-loop-n-2-1 : Type 0
+After-shared_slice_known-in-loop-n-2-1 = lts.After-shared_slice_known4 tie.the-claims reads.Pre reads.Post goal.the-invariant-loop-n goal.the-decreases-loop-n
 
 pub overflow_add-end : goal.overflow_add-end
-overflow_add-end c = let h = c.before.before.requires.2.hands in omega (arith, h.room, h.few)
+overflow_add-end c = let h = c.requires.2.hands in omega (arith, h.room, h.few)
 
 -- the block is no larger than the picture
 small : (c : Start) → c.args.exponent ≤ 12
 small c = omega (arith, fills-small c.requires.2, c.requires.2.hands.given.small)
 
 pub loop-n-init : goal.loop-n-init
-loop-n-init c = (λ W L G. adding-first G, c.first_spot-spot.ensures.1, rw c.first_spot-spot.ensures.0 (fills_first c.before.before.before.requires.2))
+loop-n-init c = (λ W L G. adding-first G, c.first_spot-spot.ensures.1, rw c.first_spot-spot.ensures.0 (fills_first c.requires.2))
 
 -- at a turn
 module _ (c : In-loop-n) where
@@ -37,67 +52,67 @@ module _ (c : In-loop-n) where
   among = omega (arith, adding.low, c.loop-n-test)
 
 pub bounds-keys-at : goal.bounds-keys-at
-bounds-keys-at c = fills-within (start c.before).requires.2 (among c.before)
+bounds-keys-at c = fills-within (start c.before.before).requires.2 (among c.before.before)
 
 pub overflow_sub-inner : goal.overflow_sub-inner
-overflow_sub-inner c = omega (arith, fills-key (start c.before).requires.2 (among c.before))
+overflow_sub-inner c = omega (arith, fills-key (start c.before.before).requires.2 (among c.before.before))
 
 pub exponent_here-e-requires : goal.exponent_here-e-requires
 exponent_here-e-requires c =
-    let t = c.before in
+    let t = c.before.before in
     ((start t).requires.0, (start t).requires.1, small (start t), (turn t).loop-n.invariant.1, fills-begins (start t).requires.2 (among t) (turn t).loop-n.invariant.2)
 
 pub pow4-requires : goal.pow4-requires
-pow4-requires c = omega (arith, (block-lies c.exponent_here-e.ensures).small, small (start c.before.before))
+pow4-requires c = omega (arith, (block-lies c.exponent_here-e.ensures).small, small (start c.before.before.before))
 
 pub bounds-classes-at : goal.bounds-classes-at
-bounds-classes-at c = let t = c.before.before.before.before in omega (arith, among t, (start t).requires.2.hands.room)
+bounds-classes-at c = let t = c.before.before.before.before.before in omega (arith, among t, (start t).requires.2.hands.room)
 
 -- a class is a byte
 byte : (c : After-shared_slice_known-in-loop-n-2-1)
     → let t = c.before.before.before.before in get_or (start t).args.classes.now (turn t).loop-n.n 0 < 256
-byte c = let g = c.shared_slice_known-in-loop-n-2-1.given c.before.before.before.before.before.loop-n.n in omega (arith, g)
+byte c = let g = c.shared_slice_known-in-loop-n-2-1.given c.loop-n.n in omega (arith, g)
 
 pub overflow_cast-totals : goal.overflow_cast-totals
-overflow_cast-totals c = omega (arith, byte c)
+overflow_cast-totals c = omega (arith, byte c.before)
 
 pub offset_bounds-totals-classes : goal.offset_bounds-totals-classes
-offset_bounds-totals-classes c = omega (arith, byte c)
+offset_bounds-totals-classes c = omega (arith, byte c.before)
 
 pub bounds-totals-classes : goal.bounds-totals-classes
-bounds-totals-classes c = byte c
+bounds-totals-classes c = byte c.before
 
 -- what is added: the record's part in the window, whatever window its block lies in
 added : (c : After-pow4) {W : Window} → let t = c.before.before.before in let s = start t in
     Fills s.args.m s.args.keys.now (length s.args.classes.now) W s.args.key s.args.exponent s.args.first s.args.count
     → c.pow4.result ≡ area s.args.m s.args.keys.now W (turn t).loop-n.n
-added c L = let t = c.before.before.before in fills-area L (among t) (turn t).loop-n.invariant.2 c.before.exponent_here-e.ensures c.pow4.ensures.is
+added c L = let t = c.before.before.before in fills-area L (among t) (turn t).loop-n.invariant.2 c.exponent_here-e.ensures c.pow4.ensures.is
 
 pub overflow_add-totals : goal.overflow_add-totals
 overflow_add-totals c =
-    let t = c.before.before.before.before.before in
+    let t = c.before.before.before.before.before.before in
     let g = (start t).requires.2.hands.given in
-    omega (arith, adding-most (adding t) (among t).most (inside-12 g.small g.inside) (byte c.before), added c.before.before (start t).requires.2)
+    omega (arith, adding-most (adding t) (among t).most (inside-12 g.small g.inside) (byte c.before.before), added c.before.before.before (start t).requires.2)
 
 pub bounds-totals-classes-in-loop-n : goal.bounds-totals-classes-in-loop-n
-bounds-totals-classes-in-loop-n c = byte c.before
+bounds-totals-classes-in-loop-n c = byte c.before.before
 
 pub advance-spot-requires : goal.advance-spot-requires
-advance-spot-requires c = let t = c.before.before.before.before.before in ((start t).requires.0, small (start t), c.before.before.before.exponent_here-e.ensures)
+advance-spot-requires c = let t = c.before.before.before.before.before.before in ((start t).requires.0, small (start t), c.exponent_here-e.ensures)
 
 pub overflow_add-n : goal.overflow_add-n
-overflow_add-n c = let t = c.before.before.before.before.before.before in let h = (start t).requires.2.hands in omega (arith, among t, h.room, h.few)
+overflow_add-n c = let t = c.before.before.before.before.before.before.before in let h = (start t).requires.2.hands in omega (arith, among t, h.room, h.few)
 
 pub loop-n-smaller : goal.loop-n-smaller
-loop-n-smaller c = let t = c.before.before.before.before.before.before in omega (arith, among t)
+loop-n-smaller c = let t = c.before.before.before.before.before.before.before in omega (arith, among t)
 
 pub loop-n-preserved : goal.loop-n-preserved
 loop-n-preserved c =
-    let t = c.before.before.before.before.before.before in (
-      λ W L G. adding-next ((turn t).loop-n.invariant.0 W L G) (among t).most (added c.before.before.before L),
+    let t = c.before.before.before.before.before.before.before in (
+      λ W L G. adding-next ((turn t).loop-n.invariant.0 W L G) (among t).most (added c.before.before.before.before L),
       c.advance-spot.ensures.1,
-      fills-next (start t).requires.2 (among t) (turn t).loop-n.invariant.2 c.before.before.before.before.exponent_here-e.ensures c.advance-spot.ensures.0,
+      fills-next (start t).requires.2 (among t) (turn t).loop-n.invariant.2 c.exponent_here-e.ensures c.advance-spot.ensures.0,
     )
 
 pub returns : goal.returns
-returns c = let s = c.before.before.before.before.before in adding-last _ (c.before.loop-n.invariant.0 s.args.window s.requires.2 s.requires.3) (omega (arith, c.loop-n-test))
+returns c = let s = c.before.before.before.before.before.before in adding-last _ (c.loop-n.invariant.0 s.args.window s.requires.2 s.requires.3) (omega (arith, c.loop-n-test))

@@ -13,7 +13,7 @@ module _ (s : Start) where
   is = shared-is s.args.a s.args.n s.args.b s.args.k
 
 pub returns-then-a-b : goal.returns-then-a-b
-returns-then-a-b c = omega (arith, c.ahead.ensures, c.before.if-a-b.true, c.before.before.least-high.ensures, is c.before.before.before)
+returns-then-a-b c = omega (arith, c.ahead.ensures, c.if-a-b.true, c.least-high.ensures, is c.before.before.before)
 
 pub returns-else-a-b : goal.returns-else-a-b
-returns-else-a-b c = omega (arith, c.ahead-else-a-b.ensures, c.before.if-a-b.false, c.before.before.least-high.ensures, is c.before.before.before)
+returns-else-a-b c = omega (arith, c.ahead-else-a-b.ensures, c.if-a-b.false, c.least-high.ensures, is c.before.before.before)

@@ -14,7 +14,7 @@ get_all-requires c = simp (length-take, length-drop) (omega arith)
 
 pub returns : goal.returns
 returns c =
-    let copied = c.before.before in
+    let copied = c.before.before.before in
     let got = copied.before.before.before.before.before in
     let start = got.before.before.before.before.before.before in
     let n : length start.args.file.now - (20 + 4 * start.args.q) ≡ start.args.q = omega (arith, start.requires.0) in

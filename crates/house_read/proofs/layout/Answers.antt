@@ -16,11 +16,11 @@ pub returns-then-fields-size : goal.returns-then-fields-size
 returns-then-fields-size c = sym (layout-total _ _ _ (λ e. c.if-fields-size.true (omega (arith, e))))
 
 -- behind the first test: the length field is right
-total : (c : Else-fields-size) → get_or c.before.args.t2 0 0 ≡ c.before.args.size
+total : (c : Else-fields-size) → get_or c.args.t2 0 0 ≡ c.args.size
 total c = omega (arith, c.if-fields-size.false)
 
 pub returns-in-Refused : goal.returns-in-Refused
-returns-in-Refused c = sym (layout-refused _ _ _ (total c.before.before.before.before) (sym c.before.before.before.sizes-sizes.ensures ∙ c.before.in-Refused.is))
+returns-in-Refused c = sym (layout-refused _ _ _ (total c.before.before.before.before) (sym c.sizes-sizes.ensures ∙ c.in-Refused.is))
 
 -- behind the second: so are m and Q
 module _ (c : In_default) where
@@ -28,10 +28,10 @@ module _ (c : In_default) where
   right = c.before.before.before
 
   abbrev fields : List ℕ
-  fields = right.before.args.t2
+  fields = right.args.t2
 
-  passed : verdict (size_refusals_in right.before.args.whole (get_or fields 1 0) (get_or fields 2 0) (get_or fields 2 0)) ≡ Passed
-  passed = sym c.before.before.sizes-sizes.ensures ∙ c.in_default.is
+  passed : verdict (size_refusals_in right.args.whole (get_or fields 1 0) (get_or fields 2 0) (get_or fields 2 0)) ≡ Passed
+  passed = sym c.sizes-sizes.ensures ∙ c.in_default.is
 
 pub overflow_mul-q : goal.overflow_mul-q
 overflow_mul-q c = omega (arith, (sized.0 (passed c)).most)
@@ -43,7 +43,7 @@ pub returns-then-size-q : goal.returns-then-size-q
 returns-then-size-q c = sym (layout-length _ _ _ (total (right c.before)) (passed c.before) (λ e. c.if-size-q.true (omega (arith, e))))
 
 -- behind the third: there are as many bytes as Q asks for
-full : (c : Else-size-q) → (right c.before).before.args.size ≡ 20 + 5 * get_or (fields c.before) 2 0
+full : (c : Else-size-q) → (right c.before).args.size ≡ 20 + 5 * get_or (fields c.before) 2 0
 full c = omega (arith, c.if-size-q.false)
 
 pub returns-then-fields-ne20 : goal.returns-then-fields-ne20

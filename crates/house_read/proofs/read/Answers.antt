@@ -11,22 +11,30 @@ use Rattle.house.specs.File.{layout_refusals}
 use Rattle.house.specs.Promises.{Laid}
 use Rattle.house.proofs.Loops.{laid, read_short, read-refused, read-no-room, read_done}
 use Rattle.house_read.proofs.read.Goals as goal
-use Rattle.house_read.proofs.read.Goals.{After-get_all, In_default}
+use Rattle.house_read.proofs.read.Lts as lts
+use Rattle.house_read.proofs.read.Reads as reads
+use Rattle.house_read.proofs.read.Tie as tie
+
+abbrev After-get_all : Type 0
+After-get_all = lts.After-get_all tie.the-claims reads.Pre reads.Post
+
+abbrev In_default : Type 0
+In_default = lts.After-enum_told tie.the-claims reads.Pre reads.Post
 
 pub returns-then-file-lt20 : goal.returns-then-file-lt20
 returns-then-file-lt20 c = sym (read_short _ _ _ _ (omega (arith, c.if-file-lt20.true)))
 
-fields-are : (c : After-get_all) → c.get_all.new.1.0 ≡ numbers 5 c.before.before.before.before.before.before.args.file.now
+fields-are : (c : After-get_all) → c.get_all.new.1.0 ≡ numbers 5 c.args.file.now
 fields-are c = c.get_all.ensures
 
 -- a file that is not too short
-long : (c : After-get_all) → 20 ≤ length c.before.before.before.before.before.before.args.file.now
-long c = omega (arith, c.before.before.if-file-lt20.false)
+long : (c : After-get_all) → 20 ≤ length c.args.file.now
+long c = omega (arith, c.if-file-lt20.false)
 
 pub returns-in-Refused : goal.returns-in-Refused
 returns-in-Refused c =
-    let header = c.before.before.before.before.before in
-    sym (read-refused _ _ _ _ (fields-are header) (long header) (sym c.before.before.before.layout-verdict.ensures ∙ c.before.in-Refused.is))
+    let header = c.before.before.before.before.before.before in
+    sym (read-refused _ _ _ _ (fields-are header) (long header) (sym c.layout-verdict.ensures ∙ c.in-Refused.is))
 
 -- where the layout is right
 module _ (c : In_default) where
@@ -34,37 +42,37 @@ module _ (c : In_default) where
   header = c.before.before.before.before
 
   abbrev total : ℕ
-  total = length header.before.before.before.before.before.before.args.file.now
+  total = length header.args.file.now
 
   abbrev whole : Bool
-  whole = header.before.before.before.before.before.before.args.whole
+  whole = header.args.whole
 
   passed : verdict (layout_refusals whole total header.get_all.last.1.0) ≡ Passed
-  passed = sym c.before.before.layout-verdict.ensures ∙ c.in_default.is
+  passed = sym c.layout-verdict.ensures ∙ c.in_default.is
 
   right : Laid whole total header.get_all.last.1.0
   right = (laid _ _ _).0 passed
 
 pub overflow_cast-q : goal.overflow_cast-q
-overflow_cast-q c = omega (arith, (right c).size)
+overflow_cast-q c = omega (arith, (right c.before).size)
 
 pub returns-then-keys-q : goal.returns-then-keys-q
 returns-then-keys-q c =
-    let told = c.before in
+    let told = c.before.before in
     sym (read-no-room _ _ _ _ (fields-are (header told)) (long (header told)) (passed told) (λ k l. omega (arith, c.if-keys-q.true)))
 
 pub returns-then-classes-q : goal.returns-then-classes-q
 returns-then-classes-q c =
-    let told = c.before.before in
+    let told = c.before.before.before in
     sym (read-no-room _ _ _ _ (fields-are (header told)) (long (header told)) (passed told) (λ k l. omega (arith, c.if-classes-q.true)))
 
 pub get_parts-requires : goal.get_parts-requires
-get_parts-requires c = ((right c.before.before.before.before).full, omega (arith, c.before.before.before.if-keys-q.false), omega (arith, c.before.before.if-classes-q.false))
+get_parts-requires c = ((right c.before.before.before.before.before).full, omega (arith, c.if-keys-q.false), omega (arith, c.if-classes-q.false))
 
 pub returns : goal.returns
 returns c =
-    let told = c.before.before.before.before.before.before.before.before.before in
-    let classes-room = c.before.before.before.before.before.before.before in
+    let told = c.before.before.before.before.before.before.before.before.before.before in
+    let classes-room = c.before.before.before.before.before.before.before.before in
     let keys-room = classes-room.before in
-    let parts = c.before.before.before.before.get_parts.ensures in
+    let parts = c.get_parts.ensures in
     read_done _ _ _ _ (fields-are (header told)) (long (header told)) (passed told) (omega (arith, keys-room.if-keys-q.false)) (omega (arith, classes-room.if-classes-q.false)) parts.0 parts.1

@@ -4,7 +4,7 @@ use Rattle.house_write.proofs.put_parts.Goals as goal
 
 pub returns : goal.returns
 returns c =
-    let copied = c.before.before in
+    let copied = c.before.before.before in
     let keys = copied.before.before.before.before in
     let head = keys.before.before.before.before in
     let start = head.before.before.before.before.before.before in

@@ -6,7 +6,7 @@ use Rattle.input.proofs.Windows.{left-silent, left-some}
 use Rattle.input.proofs.put_left.Goals as goal
 
 pub returns-then-got-eq0 : goal.returns-then-got-eq0
-returns-then-got-eq0 c = rw ((left-silent c.before.before.args.got).1 c.if-got-eq0.true) (sym (put-empty _))
+returns-then-got-eq0 c = rw ((left-silent c.args.got).1 c.if-got-eq0.true) (sym (put-empty _))
 
 pub returns : goal.returns
-returns c = let e = c.before.before.before.before in rw (left-some e.before.before.args.got (omega (arith, e.if-got-eq0.false))) c.before.before.put_refusal.ensures
+returns c = let e = c.before.before.before.before.before in rw (left-some e.args.got (omega (arith, e.if-got-eq0.false))) c.put_refusal.ensures

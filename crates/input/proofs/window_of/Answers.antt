@@ -4,7 +4,7 @@ use Rattle.input.proofs.window_of.Goals as goal
 
 pub returns : goal.returns
 returns c =
-    let three = c.before.before.before in
+    let three = c.before.before.before.before in
     let two = three.before.before.before in
     let one = two.before.before.before in
-    window-made one.before.before.before.args.bytes.now one.short.ensures two.short-2.ensures three.short-3.ensures c.short-4.ensures
+    window-made one.args.bytes.now one.short.ensures two.short-2.ensures three.short-3.ensures c.short-4.ensures

@@ -5,10 +5,10 @@ use Rattle.lines.proofs.Turns.{class-none, class-some}
 use Rattle.lines.proofs.put_class.Goals as goal
 
 pub returns-then-pixels-eq0 : goal.returns-then-pixels-eq0
-returns-then-pixels-eq0 c = rw (class-none c.before.before.args.class c.if-pixels-eq0.true) (sym (put-empty _))
+returns-then-pixels-eq0 c = rw (class-none c.args.class c.if-pixels-eq0.true) (sym (put-empty _))
 
 pub returns : goal.returns
 returns c =
-    let put = c.before.before in
+    let put = c.before.before.before in
     let some = put.before.before.before in
-    rw (class-some some.before.before.args.class some.if-pixels-eq0.false) put.put_line.ensures
+    rw (class-some some.args.class some.if-pixels-eq0.false) put.put_line.ensures

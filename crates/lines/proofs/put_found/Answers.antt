@@ -9,7 +9,19 @@ use Rattle.text.specs.Text.{line_of}
 use Rattle.text.proofs.Laws.{Telling, telling-begin, telling-length, telling-room, telling-lent, telling-part, telling-last}
 use Rattle.lines.specs.Lines.{opening_lines, class_lines, found_lines}
 use Rattle.lines.proofs.put_found.Goals as goal
-use Rattle.lines.proofs.put_found.Goals.{After-put_classes-at, After-put_line-at, After-put_openings-at, Start}
+use Rattle.lines.proofs.put_found.Goals.{Start}
+use Rattle.lines.proofs.put_found.Lts as lts
+use Rattle.lines.proofs.put_found.Reads as reads
+use Rattle.lines.proofs.put_found.Tie as tie
+
+abbrev After-put_openings-at : Type 0
+After-put_openings-at = lts.After-put_openings tie.the-claims reads.Pre reads.Post
+
+abbrev After-put_classes-at : Type 0
+After-put_classes-at = lts.After-put_classes tie.the-claims reads.Pre reads.Post
+
+abbrev After-put_line-at : Type 0
+After-put_line-at = lts.After-put_line tie.the-claims reads.Pre reads.Post
 
 module _ (c : Start) where
   abbrev classes : List ℕ
@@ -53,22 +65,28 @@ module _ (c : After-put_classes-at) where
 pub put_openings-at-requires : goal.put_openings-at-requires
 unfolding found_lines
 put_openings-at-requires c =
-    let s = c.before.before.before.before in
+    let s = c.before.before.before.before.before in
     omega (arith, s.requires.1, length-append (opening_lines s.args.cells.now) (classes s ++ sums s))
 
 pub slice_bounds-put_classes-count : goal.slice_bounds-put_classes-count
-slice_bounds-put_classes-count c = omega (arith, telling-room (one c.before.before))
+slice_bounds-put_classes-count c = omega (arith, telling-room (one c.before.before.before))
+
+pub slice_bounds-put_classes-start : goal.slice_bounds-put_classes-start
+slice_bounds-put_classes-start c = omega (arith, telling-room (one c.before.before.before))
 
 pub put_classes-at-requires : goal.put_classes-at-requires
 put_classes-at-requires c =
-    let o = c.before.before.before in
+    let o = c.before.before.before.before in
     ((start o).requires.0, telling-lent (one o) (classes (start o)) (sums (start o)) refl)
 
 pub overflow_add-at : goal.overflow_add-at
-overflow_add-at c = omega (arith, telling-length (two c.before.before), (two c.before.before).room)
+overflow_add-at c = omega (arith, telling-length (two c.before.before.before), (two c.before.before.before).room)
 
 pub slice_bounds-put_line-count : goal.slice_bounds-put_line-count
-slice_bounds-put_line-count c = omega (arith, telling-room (two c.before.before.before))
+slice_bounds-put_line-count c = omega (arith, telling-room (two c.before.before.before.before))
+
+pub slice_bounds-put_line-start : goal.slice_bounds-put_line-start
+slice_bounds-put_line-start c = omega (arith, telling-room (two c.before.before.before.before))
 
 -- and with the sums behind these
 module _ (c : After-put_line-at) where
@@ -82,7 +100,7 @@ module _ (c : After-put_line-at) where
   three = telling-part (two second) (sums asked) [] (sym (append-nil (sums asked))) c.put_line-at.ensures
 
 pub overflow_add-at-2 : goal.overflow_add-at-2
-overflow_add-at-2 c = omega (arith, telling-length (three c.before.before), (three c.before.before).room)
+overflow_add-at-2 c = omega (arith, telling-length (three c.before.before.before), (three c.before.before.before).room)
 
 pub returns : goal.returns
-returns c = telling-last (three c.before.before) refl
+returns c = telling-last (three c.before.before.before) refl

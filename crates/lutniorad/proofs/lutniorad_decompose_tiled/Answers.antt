@@ -3,7 +3,7 @@ use Rattle.lutniorad.proofs.Crossing.{crossing}
 use Rattle.lutniorad.proofs.lutniorad_decompose_tiled.Goals as goal
 
 pub returns-in-Done : goal.returns-in-Done
-returns-in-Done c = crossing c.before.before.in-Done.is c.values.ensures c.before.before.before.before.before.before.decompose-decomposed.ensures
+returns-in-Done c = crossing c.in-Done.is c.values.ensures c.decompose-decomposed.ensures
 
 pub returns-in-Refused : goal.returns-in-Refused
-returns-in-Refused c = crossing c.before.before.in-Refused.is c.refused.ensures c.before.before.before.before.before.before.decompose-decomposed.ensures
+returns-in-Refused c = crossing c.in-Refused.is c.refused.ensures c.decompose-decomposed.ensures

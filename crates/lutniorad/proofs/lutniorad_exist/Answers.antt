@@ -4,4 +4,4 @@ use Rattle.lutniorad.proofs.Crossing.{crossing}
 use Rattle.lutniorad.proofs.lutniorad_exist.Goals as goal
 
 pub returns : goal.returns
-returns c = crossing refl c.of_existence.ensures c.before.before.before.exist.ensures
+returns c = crossing refl c.of_existence.ensures c.exist.ensures

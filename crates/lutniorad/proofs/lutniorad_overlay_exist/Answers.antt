@@ -4,4 +4,4 @@ use Rattle.lutniorad.proofs.Crossing.{crossing}
 use Rattle.lutniorad.proofs.lutniorad_overlay_exist.Goals as goal
 
 pub returns : goal.returns
-returns c = crossing refl c.of_exist_over.ensures c.before.before.before.exist.ensures
+returns c = crossing refl c.of_exist_over.ensures c.exist.ensures

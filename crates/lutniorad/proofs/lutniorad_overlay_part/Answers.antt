@@ -4,4 +4,4 @@ use Rattle.lutniorad.proofs.Crossing.{crossing-alone}
 use Rattle.lutniorad.proofs.lutniorad_overlay_part.Goals as goal
 
 pub returns : goal.returns
-returns c = crossing-alone refl c.part_of.ensures c.before.view.ensures
+returns c = crossing-alone refl c.part_of.ensures c.view.ensures

@@ -4,4 +4,4 @@ use Rattle.lutniorad.proofs.Crossing.{crossing}
 use Rattle.lutniorad.proofs.lutniorad_read.Goals as goal
 
 pub returns : goal.returns
-returns c = crossing refl c.of_reading.ensures c.before.before.before.before.before.read.ensures
+returns c = crossing refl c.of_reading.ensures c.read.ensures

@@ -4,4 +4,4 @@ use Rattle.lutniorad.proofs.Crossing.{crossing}
 use Rattle.lutniorad.proofs.lutniorad_sparse_open.Goals as goal
 
 pub returns : goal.returns
-returns c = crossing refl c.of_opened.ensures c.before.before.before.before.before.«open».ensures
+returns c = crossing refl c.of_opened.ensures c.«open».ensures

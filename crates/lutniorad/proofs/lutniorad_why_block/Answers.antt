@@ -4,4 +4,4 @@ use Rattle.lutniorad.proofs.Crossing.{crossing}
 use Rattle.lutniorad.proofs.lutniorad_why_block.Goals as goal
 
 pub returns : goal.returns
-returns c = crossing refl c.reason_of.ensures c.before.before.before.of_block.ensures
+returns c = crossing refl c.reason_of.ensures c.of_block.ensures

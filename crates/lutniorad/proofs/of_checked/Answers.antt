@@ -4,7 +4,7 @@ use Rattle.lutniorad.specs.Numbers.{of_checked}
 use Rattle.lutniorad.proofs.of_checked.Goals as goal
 
 pub returns-in-Sound : goal.returns-in-Sound
-returns-in-Sound c = c.values.ensures ∙ ap of_checked (sym c.before.before.in-Sound.is)
+returns-in-Sound c = c.values.ensures ∙ ap of_checked (sym c.in-Sound.is)
 
 pub returns-in-Refused : goal.returns-in-Refused
-returns-in-Refused c = c.refused.ensures ∙ ap of_checked (sym c.before.before.in-Refused.is)
+returns-in-Refused c = c.refused.ensures ∙ ap of_checked (sym c.in-Refused.is)

@@ -4,7 +4,7 @@ use Rattle.lutniorad.specs.Numbers.{of_opened}
 use Rattle.lutniorad.proofs.of_opened.Goals as goal
 
 pub returns-in-Done : goal.returns-in-Done
-returns-in-Done c = c.values.ensures ∙ ap of_opened (sym c.before.before.in-Done.is)
+returns-in-Done c = c.values.ensures ∙ ap of_opened (sym c.in-Done.is)
 
 pub returns-in-Refused : goal.returns-in-Refused
-returns-in-Refused c = c.refused.ensures ∙ ap of_opened (sym c.before.before.in-Refused.is)
+returns-in-Refused c = c.refused.ensures ∙ ap of_opened (sym c.in-Refused.is)

@@ -4,7 +4,7 @@ use Rattle.lutniorad.specs.Numbers.{of_reading}
 use Rattle.lutniorad.proofs.of_reading.Goals as goal
 
 pub returns-in-Read : goal.returns-in-Read
-returns-in-Read c = c.values.ensures ∙ ap of_reading (sym c.before.before.in-Read.is)
+returns-in-Read c = c.values.ensures ∙ ap of_reading (sym c.in-Read.is)
 
 pub returns-in-Refused : goal.returns-in-Refused
-returns-in-Refused c = c.refused.ensures ∙ ap of_reading (sym c.before.before.in-Refused.is)
+returns-in-Refused c = c.refused.ensures ∙ ap of_reading (sym c.in-Refused.is)

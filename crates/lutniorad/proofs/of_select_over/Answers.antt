@@ -4,7 +4,7 @@ use Rattle.lutniorad.specs.Numbers.{of_select_over}
 use Rattle.lutniorad.proofs.of_select_over.Goals as goal
 
 pub returns-in-Told : goal.returns-in-Told
-returns-in-Told c = c.of_selected.ensures ∙ ap of_select_over (sym c.before.before.in-Told.is)
+returns-in-Told c = c.of_selected.ensures ∙ ap of_select_over (sym c.in-Told.is)
 
 pub returns-in-Refused : goal.returns-in-Refused
-returns-in-Refused c = c.refused_by.ensures ∙ ap of_select_over (sym c.before.before.in-Refused.is)
+returns-in-Refused c = c.refused_by.ensures ∙ ap of_select_over (sym c.in-Refused.is)

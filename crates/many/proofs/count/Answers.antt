@@ -11,10 +11,19 @@ use Rattle.many.proofs.Windows.{windows-length}
 use Rattle.many.proofs.Border.{widest-wider}
 use Rattle.many.proofs.Tables.{many-askable, many_is}
 use Rattle.many.proofs.count.Goals as goal
-use Rattle.many.proofs.count.Goals.{After-slice_known-4-1, In_default, Start}
+use Rattle.many.proofs.count.Goals.{Start}
+use Rattle.many.proofs.count.Lts as lts
+use Rattle.many.proofs.count.Reads as reads
+use Rattle.many.proofs.count.Tie as tie
+
+abbrev In_default : Type 0
+In_default = lts.After-enum_told tie.the-claims reads.Pre reads.Post
+
+abbrev After-slice_known-4-1 : Type 0
+After-slice_known-4-1 = lts.After-slice_known4 tie.the-claims reads.Pre reads.Post
 
 pub returns-in-Refused : goal.returns-in-Refused
-returns-in-Refused c = sym (many_is _ _ _ _ _ _ ∙ on-refused _ _ _ (sym c.before.before.before.askable-verdict.ensures ∙ c.before.in-Refused.is))
+returns-in-Refused c = sym (many_is _ _ _ _ _ _ ∙ on-refused _ _ _ (sym c.askable-verdict.ensures ∙ c.in-Refused.is))
 
 -- where nothing is refused
 module _ (c : In_default) where
@@ -23,7 +32,7 @@ module _ (c : In_default) where
 
   passed : verdict (many_refusals entry.args.m entry.args.keys.now (length entry.args.classes.now) entry.args.windows.now
       (length entry.args.border-1.now) (length entry.args.out-1.now)) ≡ Passed
-  passed = sym c.before.before.askable-verdict.ensures ∙ c.in_default.is
+  passed = sym c.askable-verdict.ensures ∙ c.in_default.is
 
   taken : Askable entry.args.m entry.args.keys.now (length entry.args.classes.now) entry.args.windows.now (length entry.args.border-1.now)
       (length entry.args.out-1.now)
@@ -31,7 +40,7 @@ module _ (c : In_default) where
 
 pub put_lines-requires : goal.put_lines-requires
 put_lines-requires c =
-    let A = taken c.before.before in
+    let A = taken c.before.before.before in
     (rw A.sound.sizes.same A.sound, (widest-wider _ _ _).1 A.wide, A.room)
 
 -- behind the lines
@@ -39,10 +48,10 @@ abbrev told : After-slice_known-4-1 → In_default
 told c = c.before.before.before.before.before.before.before
 
 pub overflow_cast-result : goal.overflow_cast-result
-overflow_cast-result c = let k = told c in omega (arith, (taken k).list.few, windows-length (entry k).args.windows.now)
+overflow_cast-result c = let k = told c.before in omega (arith, (taken k).list.few, windows-length (entry k).args.windows.now)
 
 pub returns : goal.returns
 returns c =
-    let k = told c in
-    let p = c.before.before.before.before.put_lines.ensures in
+    let k = told c.before in
+    let p = c.put_lines.ensures in
     rw (p.0, p.1, ← windows-length (entry k).args.windows.now) (sym (many_is _ _ _ _ _ _ ∙ on-passed _ _ _ (passed k)))

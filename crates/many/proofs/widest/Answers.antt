@@ -5,7 +5,12 @@ use native.Mathlib.Omega.{arith}
 use Rattle.many.specs.Many.{window_at, columns}
 use Rattle.many.proofs.Loops.{widening-first, widening-next, widening-last}
 use Rattle.many.proofs.widest.Goals as goal
-use Rattle.many.proofs.widest.Goals.{Joined-widest-needed}
+use Rattle.many.proofs.widest.Lts as lts
+use Rattle.many.proofs.widest.Reads as reads
+use Rattle.many.proofs.widest.Tie as tie
+
+abbrev Joined-widest-needed : Type 0
+Joined-widest-needed = lts.Joined1 tie.the-claims reads.Pre reads.Post goal.the-invariant-loop-i goal.the-decreases-loop-i
 
 pub loop-i-init : goal.loop-i-init
 loop-i-init c = widening-first _ _
@@ -14,22 +19,22 @@ pub window_at-requires : goal.window_at-requires
 window_at-requires c = omega (arith, c.loop-i-test.true)
 
 pub columns-needed-requires : goal.columns-needed-requires
-columns-needed-requires c = c.before.before.before.before.requires
+columns-needed-requires c = c.requires
 
 -- behind the test: the greater of the two
 greater : (c : Joined-widest-needed)
     → let at = c.before.before.before.before in
-    c.if-widest-needed.widest ≡ max at.loop-i.widest (columns at.before.before.args.m (window_at at.before.before.args.windows.now at.loop-i.i))
+    c.if-widest-needed.widest ≡ max at.loop-i.widest (columns at.args.m (window_at at.args.windows.now at.loop-i.i))
 greater c =
     let at = c.before.before.before.before in
-    let e = c.before.columns-needed.ensures ∙ ap (columns at.before.before.args.m) c.before.before.window_at.ensures in
+    let e = c.columns-needed.ensures ∙ ap (columns at.args.m) c.window_at.ensures in
     ⊎_elim (λ t. t.1 ∙ omega (arith, e, t.0.taken)) (λ t. t.1 ∙ omega (arith, e, t.0.left)) c.if-widest-needed.branch
 
 pub loop-i-smaller : goal.loop-i-smaller
-loop-i-smaller c = omega (arith, c.before.before.before.loop-i-test.true)
+loop-i-smaller c = omega (arith, c.loop-i-test.true)
 
 pub loop-i-preserved : goal.loop-i-preserved
-loop-i-preserved c = widening-next _ _ c.before.before.before.before.loop-i.invariant c.before.before.before.loop-i-test.true (greater c)
+loop-i-preserved c = widening-next _ _ c.loop-i.invariant c.loop-i-test.true (greater c.before)
 
 pub returns : goal.returns
-returns c = widening-last _ _ c.before.loop-i.invariant c.loop-i-test.false
+returns c = widening-last _ _ c.loop-i.invariant c.loop-i-test.false

@@ -18,10 +18,22 @@ use Rattle.month.proofs.Sanity.{narrowed-inside}
 use Rattle.month.proofs.Tables.{add-addable}
 use Rattle.month.proofs.Adding.{grown-stored, stored-fits, add_is}
 use Rattle.month.proofs.add.Goals as goal
-use Rattle.month.proofs.add.Goals.{After-count, After-window_in, In_default, Start}
+use Rattle.month.proofs.add.Goals.{Start}
+use Rattle.month.proofs.add.Lts as lts
+use Rattle.month.proofs.add.Reads as reads
+use Rattle.month.proofs.add.Tie as tie
+
+abbrev In_default : Type 0
+In_default = lts.After-enum_told tie.the-claims reads.Pre reads.Post
+
+abbrev After-window_in : Type 0
+After-window_in = lts.After-window_in tie.the-claims reads.Pre reads.Post
+
+abbrev After-count : Type 0
+After-count = lts.After-count tie.the-claims reads.Pre reads.Post
 
 pub returns-in-Refused : goal.returns-in-Refused
-returns-in-Refused c = sym (add_is _ _ _ _ _ ∙ on-refused _ _ _ (sym c.before.before.before.addable-verdict.ensures ∙ c.before.in-Refused.is))
+returns-in-Refused c = sym (add_is _ _ _ _ _ ∙ on-refused _ _ _ (sym c.addable-verdict.ensures ∙ c.in-Refused.is))
 
 -- where nothing is refused
 module _ (c : In_default) where
@@ -32,7 +44,7 @@ module _ (c : In_default) where
   cells = entry.args.table-1.now
 
   passed : verdict (add_refusals entry.args.m entry.args.keys.now (length entry.args.classes.now) (length entry.args.border-1.now) cells) ≡ Passed
-  passed = sym c.before.before.addable-verdict.ensures ∙ c.in_default.is
+  passed = sym c.addable-verdict.ensures ∙ c.in_default.is
 
   taken : Addable entry.args.m entry.args.keys.now (length entry.args.classes.now) (length entry.args.border-1.now) cells
   taken = (add-addable _ _ _ _ _).0 passed
@@ -44,7 +56,7 @@ module _ (c : In_default) where
   used = (use-answerable true _ _ _ _ _).1 (record { sound = taken.sound; inside = taken.ongoing.sane.inside; wide = taken.wide })
 
 pub window_in-requires : goal.window_in-requires
-window_in-requires c = (taken c.before).ongoing.long
+window_in-requires c = (taken c.before.before).ongoing.long
 
 -- the window is the table's
 module _ (c : After-window_in) where
@@ -56,7 +68,7 @@ module _ (c : After-window_in) where
 
 pub count-requires : goal.count-requires
 count-requires c =
-    let at = c.before.before in
+    let at = c.before.before.before in
     let ok = used (told at) in
     (rw (exact at) (use-known true _ _ _ _ _ ok), use-same true _ _ _ _ _ ok, refl, use-whole _ _ _ _ _ ok)
 
@@ -81,30 +93,30 @@ module _ (c : After-count) where
   goes_on = (taken (told drawn)).ongoing
 
 pub bounds-table-5 : goal.bounds-table-5
-bounds-table-5 c = omega (arith, (goes_on c.before.before.before).long)
+bounds-table-5 c = omega (arith, (goes_on c.before.before.before.before).long)
 
 pub overflow_add-table : goal.overflow_add-table
-overflow_add-table c = omega (arith, (goes_on c.before.before.before).fewer)
+overflow_add-table c = omega (arith, (goes_on c.before.before.before.before).fewer)
 
 pub bounds-table-5-2 : goal.bounds-table-5-2
-bounds-table-5-2 c = omega (arith, (goes_on c.before.before.before).long)
+bounds-table-5-2 c = omega (arith, (goes_on c.before.before.before.before).long)
 
 pub add_rows-requires : goal.add_rows-requires
 add_rows-requires c =
-    let at = c.before.before.before.before.before in
+    let at = c.before.before.before.before.before.before in
     stored-fits _ (start at).args.keys.now (start at).args.classes.now _ (goes_on at).long (goes_on at).same (small (told (drawn at))) (goes_on at).sane (counted at)
 
 pub overflow_add-result : goal.overflow_add-result
-overflow_add-result c = omega (arith, (goes_on c.before.before.before.before.before.before.before.before).fewer)
+overflow_add-result c = omega (arith, (goes_on c.before.before.before.before.before.before.before.before.before).fewer)
 
 pub overflow_cast-result : goal.overflow_cast-result
-overflow_cast-result c = omega (arith, (goes_on c.before.before.before.before.before.before.before.before).fewer)
+overflow_cast-result c = omega (arith, (goes_on c.before.before.before.before.before.before.before.before.before).fewer)
 
 pub shape_of-table : goal.shape_of-table
-shape_of-table c = c.before.before.add_rows.auto.0 ∙ simp length-set refl
+shape_of-table c = c.add_rows.auto.0 ∙ simp length-set refl
 
 pub returns : goal.returns
 returns c =
-    let at = c.before.before.before.before.before.before.before.before in
-    let grown = c.before.before.add_rows.ensures ∙ grown-stored _ _ _ _ (goes_on at).long (goes_on at).same (counted at) in
+    let at = c.before.before.before.before.before.before.before.before.before in
+    let grown = c.add_rows.ensures ∙ grown-stored _ _ _ _ (goes_on at).long (goes_on at).same (counted at) in
     rw (spends at, grown) (sym (add_is _ _ _ _ _ ∙ on-passed _ _ _ (passed (told (drawn at)))))

@@ -13,10 +13,22 @@ use Rattle.month.specs.Promises.{Ongoing}
 use Rattle.month.proofs.Sanity.{narrowed-inside}
 use Rattle.month.proofs.Tables.{table-passed, add-unsound, add-unfit, add_fit}
 use Rattle.month.proofs.addable.Goals as goal
-use Rattle.month.proofs.addable.Goals.{After-window_in, In_default, In_default-fits, Start}
+use Rattle.month.proofs.addable.Goals.{Start}
+use Rattle.month.proofs.addable.Lts as lts
+use Rattle.month.proofs.addable.Reads as reads
+use Rattle.month.proofs.addable.Tie as tie
+
+abbrev In_default : Type 0
+In_default = lts.After-enum_told tie.the-claims reads.Pre reads.Post
+
+abbrev In_default-fits : Type 0
+In_default-fits = lts.After-enum_told2 tie.the-claims reads.Pre reads.Post
+
+abbrev After-window_in : Type 0
+After-window_in = lts.After-window_in tie.the-claims reads.Pre reads.Post
 
 pub returns-in-Refused : goal.returns-in-Refused
-returns-in-Refused c = sym (add-unsound _ _ _ _ _ (sym c.before.before.before.sound-sound.ensures ∙ c.before.in-Refused.is))
+returns-in-Refused c = sym (add-unsound _ _ _ _ _ (sym c.sound-sound.ensures ∙ c.in-Refused.is))
 
 -- where the map is sound
 module _ (c : In_default) where
@@ -24,16 +36,16 @@ module _ (c : In_default) where
   entry = c.before.before.before.before.before.before
 
   passed : verdict (map_refusals entry.args.m entry.args.keys.now (length entry.args.classes.now)) ≡ Passed
-  passed = sym c.before.before.sound-sound.ensures ∙ c.in_default.is
+  passed = sym c.sound-sound.ensures ∙ c.in_default.is
 
   small : entry.args.m ≤ 12
   small = ((sound-map _ _ _).0 passed).sizes.small
 
 pub ongoing-fits-requires : goal.ongoing-fits-requires
-ongoing-fits-requires c = small c
+ongoing-fits-requires c = small c.before
 
 pub returns-in-Refused-fits : goal.returns-in-Refused-fits
-returns-in-Refused-fits c = sym (add-unfit _ _ _ _ _ (passed c.before.before.before.before) (sym c.before.before.before.ongoing-fits.ensures ∙ c.before.fits2.given.1))
+returns-in-Refused-fits c = sym (add-unfit _ _ _ _ _ (passed c.before.before.before.before.before) (sym c.ongoing-fits.ensures ∙ c.fits2.given.1))
 
 -- and the table can be added to
 module _ (c : In_default-fits) where
@@ -44,18 +56,18 @@ module _ (c : In_default-fits) where
   cells = (entry told).args.table.now
 
   fit : verdict (table_refusals (entry told).args.m cells) ≡ Passed
-  fit = sym c.before.before.ongoing-fits.ensures ∙ c.in_default-fits.is
+  fit = sym c.ongoing-fits.ensures ∙ c.in_default-fits.is
 
   goes_on : Ongoing (entry told).args.m cells
   goes_on = table-passed _ _ fit
 
 pub window_in-requires : goal.window_in-requires
-window_in-requires c = (goes_on c).long
+window_in-requires c = (goes_on c.before).long
 
 exact : (c : After-window_in) → c.window_in.result ≡ window_in (cells c.before)
 exact c = c.window_in.ensures ∙ narrowed-inside (inside-12 (small (told c.before)) (goes_on c.before).sane.inside)
 
 pub returns : goal.returns
 returns c =
-    let at = c.before.before in
-    c.wide_enough.ensures ∙ rw (exact c.before) (sym (add_fit _ _ _ _ _ (passed (told at)) (fit at)))
+    let at = c.before.before.before in
+    c.wide_enough.ensures ∙ rw (exact c.before.before) (sym (add_fit _ _ _ _ _ (passed (told at)) (fit at)))

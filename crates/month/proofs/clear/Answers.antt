@@ -7,13 +7,19 @@ use lib.ListN.{length-set}
 use Rattle.window.specs.Window.{outside}
 use Rattle.month.proofs.Clearing.{clear-over, clear-outside, clear-short, clear-done}
 use Rattle.month.proofs.clear.Goals as goal
-use Rattle.month.proofs.clear.Goals.{Else-outside, Start}
+use Rattle.month.proofs.clear.Goals.{Start}
+use Rattle.month.proofs.clear.Lts as lts
+use Rattle.month.proofs.clear.Reads as reads
+use Rattle.month.proofs.clear.Tie as tie
+
+abbrev Else-outside : Type 0
+Else-outside = lts.Else2 tie.the-claims reads.Pre reads.Post
 
 pub returns-then-m-gt12 : goal.returns-then-m-gt12
 returns-then-m-gt12 c = sym (clear-over _ _ _ (omega (arith, c.if-m-gt12.true)))
 
 pub returns-then-outside : goal.returns-then-outside
-returns-then-outside c = sym (clear-outside _ _ _ (omega (arith, c.before.before.if-m-gt12.false)) (sym c.before.outside.ensures ∙ c.if-outside.true))
+returns-then-outside c = sym (clear-outside _ _ _ (omega (arith, c.if-m-gt12.false)) (sym c.outside.ensures ∙ c.if-outside.true))
 
 -- where refusals 1 and 6 do not hold
 module _ (c : Else-outside) where
@@ -21,34 +27,34 @@ module _ (c : Else-outside) where
   entry = c.before.before.before.before
 
   small : entry.args.m ≤ 12
-  small = omega (arith, c.before.before.if-m-gt12.false)
+  small = omega (arith, c.if-m-gt12.false)
 
   passed : outside entry.args.m entry.args.window ≡ false
-  passed = sym c.before.outside.ensures ∙ c.if-outside.false
+  passed = sym c.outside.ensures ∙ c.if-outside.false
 
 pub returns-then-table-lt1030 : goal.returns-then-table-lt1030
-returns-then-table-lt1030 c = sym (clear-short _ _ _ (small c.before) (passed c.before) c.if-table-lt1030.true)
+returns-then-table-lt1030 c = sym (clear-short _ _ _ (small c.before.before) (passed c.before.before) c.if-table-lt1030.true)
 
 pub bounds-table-1 : goal.bounds-table-1
-bounds-table-1 c = simp length-set (omega (arith, c.before.if-table-lt1030.false))
+bounds-table-1 c = simp length-set (omega (arith, c.if-table-lt1030.false))
 
 pub bounds-table-2 : goal.bounds-table-2
-bounds-table-2 c = simp length-set (omega (arith, c.before.before.if-table-lt1030.false))
+bounds-table-2 c = simp length-set (omega (arith, c.if-table-lt1030.false))
 
 pub bounds-table-3 : goal.bounds-table-3
-bounds-table-3 c = simp length-set (omega (arith, c.before.before.before.if-table-lt1030.false))
+bounds-table-3 c = simp length-set (omega (arith, c.if-table-lt1030.false))
 
 pub bounds-table-4 : goal.bounds-table-4
-bounds-table-4 c = simp length-set (omega (arith, c.before.before.before.before.if-table-lt1030.false))
+bounds-table-4 c = simp length-set (omega (arith, c.if-table-lt1030.false))
 
 pub wipe-requires : goal.wipe-requires
-wipe-requires c = simp length-set (omega (arith, c.before.before.before.before.before.if-table-lt1030.false))
+wipe-requires c = simp length-set (omega (arith, c.if-table-lt1030.false))
 
 pub shape_of-table : goal.shape_of-table
-shape_of-table c = c.before.before.wipe.auto.0 ∙ simp length-set refl
+shape_of-table c = c.wipe.auto.0 ∙ simp length-set refl
 
 pub returns : goal.returns
 returns c =
-    let roomy = c.before.before.before.before.before.before.before.before in
+    let roomy = c.before.before.before.before.before.before.before.before.before in
     let told = roomy.before in
-    sym (clear-done _ _ _ (small told) (passed told) roomy.if-table-lt1030.false refl c.before.before.wipe.ensures)
+    sym (clear-done _ _ _ (small told) (passed told) roomy.if-table-lt1030.false refl c.wipe.ensures)

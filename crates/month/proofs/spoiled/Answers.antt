@@ -11,14 +11,23 @@ use Rattle.window.proofs.Laws.{inside, inside-12, pixels-most}
 use Rattle.month.specs.Month.{window_in}
 use Rattle.month.proofs.Sanity.{narrowed-inside, narrowed-outside, spoiled-outside, spoiled-many, spoiled-rows}
 use Rattle.month.proofs.spoiled.Goals as goal
-use Rattle.month.proofs.spoiled.Goals.{After-outside, Else-outside, Start}
+use Rattle.month.proofs.spoiled.Goals.{Start}
+use Rattle.month.proofs.spoiled.Lts as lts
+use Rattle.month.proofs.spoiled.Reads as reads
+use Rattle.month.proofs.spoiled.Tie as tie
+
+abbrev After-outside : Type 0
+After-outside = lts.After-outside tie.the-claims reads.Pre reads.Post
+
+abbrev Else-outside : Type 0
+Else-outside = lts.Else1 tie.the-claims reads.Pre reads.Post
 
 -- whether 6 would refuse the window of the table is known from that in numbers of 16 bits
-lies : (c : After-outside) → outside c.before.before.before.args.m (window_in c.before.before.before.args.table.now) ≡ c.outside.result
-lies c = sym (narrowed-outside _ _ c.before.before.before.requires.0) ∙ sym (ap (outside _) c.before.window_in-window.ensures) ∙ sym c.outside.ensures
+lies : (c : After-outside) → outside c.args.m (window_in c.args.table.now) ≡ c.outside.result
+lies c = sym (narrowed-outside _ _ c.requires.0) ∙ sym (ap (outside _) c.window_in-window.ensures) ∙ sym c.outside.ensures
 
 pub returns-then-outside : goal.returns-then-outside
-returns-then-outside c = sym (spoiled-outside _ _ (lies c.before ∙ c.if-outside.true))
+returns-then-outside c = sym (spoiled-outside _ _ (lies c.before.before ∙ c.if-outside.true))
 
 -- where 6 would not refuse the window
 module _ (c : Else-outside) where
@@ -32,22 +41,22 @@ module _ (c : Else-outside) where
   inside-as = lies c.before ∙ c.if-outside.false
 
   abbrev W : Window
-  W = c.before.before.window_in-window.result
+  W = c.window_in-window.result
 
   within : Inside 12 W
-  within = inside-12 entry.requires.0 (inside _ _ (sym c.before.outside.ensures ∙ c.if-outside.false))
+  within = inside-12 entry.requires.0 (inside _ _ (sym c.outside.ensures ∙ c.if-outside.false))
 
   exact : W ≡ window_in cells
-  exact = c.before.before.window_in-window.ensures ∙ narrowed-inside (inside-12 entry.requires.0 (inside _ _ inside-as))
+  exact = c.window_in-window.ensures ∙ narrowed-inside (inside-12 entry.requires.0 (inside _ _ inside-as))
 
 pub returns-then-maps-gt1000 : goal.returns-then-maps-gt1000
-returns-then-maps-gt1000 c = sym (spoiled-many _ _ (inside-as c.before.before) c.if-maps-gt1000.true)
+returns-then-maps-gt1000 c = sym (spoiled-many _ _ (inside-as c.before.before.before) c.if-maps-gt1000.true)
 
 pub overflow_mul-pixels : goal.overflow_mul-pixels
-overflow_mul-pixels c = let at = c.before.before.before.before in omega (arith, pixels-most (W at) (within at))
+overflow_mul-pixels c = let at = c.before.before.before.before.before in omega (arith, pixels-most (W at) (within at))
 
 pub overflow_mul-maps : goal.overflow_mul-maps
-overflow_mul-maps c = let at = c.before.before.before.before in omega (arith, mul-le-mul c.before.before.if-maps-gt1000.false (pixels-most (W at) (within at)))
+overflow_mul-maps c = let at = c.before.before.before.before.before in omega (arith, mul-le-mul c.if-maps-gt1000.false (pixels-most (W at) (within at)))
 
 pub returns : goal.returns
-returns c = let at = c.before.before.before.before.before in c.any_over.ensures ∙ rw (exact at) (sym (spoiled-rows _ _ (inside-as at) c.before.before.before.if-maps-gt1000.false))
+returns c = let at = c.before.before.before.before.before.before in c.any_over.ensures ∙ rw (exact at) (sym (spoiled-rows _ _ (inside-as at) c.if-maps-gt1000.false))

@@ -7,13 +7,13 @@ pub loop-i-init : goal.loop-i-init
 loop-i-init c = wiping-first _ c.requires
 
 pub bounds-table-i : goal.bounds-table-i
-bounds-table-i c = omega (arith, c.loop-i-test.true, c.before.loop-i.invariant.cells.same, c.before.before.requires)
+bounds-table-i c = omega (arith, c.loop-i-test.true, c.loop-i.invariant.cells.same, c.requires)
 
 pub loop-i-preserved : goal.loop-i-preserved
-loop-i-preserved c = wiping-next _ c.before.before.requires c.before.loop-i.invariant c.loop-i-test.true
+loop-i-preserved c = wiping-next _ c.requires c.loop-i.invariant c.loop-i-test.true
 
 pub shape_of-table : goal.shape_of-table
-shape_of-table c = c.before.loop-i.invariant.cells.same
+shape_of-table c = c.loop-i.invariant.cells.same
 
 pub returns : goal.returns
-returns c = wiping-last _ c.before.before.requires c.before.loop-i.invariant c.loop-i-test.false
+returns c = wiping-last _ c.requires c.loop-i.invariant c.loop-i-test.false

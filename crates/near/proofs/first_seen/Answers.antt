@@ -5,7 +5,13 @@ use Rattle.near.specs.declared.Seen.{Seen}
 use Rattle.near.specs.Near.{Known}
 use Rattle.near.proofs.Known.{known-none, known-whole}
 use Rattle.near.proofs.first_seen.Goals as goal
-use Rattle.near.proofs.first_seen.Goals.{After-none_seen-none, Start}
+use Rattle.near.proofs.first_seen.Goals.{Start}
+use Rattle.near.proofs.first_seen.Lts as lts
+use Rattle.near.proofs.first_seen.Reads as reads
+use Rattle.near.proofs.first_seen.Tie as tie
+
+abbrev After-none_seen-none : Type 0
+After-none_seen-none = lts.After-none_seen tie.the-claims reads.Pre reads.Post
 
 -- of no record
 module _ (c : After-none_seen-none) where
@@ -19,16 +25,16 @@ module _ (c : After-none_seen-none) where
   )
 
 pub returns-then-keys-ne1 : goal.returns-then-keys-ne1
-returns-then-keys-ne1 c = nowhere c.before
+returns-then-keys-ne1 c = nowhere c.before.before
 
 pub returns-then-keys-ne0 : goal.returns-then-keys-ne0
-returns-then-keys-ne0 c = nowhere c.before.before.before
+returns-then-keys-ne0 c = nowhere c.before.before.before.before
 
 pub returns : goal.returns
 returns c =
-    let e = c.before.before.before in
+    let e = c.before.before.before.before in
     let f = e.before.before in
     let n = f.before in
     let p = (start n).requires in
-    rw (c.seen_with.ensures, c.before.near_to-whole.ensures)
-    (known-whole p.2 (omega (arith, f.if-keys-ne1.false)) (omega (arith, e.if-keys-ne0.false)) c.before.before.pow5.ensures.is, (nowhere n).1)
+    rw (c.seen_with.ensures, c.near_to-whole.ensures)
+    (known-whole p.2 (omega (arith, f.if-keys-ne1.false)) (omega (arith, e.if-keys-ne0.false)) c.pow5.ensures.is, (nowhere n).1)

@@ -10,5 +10,5 @@ returns-then-near-key c = (λ e. never (sym e), λ h. absurd (omega (arith, c.if
 
 pub returns : goal.returns
 returns c =
-    let a = c.before.before.before.args in
-    (λ e. record { behind = ltb-true a.near.from a.key e; before = omega (arith, c.before.if-near-key.false) }, λ h. lt-ltb a.near.from a.key h.behind)
+    let a = c.args in
+    (λ e. record { behind = ltb-true a.near.from a.key e; before = omega (arith, c.if-near-key.false) }, λ h. lt-ltb a.near.from a.key h.behind)

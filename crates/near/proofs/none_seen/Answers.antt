@@ -2,4 +2,4 @@
 use Rattle.near.proofs.none_seen.Goals as goal
 
 pub returns : goal.returns
-returns c = rw (c.seen_with.ensures, c.before.inside.ensures, c.before.before.near_to-nowhere.ensures)
+returns c = rw (c.seen_with.ensures, c.inside.ensures, c.near_to-nowhere.ensures)

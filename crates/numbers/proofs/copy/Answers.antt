@@ -8,7 +8,7 @@ pub loop-i-init : goal.loop-i-init
 loop-i-init c = (omega arith, filling-first _)
 
 pub loop-i-preserved : goal.loop-i-preserved
-loop-i-preserved c = (search rules, copy-next c.before.before.before.args.from.now c.before.before.loop-i.i c.before.before.loop-i.invariant.1 (search rules) (search rules))
+loop-i-preserved c = (search rules, copy-next c.args.from.now c.loop-i.i c.loop-i.invariant.1 (search rules) (search rules))
 
 pub returns : goal.returns
-returns c = list-last (λ xs. xs) c.before.before.args.from.now c.before.loop-i.i c.before.loop-i.invariant.1 (omega (arith, c.loop-i-test.false))
+returns c = list-last (λ xs. xs) c.args.from.now c.loop-i.i c.loop-i.invariant.1 (omega (arith, c.loop-i-test.false))

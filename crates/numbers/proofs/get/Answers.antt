@@ -6,7 +6,12 @@ use lib.ListN.{get_or}
 use borrow.Author.Rules.{rules}
 use Rattle.numbers.proofs.Steps.{number-four}
 use Rattle.numbers.proofs.get.Goals as goal
-use Rattle.numbers.proofs.get.Goals.{After-shared_slice_known-1}
+use Rattle.numbers.proofs.get.Lts as lts
+use Rattle.numbers.proofs.get.Reads as reads
+use Rattle.numbers.proofs.get.Tie as tie
+
+abbrev After-shared_slice_known-1 : Type 0
+After-shared_slice_known-1 = lts.After-shared_slice_known tie.the-claims reads.Pre reads.Post
 
 pub bounds-from-0 : goal.bounds-from-0
 bounds-from-0 c = search rules
@@ -17,38 +22,38 @@ record Low (bs : List ℕ) : Type 0 where
   low2 : get_or bs 2 0 < 256
   low3 : get_or bs 3 0 < 256
 
-low : (c : After-shared_slice_known-1) → Low c.before.args.from.now
+low : (c : After-shared_slice_known-1) → Low c.args.from.now
 low c = omega (arith, c.shared_slice_known-1.given 0, c.shared_slice_known-1.given 1, c.shared_slice_known-1.given 2, c.shared_slice_known-1.given 3)
 
 pub overflow_cast-result : goal.overflow_cast-result
-overflow_cast-result c = omega (arith, low c)
+overflow_cast-result c = omega (arith, low c.before)
 
 pub overflow_cast-result-2 : goal.overflow_cast-result-2
-overflow_cast-result-2 c = omega (arith, low c.before)
+overflow_cast-result-2 c = omega (arith, low c.before.before)
 
 pub overflow_cast-result-3 : goal.overflow_cast-result-3
-overflow_cast-result-3 c = omega (arith, low c.before.before)
+overflow_cast-result-3 c = omega (arith, low c.before.before.before)
 
 pub overflow_cast-result-4 : goal.overflow_cast-result-4
-overflow_cast-result-4 c = omega (arith, low c.before.before.before)
+overflow_cast-result-4 c = omega (arith, low c.before.before.before.before)
 
 pub overflow_mul-result : goal.overflow_mul-result
-overflow_mul-result c = omega (arith, low c.before.before.before)
+overflow_mul-result c = omega (arith, low c.before.before.before.before)
 
 pub overflow_add-result : goal.overflow_add-result
-overflow_add-result c = omega (arith, low c.before.before.before)
+overflow_add-result c = omega (arith, low c.before.before.before.before)
 
 pub overflow_mul-result-2 : goal.overflow_mul-result-2
-overflow_mul-result-2 c = omega (arith, low c.before.before.before)
+overflow_mul-result-2 c = omega (arith, low c.before.before.before.before)
 
 pub overflow_add-result-2 : goal.overflow_add-result-2
-overflow_add-result-2 c = omega (arith, low c.before.before.before)
+overflow_add-result-2 c = omega (arith, low c.before.before.before.before)
 
 pub overflow_mul-result-3 : goal.overflow_mul-result-3
-overflow_mul-result-3 c = omega (arith, low c.before.before.before)
+overflow_mul-result-3 c = omega (arith, low c.before.before.before.before)
 
 pub overflow_add-result-3 : goal.overflow_add-result-3
-overflow_add-result-3 c = omega (arith, low c.before.before.before)
+overflow_add-result-3 c = omega (arith, low c.before.before.before.before)
 
 pub returns : goal.returns
-returns c = omega (arith, number-four c.before.before.before.before.args.from.now)
+returns c = omega (arith, number-four c.args.from.now)

@@ -13,8 +13,8 @@ get-requires c = simp (length-take, length-drop) (omega arith)
 
 pub loop-i-preserved : goal.loop-i-preserved
 loop-i-preserved c =
-    let at = c.before.before.before in
-    (search rules, get-next at.before.before.before.args.from.now at.loop-i.i at.loop-i.invariant.1 c.get.ensures (search rules))
+    let at = c.before.before.before.before in
+    (search rules, get-next at.args.from.now at.loop-i.i at.loop-i.invariant.1 c.get.ensures (search rules))
 
 pub returns : goal.returns
-returns c = get-last c.before.before.before.before.args.from.now c.before.loop-i.i c.before.loop-i.invariant.1 (search rules)
+returns c = get-last c.args.from.now c.loop-i.i c.loop-i.invariant.1 (search rules)

@@ -15,8 +15,8 @@ put-requires c = simp (length-take, length-drop) (omega arith)
 
 pub loop-i-preserved : goal.loop-i-preserved
 loop-i-preserved c =
-    let at = c.before.before.before.before.before.before in
-    (search rules, put_next at.before.before.before.args.list.now at.loop-i.i at.loop-i.invariant.1 c.before.before.put.ensures (search rules) (search rules))
+    let at = c.before.before.before.before.before.before.before in
+    (search rules, put_next at.args.list.now at.loop-i.i at.loop-i.invariant.1 c.put.ensures (search rules) (search rules))
 
 pub returns : goal.returns
-returns c = list-last bytes_of c.before.before.before.before.args.list.now c.before.loop-i.i c.before.loop-i.invariant.1 (omega (arith, c.loop-i-test.false))
+returns c = list-last bytes_of c.args.list.now c.loop-i.i c.loop-i.invariant.1 (omega (arith, c.loop-i-test.false))

@@ -17,10 +17,28 @@ use Rattle.used.specs.Used.{Usable, tiled_refusals}
 use Rattle.used.proofs.Laws.{tiled-known}
 use Rattle.open.proofs.Opening.{open-refused, open-short, Writable, writable-first, writable-counted, written_same, written_all}
 use Rattle.open.proofs.open.Goals as goal
-use Rattle.open.proofs.open.Goals.{After-most_blocks, After-pass-counted, After-struct_known-1, In_default, Joined-out-most_blocks, Start}
+use Rattle.open.proofs.open.Goals.{Start}
+use Rattle.open.proofs.open.Lts as lts
+use Rattle.open.proofs.open.Reads as reads
+use Rattle.open.proofs.open.Tie as tie
+
+abbrev In_default : Type 0
+In_default = lts.After-enum_told tie.the-claims reads.Pre reads.Post
+
+abbrev After-most_blocks : Type 0
+After-most_blocks = lts.After-most_blocks tie.the-claims reads.Pre reads.Post
+
+abbrev After-pass-counted : Type 0
+After-pass-counted = lts.After-pass tie.the-claims reads.Pre reads.Post
+
+abbrev After-struct_known-1 : Type 0
+After-struct_known-1 = lts.After-struct_known tie.the-claims reads.Pre reads.Post
+
+abbrev Joined-out-most_blocks : Type 0
+Joined-out-most_blocks = lts.Joined1 tie.the-claims reads.Pre reads.Post
 
 pub returns-in-Refused : goal.returns-in-Refused
-returns-in-Refused c = sym (open-refused _ _ _ _ _ _ _ _ (sym c.before.before.before.usable_tiled-verdict.ensures ∙ c.before.in-Refused.is))
+returns-in-Refused c = sym (open-refused _ _ _ _ _ _ _ _ (sym c.usable_tiled-verdict.ensures ∙ c.in-Refused.is))
 
 -- where refusals 1 to 7 and 17 do not hold
 module _ (c : In_default) where
@@ -32,7 +50,7 @@ module _ (c : In_default) where
 
   passed : verdict (tiled_refusals asked.args.whole asked.args.m asked.args.top asked.args.keys.now (length asked.args.classes.now)
       asked.args.window (length asked.args.border-1.now)) ≡ Passed
-  passed = sym c.before.before.usable_tiled-verdict.ensures ∙ c.in_default.is
+  passed = sym c.usable_tiled-verdict.ensures ∙ c.in_default.is
 
   known : Usable asked.args.m asked.args.top asked.args.keys.now asked.args.window (length asked.args.border-1.now)
   known = tiled-known _ _ _ _ _ _ _ passed
@@ -47,17 +65,17 @@ module _ (c : In_default) where
   small = most-small asked.args.window asked.args.top drawn
 
 pub most_blocks-requires : goal.most_blocks-requires
-most_blocks-requires c = let k = known c.before in (omega (arith, k.cap, k.small), drawn c.before)
+most_blocks-requires c = let k = known c.before.before in (omega (arith, k.cap, k.small), drawn c.before.before)
 
 -- behind the number of openings that there can be
 abbrev clear : After-most_blocks → In_default
 clear c = c.before.before
 
 pub overflow_mul-most_blocks : goal.overflow_mul-most_blocks
-overflow_mul-most_blocks c = omega (arith, c.most_blocks.ensures, small (clear c))
+overflow_mul-most_blocks c = omega (arith, c.most_blocks.ensures, small (clear c.before))
 
 pub pass-counted-requires : goal.pass-counted-requires
-pass-counted-requires c = let k = c.before.before.before.before in (k.before.spread_table-table.ensures, known (clear k))
+pass-counted-requires c = let k = c.before.before.before.before.before in (k.spread_table-table.ensures, known (clear k))
 
 -- how many cells the pass that counts says are needed
 module _ (c : After-struct_known-1) where
@@ -71,11 +89,11 @@ module _ (c : After-struct_known-1) where
   needed = ap (λ (n : ℕ). 3 * n) counted.pass-counted.ensures.many
 
 pub overflow_mul-needed : goal.overflow_mul-needed
-overflow_mul-needed c = omega (arith, needed c, few (of c), small (of c))
+overflow_mul-needed c = omega (arith, needed c.before, few (of c.before), small (of c.before))
 
 pub returns-then-out-needed : goal.returns-then-out-needed
 returns-then-out-needed c =
-    let k = c.before in
+    let k = c.before.before in
     let p = (counted k).pass-counted.ensures in
     let none = passed-nothing (asked (of k)).args.out-1.now p in
     open-short _ _ _ _ _ _ _ _ (passed (of k)) (needed k) (omega (arith, c.if-out-needed.true, ap length none)) p.ends none
@@ -92,25 +110,25 @@ module _ (c : Joined-out-most_blocks) where
   ready =
       ⊎_elim
       (λ w. writable-counted w.4.ensures (known told).wide w.11 w.12 (omega (arith, w.10.left)))
-      (λ w. writable-first w.1 w.2 (omega (arith, few told, c.before.most_blocks.ensures, w.0.left)))
+      (λ w. writable-first w.1 w.2 (omega (arith, few told, c.most_blocks.ensures, w.0.left)))
       c.if-out-most_blocks.branch
 
 pub pass-totals-requires : goal.pass-totals-requires
 pass-totals-requires c =
-    let k = c.before.before.before in
-    (k.before.before.spread_table-table.ensures, rw (ready k).long (known (told k)))
+    let k = c.before.before.before.before in
+    (k.spread_table-table.ensures, rw (ready k).long (known (told k)))
 
 pub shape_of-border : goal.shape_of-border
 shape_of-border c =
-    let k = c.before.before.before.before.before.before.before.before in
-    (written_same (ready k) c.before.before.before.before.pass-totals.ensures (known (told k)).wide).0
+    let k = c.before.before.before.before.before.before.before.before.before in
+    (written_same (ready k) c.pass-totals.ensures (known (told k)).wide).0
 
 pub shape_of-out : goal.shape_of-out
 shape_of-out c =
-    let k = c.before.before.before.before.before.before.before.before in
-    (written_same (ready k) c.before.before.before.before.pass-totals.ensures (known (told k)).wide).1
+    let k = c.before.before.before.before.before.before.before.before.before in
+    (written_same (ready k) c.pass-totals.ensures (known (told k)).wide).1
 
 pub returns : goal.returns
 returns c =
-    let k = c.before.before.before.before.before.before.before.before in
-    written_all (ready k) c.before.before.before.before.pass-totals.ensures _ _ (passed (told k))
+    let k = c.before.before.before.before.before.before.before.before.before in
+    written_all (ready k) c.pass-totals.ensures _ _ (passed (told k))

@@ -6,22 +6,34 @@ use Rattle.window.proofs.Laws.{inside-12, goes-less}
 use Rattle.border.specs.Found.{walk}
 use Rattle.border.proofs.Loops.{reached-done, skipping-first, skipping-end, skipping-ready, skipping-kept, skipping-next, skipping-room, skipping-found}
 use Rattle.openings.proofs.next_opening.Goals as goal
-use Rattle.openings.proofs.next_opening.Goals.{At-loop-row, In-Block, In-Opened, Start}
+use Rattle.openings.proofs.next_opening.Goals.{Start}
+use Rattle.openings.proofs.next_opening.Lts as lts
+use Rattle.openings.proofs.next_opening.Reads as reads
+use Rattle.openings.proofs.next_opening.Tie as tie
+
+abbrev At-loop-row : Type 0
+At-loop-row = lts.At-loop tie.the-claims reads.Pre reads.Post goal.the-invariant-loop-row goal.the-decreases-loop-row
+
+abbrev In-Block : Type 0
+In-Block = lts.After-known_told tie.the-claims reads.Pre reads.Post goal.the-invariant-loop-row goal.the-decreases-loop-row
+
+abbrev In-Opened : Type 0
+In-Opened = lts.After-known_told2 tie.the-claims reads.Pre reads.Post goal.the-invariant-loop-row goal.the-decreases-loop-row
 
 pub returns-then-left-eq0 : goal.returns-then-left-eq0
-returns-then-left-eq0 c = reached-done c.before.before.before.requires.2 c.if-left-eq0.true
+returns-then-left-eq0 c = reached-done c.requires.2 c.if-left-eq0.true
 
 pub loop-row-init : goal.loop-row-init
-loop-row-init c = skipping-first c.before.before.before.requires.2
+loop-row-init c = skipping-first c.requires.2
 
 pub next_block-next-requires : goal.next_block-next-requires
-next_block-next-requires c = let u = c.before.before.before.before.requires.1 in (omega (arith, u.small, u.cap), inside-12 u.small u.inside, c.loop-row.invariant.reached.walked.cursor)
+next_block-next-requires c = let u = c.requires.1 in (omega (arith, u.small, u.cap), inside-12 u.small u.inside, c.loop-row.invariant.reached.walked.cursor)
 
 pub shape_of-border-in_default : goal.shape_of-border-in_default
-shape_of-border-in_default c = c.before.before.before.loop-row.invariant.kept.same
+shape_of-border-in_default c = c.loop-row.invariant.kept.same
 
 pub returns-in_default : goal.returns-in_default
-returns-in_default c = skipping-end c.before.before.before.loop-row.invariant (rw c.in_default.is at c.before.before.next_block-next.ensures)
+returns-in_default c = skipping-end c.loop-row.invariant (rw c.in_default.is at c.next_block-next.ensures)
 
 -- the arm of a block: where the loop is, and what the walk says
 module _ (c : In-Block) where
@@ -32,36 +44,36 @@ module _ (c : In-Block) where
   start = c.before.before.before.before.before.before.before.before
 
   goes : Goes start.args.window start.args.top (turn.loop-row.r, turn.loop-row.c)
-      (Block c.before.in-Block.row c.before.in-Block.col c.before.in-Block.exponent c.before.in-Block.after)
-  goes = rw c.before.in-Block.is at c.before.before.before.next_block-next.ensures
+      (Block c.in-Block.row c.in-Block.col c.in-Block.exponent c.in-Block.after)
+  goes = rw c.in-Block.is at c.next_block-next.ensures
 
 pub step-stepped-requires : goal.step-stepped-requires
-step-stepped-requires c = let at = c.before in ((start at).requires.0, skipping-ready (turn at).loop-row.invariant (start at).requires.1 (goes at))
+step-stepped-requires c = let at = c.before.before in ((start at).requires.0, skipping-ready (turn at).loop-row.invariant (start at).requires.1 (goes at))
 
 -- the arm of an opened block
 module _ (c : In-Opened) where
   abbrev at : In-Block
   at = c.before.before.before.before.before.before.before
 
-  room : c.before.in-Opened.closed ≤ (start at).args.at.left
-  room = skipping-room (turn at).loop-row.invariant (start at).requires.1 (goes at) c.before.before.before.before.before.step-stepped.ensures c.before.in-Opened.is
+  room : c.in-Opened.closed ≤ (start at).args.at.left
+  room = skipping-room (turn at).loop-row.invariant (start at).requires.1 (goes at) c.step-stepped.ensures c.in-Opened.is
 
 pub overflow_sub-left : goal.overflow_sub-left
-overflow_sub-left c = room c
+overflow_sub-left c = room c.before
 
 pub shape_of-border-in-Opened : goal.shape_of-border-in-Opened
-shape_of-border-in-Opened c = let k = c.before in (skipping-kept (turn (at k)).loop-row.invariant (start (at k)).requires.1 (goes (at k)) k.before.before.before.before.before.step-stepped.ensures).same
+shape_of-border-in-Opened c = let k = c.before.before in (skipping-kept (turn (at k)).loop-row.invariant (start (at k)).requires.1 (goes (at k)) k.step-stepped.ensures).same
 
 pub returns-in-Opened : goal.returns-in-Opened
 returns-in-Opened c =
-    let k = c.before in
+    let k = c.before.before in
     rw c.walk_from.ensures
-    (skipping-found (turn (at k)).loop-row.invariant (start (at k)).requires.1 (goes (at k)) k.before.before.before.before.before.step-stepped.ensures k.before.in-Opened.is (omega (arith, room k)))
+    (skipping-found (turn (at k)).loop-row.invariant (start (at k)).requires.1 (goes (at k)) k.step-stepped.ensures k.in-Opened.is (omega (arith, room k)))
 
 pub loop-row-smaller : goal.loop-row-smaller
-loop-row-smaller c = goes-less (goes c.before.before.before.before.before.before)
+loop-row-smaller c = goes-less (goes c.before.before.before.before.before.before.before)
 
 pub loop-row-preserved : goal.loop-row-preserved
 loop-row-preserved c =
-    let at = c.before.before.before.before.before.before in
-    skipping-next (turn at).loop-row.invariant (start at).requires.1 (goes at) c.before.before.before.before.step-stepped.ensures c.in_default-stepped.is
+    let at = c.before.before.before.before.before.before.before in
+    skipping-next (turn at).loop-row.invariant (start at).requires.1 (goes at) c.step-stepped.ensures c.in_default-stepped.is

@@ -7,10 +7,19 @@ use Rattle.answers.specs.Refusals.{verdict}
 use Rattle.map.specs.Check.{map_refusals_in, map_refusals}
 use Rattle.overlay.proofs.Pairs.{today-refused, base-refused, m-refused, pair-passed}
 use Rattle.overlay.proofs.check_pair.Goals as goal
-use Rattle.overlay.proofs.check_pair.Goals.{In_default, In_default-under, Start}
+use Rattle.overlay.proofs.check_pair.Goals.{Start}
+use Rattle.overlay.proofs.check_pair.Lts as lts
+use Rattle.overlay.proofs.check_pair.Reads as reads
+use Rattle.overlay.proofs.check_pair.Tie as tie
+
+abbrev In_default : Type 0
+In_default = lts.After-enum_told tie.the-claims reads.Pre reads.Post
+
+abbrev In_default-under : Type 0
+In_default-under = lts.After-enum_told2 tie.the-claims reads.Pre reads.Post
 
 pub returns-in-Refused : goal.returns-in-Refused
-returns-in-Refused c = sym (today-refused _ _ _ _ _ _ (sym c.before.before.before.sound-today.ensures ∙ c.before.in-Refused.is))
+returns-in-Refused c = sym (today-refused _ _ _ _ _ _ (sym c.sound-today.ensures ∙ c.in-Refused.is))
 
 -- today's map is sound
 module _ (c : In_default) where
@@ -18,12 +27,12 @@ module _ (c : In_default) where
   entry = c.before.before.before.before.before.before.before
 
   first : verdict (map_refusals_in false entry.args.m entry.args.keys.now (length entry.args.classes.now)) ≡ Passed
-  first = sym c.before.before.sound-today.ensures ∙ c.in_default.is
+  first = sym c.sound-today.ensures ∙ c.in_default.is
 
 pub returns-in-Refused-under : goal.returns-in-Refused-under
 returns-in-Refused-under c =
-    let s = c.before.before.before in
-    sym (base-refused _ _ _ _ _ _ (first s.before) (sym s.sound-under.ensures ∙ c.before.in-Refused-under.is))
+    let s = c.before.before.before.before in
+    sym (base-refused _ _ _ _ _ _ (first s.before) (sym s.sound-under.ensures ∙ c.in-Refused-under.is))
 
 -- and so is the baseline
 module _ (c : In_default-under) where
@@ -31,10 +40,10 @@ module _ (c : In_default-under) where
   today = c.before.before.before
 
   second : verdict (map_refusals (entry today).args.depth (entry today).args.base.now (length (entry today).args.beneath.now)) ≡ Passed
-  second = sym c.before.before.sound-under.ensures ∙ c.in_default-under.is
+  second = sym c.sound-under.ensures ∙ c.in_default-under.is
 
 pub returns-then-m-depth : goal.returns-then-m-depth
-returns-then-m-depth c = sym (m-refused _ _ _ _ _ _ (first (today c.before)) (second c.before) c.if-m-depth.true)
+returns-then-m-depth c = sym (m-refused _ _ _ _ _ _ (first (today c.before.before)) (second c.before.before) c.if-m-depth.true)
 
 pub returns : goal.returns
-returns c = sym (pair-passed _ _ _ _ _ _ (first (today c.before)) (second c.before) c.if-m-depth.false)
+returns c = sym (pair-passed _ _ _ _ _ _ (first (today c.before.before)) (second c.before.before) c.if-m-depth.false)

@@ -12,7 +12,13 @@ use Rattle.pieces.specs.Pair.{class_over_map}
 use Rattle.overlay.specs.Select.{class_selection}
 use Rattle.overlay.proofs.Blocks.{class-most}
 use Rattle.overlay.proofs.list_class.Goals as goal
-use Rattle.overlay.proofs.list_class.Goals.{Joined-out-most, Start}
+use Rattle.overlay.proofs.list_class.Goals.{Start}
+use Rattle.overlay.proofs.list_class.Lts as lts
+use Rattle.overlay.proofs.list_class.Reads as reads
+use Rattle.overlay.proofs.list_class.Tie as tie
+
+abbrev Joined-out-most : Type 0
+Joined-out-most = lts.Joined1 tie.the-claims reads.Pre reads.Post
 
 -- what is lent, and chosen from it
 module _ (entry : Start) where
@@ -29,12 +35,12 @@ module _ (entry : Start) where
   few = class-most entry.args.m rule entry.args.class entry.requires.0.today entry.requires.1
 
 pub overflow_mul-most : goal.overflow_mul-most
-overflow_mul-most c = let e = c.before.before.before.before.before.before.before in omega (arith, pixels-most e.args.window (inside-12 e.requires.0.small e.requires.1))
+overflow_mul-most c = let e = c.before.before.before.before.before.before.before.before in omega (arith, pixels-most e.args.window (inside-12 e.requires.0.small e.requires.1))
 
 pub returns-then-out-needed : goal.returns-then-out-needed
 returns-then-out-needed c =
-    let k = c.before.before.before.before.before.before.before.before.before.before.before.before.before in
-    let L = c.before.before.before.put_all-needed.ensures in
+    let k = c.before.before.before.before.before.before.before.before.before.before.before.before.before.before in
+    let L = c.put_all-needed.ensures in
     let same = listed-nothing {xs = chosen k} L (lent k) in
     keys-short (chosen k) (lent k) (omega (arith, L.count)) (omega (arith, c.if-out-needed.true, ap length same)) same
 
@@ -51,10 +57,10 @@ ready c =
     c.if-out-most.branch
 
 pub shape_of-out : goal.shape_of-out
-shape_of-out c = listed_same c.before.before.put_all-count.ensures ∙ ap length (ready c.before.before.before.before).0
+shape_of-out c = listed_same c.put_all-count.ensures ∙ ap length (ready c.before.before.before.before.before).0
 
 pub returns : goal.returns
 returns c =
-    let j = c.before.before.before.before in
+    let j = c.before.before.before.before.before in
     let r = ready j in
-    keys-done (chosen (start j)) _ (rw r.0 at c.before.before.put_all-count.ensures) r.1
+    keys-done (chosen (start j)) _ (rw r.0 at c.put_all-count.ensures) r.1

@@ -8,7 +8,22 @@ use Rattle.map.proofs.Laws.{keys-rise}
 use Rattle.pieces.proofs.Laws.{at_room}
 use Rattle.overlay.proofs.Meets.{meets-bracket, meets-order, meets}
 use Rattle.overlay.proofs.overlapping.Goals as goal
-use Rattle.overlay.proofs.overlapping.Goals.{After-keys_below, After-pow5, After-seek-from, After-span_of-block, Start}
+use Rattle.overlay.proofs.overlapping.Goals.{Start}
+use Rattle.overlay.proofs.overlapping.Lts as lts
+use Rattle.overlay.proofs.overlapping.Reads as reads
+use Rattle.overlay.proofs.overlapping.Tie as tie
+
+abbrev After-span_of-block : Type 0
+After-span_of-block = lts.After-span_of tie.the-claims reads.Pre reads.Post
+
+abbrev After-seek-from : Type 0
+After-seek-from = lts.After-seek tie.the-claims reads.Pre reads.Post
+
+abbrev After-pow5 : Type 0
+After-pow5 = lts.After-pow5 tie.the-claims reads.Pre reads.Post
+
+abbrev After-keys_below : Type 0
+After-keys_below = lts.After-keys_below tie.the-claims reads.Pre reads.Post
 
 -- behind the block's span
 abbrev entry : After-span_of-block → Start
@@ -16,14 +31,14 @@ entry c = c.before.before
 
 pub seek-from-requires : goal.seek-from-requires
 seek-from-requires c =
-    let b = c.before in
+    let b = c.before.before in
     let p = (entry b).requires in
     (p.0, p.2, record { exponent = b.Span-of.result.exponent; names = b.Span-of.ensures })
 
 pub pow5-requires : goal.pow5-requires
 pow5-requires c =
-    let b = c.before.before.before in
-    (c.before.before.spread_table-table.ensures, omega (arith, (block-lies b.Span-of.ensures).small, (entry b).requires.0))
+    let b = c.before.before.before.before in
+    (c.spread_table-table.ensures, omega (arith, (block-lies b.Span-of.ensures).small, (entry b).requires.0))
 
 -- and behind the first record
 module _ (c : After-pow5) where
@@ -35,14 +50,14 @@ module _ (c : After-pow5) where
 
 pub overflow_add-beyond : goal.overflow_add-beyond
 overflow_add-beyond c =
-    let b = block c in
+    let b = block c.before in
     omega (arith, (block-lies b.Span-of.ensures).keys, pow-most 4 _ (entry b).requires.0, c.pow5.ensures.is)
 
 pub keys_below-requires : goal.keys_below-requires
 keys_below-requires c =
-    let b = block c in
+    let b = block c.before in
     let F = (entry b).requires.2 in
-    (keys-rise F, rw c.pow5.ensures.is (meets-bracket F b.Span-of.ensures (sought c).seek-from.ensures))
+    (keys-rise F, rw c.pow5.ensures.is (meets-bracket F b.Span-of.ensures (sought c.before).seek-from.ensures))
 
 -- the records that overlap it
 module _ (c : After-keys_below) where
@@ -59,13 +74,13 @@ module _ (c : After-keys_below) where
   order = meets-order (entry found).requires.2 found.Span-of.ensures (sought powered).seek-from.ensures splits
 
 pub overflow_sub-count : goal.overflow_sub-count
-overflow_sub-count c = omega (arith, order c)
+overflow_sub-count c = omega (arith, order c.before)
 
 pub overflow_cast-result : goal.overflow_cast-result
-overflow_cast-result c = omega (arith, at_room (sought (powered c)).seek-from.ensures, (entry (found c)).requires.1)
+overflow_cast-result c = omega (arith, at_room (sought (powered c.before)).seek-from.ensures, (entry (found c.before)).requires.1)
 
 pub overflow_cast-result-2 : goal.overflow_cast-result-2
-overflow_cast-result-2 c = omega (arith, order c, (splits c).room, (entry (found c)).requires.1)
+overflow_cast-result-2 c = omega (arith, order c.before, (splits c.before).room, (entry (found c.before)).requires.1)
 
 pub returns : goal.returns
-returns c = meets (entry (found c)).requires.2 (found c).Span-of.ensures (sought (powered c)).seek-from.ensures (splits c) refl refl
+returns c = meets (entry (found c.before)).requires.2 (found c.before).Span-of.ensures (sought (powered c.before)).seek-from.ensures (splits c.before) refl refl

@@ -14,33 +14,45 @@ use Rattle.pieces.specs.Pair.{class_over_map}
 use Rattle.overlay.specs.Select.{class_blocks, class_selected, class_selection}
 use Rattle.overlay.proofs.Blocks.{block_listed, class-fits}
 use Rattle.overlay.proofs.put_all.Goals as goal
-use Rattle.overlay.proofs.put_all.Goals.{After-block_ahead-ahead, At-loop-row, In-Block, Start}
+use Rattle.overlay.proofs.put_all.Goals.{Start}
+use Rattle.overlay.proofs.put_all.Lts as lts
+use Rattle.overlay.proofs.put_all.Reads as reads
+use Rattle.overlay.proofs.put_all.Tie as tie
+
+abbrev At-loop-row : Type 0
+At-loop-row = lts.At-loop tie.the-claims reads.Pre reads.Post goal.the-invariant-loop-row goal.the-decreases-loop-row
+
+abbrev In-Block : Type 0
+In-Block = lts.After-known_told tie.the-claims reads.Pre reads.Post goal.the-invariant-loop-row goal.the-decreases-loop-row
+
+abbrev After-block_ahead-ahead : Type 0
+After-block_ahead-ahead = lts.After-block_ahead tie.the-claims reads.Pre reads.Post goal.the-invariant-loop-row goal.the-decreases-loop-row
 
 pub first_stand-at-requires : goal.first_stand-at-requires
-first_stand-at-requires c = let p = c.before.before.before.before.before.before.before.requires.0 in (p.small, p.today, spaced p.under)
+first_stand-at-requires c = let p = c.requires.0 in (p.small, p.today, spaced p.under)
 
 pub loop-row-init : goal.loop-row-init
-loop-row-init c = (walking-first _ c.before.before.before.before.before.before.before.before.requires.1 _, c.first_stand-at.ensures)
+loop-row-init c = (walking-first _ c.requires.1 _, c.first_stand-at.ensures)
 
 abbrev entry : At-loop-row → Start
 entry c = c.before.before.before.before.before.before.before.before.before
 
 -- the tables
-ones-at : (c : At-loop-row) → c.before.before.before.ones_table-ones.result ≡ ones_table
-ones-at c = c.before.before.before.ones_table-ones.ensures
+ones-at : (c : At-loop-row) → c.ones_table-ones.result ≡ ones_table
+ones-at c = c.ones_table-ones.ensures
 
-spreads-at : (c : At-loop-row) → c.before.before.spread_table-table.result ≡ spreads
-spreads-at c = c.before.before.spread_table-table.ensures
+spreads-at : (c : At-loop-row) → c.spread_table-table.result ≡ spreads
+spreads-at c = c.spread_table-table.ensures
 
 pub next_block-next-requires : goal.next_block-next-requires
-next_block-next-requires c = let p = (entry c).requires in (p.0.small, inside-12 p.0.small p.1, c.loop-row.invariant.0.walked.cursor)
+next_block-next-requires c = let p = (entry c.before).requires in (p.0.small, inside-12 p.0.small p.1, c.loop-row.invariant.0.walked.cursor)
 
 pub shape_of-out-in_default : goal.shape_of-out-in_default
-shape_of-out-in_default c = listed_same c.before.before.before.loop-row.invariant.0.listing
+shape_of-out-in_default c = listed_same c.loop-row.invariant.0.listing
 
 pub returns-in_default : goal.returns-in_default
 unfolding class_selection
-returns-in_default c = walking-last c.before.before.before.loop-row.invariant.0 c.before.before.next_block-next.ensures c.in_default.is
+returns-in_default c = walking-last c.loop-row.invariant.0 c.next_block-next.ensures c.in_default.is
 
 -- the arm of a block: where the loop is, and what the walk says
 module _ (c : In-Block) where
@@ -50,16 +62,16 @@ module _ (c : In-Block) where
   abbrev start : Start
   start = entry turn
 
-  on : Goes start.args.window start.args.m (turn.loop-row.r, turn.loop-row.c) c.before.before.before.next_block-next.result
-  on = c.before.before.before.next_block-next.ensures
+  on : Goes start.args.window start.args.m (turn.loop-row.r, turn.loop-row.c) c.next_block-next.result
+  on = c.next_block-next.ensures
 
   goes : Goes start.args.window start.args.m (turn.loop-row.r, turn.loop-row.c)
-      (Block c.before.in-Block.row c.before.in-Block.col c.before.in-Block.exponent c.before.in-Block.after)
-  goes = walking-goes turn.loop-row.invariant.0 on c.before.in-Block.is
+      (Block c.in-Block.row c.in-Block.col c.in-Block.exponent c.in-Block.after)
+  goes = walking-goes turn.loop-row.invariant.0 on c.in-Block.is
 
 pub block_ahead-ahead-requires : goal.block_ahead-ahead-requires
 block_ahead-ahead-requires c =
-    let k = c.before in
+    let k = c.before.before in
     let p = (start k).requires in
     let b = goes-block p.1 (omega arith) (goes k) in
     (spreads-at (turn k), p.0.small, p.0.today, spaced p.0.under, (turn k).loop-row.invariant.1, b.0, b.1, b.2)
@@ -70,7 +82,7 @@ module _ (c : After-block_ahead-ahead) where
   arm = c.before.before
 
   abbrev named : ℕ
-  named = block_key (start arm).args.m arm.before.in-Block.exponent arm.before.in-Block.row arm.before.in-Block.col
+  named = block_key (start arm).args.m arm.in-Block.exponent arm.in-Block.row arm.in-Block.col
 
   abbrev rule : ℕ → ℕ
   rule = class_over_map (start arm).args.m (start arm).args.keys.now (start arm).args.classes.now (start arm).args.base.now (start arm).args.beneath.now
@@ -84,19 +96,19 @@ module _ (c : After-block_ahead-ahead) where
 pub put_class-n-requires : goal.put_class-n-requires
 unfolding class_selection
 put_class-n-requires c =
-    let b = c.before.before.before in
+    let b = c.before.before.before.before in
     let k = arm b in
     let p = (start k).requires in
     let e = b.block_ahead-ahead.ensures in
     let fits = class-fits (start k).args.m (rule b) (start k).args.class p.0.today p.1 p.0.small in
-    let room = walking-room (turn k).loop-row.invariant.0 (on k) k.before.in-Block.is refl fits in
+    let room = walking-room (turn k).loop-row.invariant.0 (on k) k.in-Block.is refl fits in
     ((ones-at (turn k), p.0, e.3, omega (arith, e.0, e.1), e.2), rw (listed b) (omega (arith, room)))
 
 pub loop-row-smaller : goal.loop-row-smaller
-loop-row-smaller c = goes-less (goes (arm c.before.before.before.before.before.before))
+loop-row-smaller c = goes-less (goes (arm c.before.before.before.before.before.before.before))
 
 pub loop-row-preserved : goal.loop-row-preserved
 loop-row-preserved c =
-    let b = c.before.before.before.before.before.before in
+    let b = c.before.before.before.before.before.before.before in
     let k = arm b in
-    (walking-next (turn k).loop-row.invariant.0 (on k) k.before.in-Block.is refl (rw (listed b) at c.before.before.put_class-n.ensures), b.block_ahead-ahead.ensures.3)
+    (walking-next (turn k).loop-row.invariant.0 (on k) k.in-Block.is refl (rw (listed b) at c.put_class-n.ensures), b.block_ahead-ahead.ensures.3)

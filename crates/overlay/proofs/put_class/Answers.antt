@@ -3,16 +3,28 @@ use native.Mathlib.Omega.{arith}
 use Rattle.answers.proofs.Laws.{listed_same}
 use Rattle.overlay.proofs.Joins.{joining-first, joining-same, joining-room, joining-other, joining-rest, joining-last}
 use Rattle.overlay.proofs.put_class.Goals as goal
-use Rattle.overlay.proofs.put_class.Goals.{After-next_piece-piece, At-loop-stand, Start, Then-piece-class}
+use Rattle.overlay.proofs.put_class.Goals.{Start}
+use Rattle.overlay.proofs.put_class.Lts as lts
+use Rattle.overlay.proofs.put_class.Reads as reads
+use Rattle.overlay.proofs.put_class.Tie as tie
+
+abbrev At-loop-stand : Type 0
+At-loop-stand = lts.At-loop tie.the-claims reads.Pre reads.Post goal.the-invariant-loop-stand goal.the-decreases-loop-stand
+
+abbrev After-next_piece-piece : Type 0
+After-next_piece-piece = lts.After-next_piece tie.the-claims reads.Pre reads.Post goal.the-invariant-loop-stand goal.the-decreases-loop-stand
+
+abbrev Then-piece-class : Type 0
+Then-piece-class = lts.Then2 tie.the-claims reads.Pre reads.Post goal.the-invariant-loop-stand goal.the-decreases-loop-stand
 
 pub loop-stand-init : goal.loop-stand-init
-loop-stand-init c = let p = c.before.before.before.before.before.before.requires in joining-first _ p.0.3 p.0.2
+loop-stand-init c = let p = c.requires in joining-first _ p.0.3 p.0.2
 
 abbrev entry : At-loop-stand → Start
 entry c = c.before.before.before.before.before.before.before
 
 pub next_piece-piece-requires : goal.next_piece-piece-requires
-next_piece-piece-requires c = let at = c.before.before in let p = (entry at).requires.0 in (p.1, at.loop-stand.invariant.stands, c.loop-stand-test.true, p.4)
+next_piece-piece-requires c = let at = c.before.before.before in let p = (entry at).requires.0 in (p.1, at.loop-stand.invariant.stands, c.loop-stand-test.true, p.4)
 
 -- behind the next piece
 abbrev turn : After-next_piece-piece → At-loop-stand
@@ -20,7 +32,7 @@ turn c = c.before.before.before
 
 pub go_on-stand-requires : goal.go_on-stand-requires
 go_on-stand-requires c =
-    let at = turn c in
+    let at = turn c.before in
     let p = (entry at).requires.0.1 in
     let e = c.next_piece-piece.ensures in
     (p.small, p.few, p.under_few, p.today, p.under, at.loop-stand.invariant.stands, omega (arith, e.0.more), omega (arith, e.0.most, (entry at).requires.0.4), e.1, e.2)
@@ -31,7 +43,7 @@ piece c = c.before.before.before
 
 pub put_between-k-requires : goal.put_between-k-requires
 put_between-k-requires c =
-    let t = c.before in
+    let t = c.before.before in
     let at = turn (piece t) in
     let p = (entry at).requires in
     let room = joining-room at.loop-stand.invariant (piece t).next_piece-piece.ensures.0 t.if-piece-class.true in
@@ -39,39 +51,39 @@ put_between-k-requires c =
 
 pub loop-stand-smaller-then-piece-class : goal.loop-stand-smaller-then-piece-class
 loop-stand-smaller-then-piece-class c =
-    let g = c.before.before.before.before.before.before in
-    omega (arith, g.before.next_piece-piece.ensures.0.more, g.before.next_piece-piece.ensures.0.most, g.go_on-stand.ensures.0)
+    let g = c.before.before.before.before.before.before.before in
+    omega (arith, g.next_piece-piece.ensures.0.more, g.next_piece-piece.ensures.0.most, g.go_on-stand.ensures.0)
 
 pub loop-stand-preserved-then-piece-class : goal.loop-stand-preserved-then-piece-class
 loop-stand-preserved-then-piece-class c =
-    let t = c.before.before.before.before in
+    let t = c.before.before.before.before.before in
     let g = t.before.before in
     let at = turn (piece t) in
-    joining-other at.loop-stand.invariant (piece t).next_piece-piece.ensures.0 t.if-piece-class.true g.go_on-stand.ensures.0 g.go_on-stand.ensures.1 c.before.before.put_between-k.ensures
+    joining-other at.loop-stand.invariant (piece t).next_piece-piece.ensures.0 t.if-piece-class.true g.go_on-stand.ensures.0 g.go_on-stand.ensures.1 c.put_between-k.ensures
 
 pub loop-stand-smaller : goal.loop-stand-smaller
 loop-stand-smaller c =
-    let g = c.before.before in
-    omega (arith, g.before.next_piece-piece.ensures.0.more, g.before.next_piece-piece.ensures.0.most, g.go_on-stand.ensures.0)
+    let g = c.before.before.before in
+    omega (arith, g.next_piece-piece.ensures.0.more, g.next_piece-piece.ensures.0.most, g.go_on-stand.ensures.0)
 
 pub loop-stand-preserved : goal.loop-stand-preserved
 loop-stand-preserved c =
-    let g = c.before.before in
-    joining-same (turn g.before).loop-stand.invariant g.before.next_piece-piece.ensures.0 g.go_on-stand.ensures.0 g.go_on-stand.ensures.1 c.if-piece-class.false
+    let g = c.before.before.before in
+    joining-same (turn g.before).loop-stand.invariant g.next_piece-piece.ensures.0 g.go_on-stand.ensures.0 g.go_on-stand.ensures.1 c.if-piece-class.false
 
 -- where no place is left
 pub put_between-requires : goal.put_between-requires
 put_between-requires c =
-    let at = c.before.before.before in
+    let at = c.before.before.before.before in
     let p = (entry at).requires in
-    (p.0.0, p.0.1.small, p.0.4, omega (arith, p.1, joining-rest at.loop-stand.invariant (omega (arith, c.before.loop-stand-test.false))))
+    (p.0.0, p.0.1.small, p.0.4, omega (arith, p.1, joining-rest at.loop-stand.invariant (omega (arith, c.loop-stand-test.false))))
 
 pub shape_of-out : goal.shape_of-out
 shape_of-out c =
-    let e = c.before.before.before.before in
-    listed_same (joining-last e.before.before.loop-stand.invariant (omega (arith, e.loop-stand-test.false)) c.before.before.put_between.ensures)
+    let e = c.before.before.before.before.before in
+    listed_same (joining-last e.loop-stand.invariant (omega (arith, e.loop-stand-test.false)) c.put_between.ensures)
 
 pub returns : goal.returns
 returns c =
-    let e = c.before.before.before.before in
-    joining-last e.before.before.loop-stand.invariant (omega (arith, e.loop-stand-test.false)) c.before.before.put_between.ensures
+    let e = c.before.before.before.before.before in
+    joining-last e.loop-stand.invariant (omega (arith, e.loop-stand-test.false)) c.put_between.ensures

@@ -6,15 +6,21 @@ use Rattle.used.specs.Used.{Usable}
 use Rattle.select.proofs.Laws.{select-refused, select-listed}
 use Rattle.sparse.proofs.Laws.{pair-known, pair-tiled}
 use Rattle.overlay.proofs.select_pair.Goals as goal
-use Rattle.overlay.proofs.select_pair.Goals.{In_default, Start}
+use Rattle.overlay.proofs.select_pair.Goals.{Start}
+use Rattle.overlay.proofs.select_pair.Lts as lts
+use Rattle.overlay.proofs.select_pair.Reads as reads
+use Rattle.overlay.proofs.select_pair.Tie as tie
+
+abbrev In_default : Type 0
+In_default = lts.After-enum_told tie.the-claims reads.Pre reads.Post
 
 pub in_view-verdict-requires : goal.in_view-verdict-requires
-in_view-verdict-requires c = c.before.before.before.before.before.before.requires.small
+in_view-verdict-requires c = c.requires.small
 
 pub returns-in-Refused : goal.returns-in-Refused
 returns-in-Refused c =
-    let e = c.before.before.before in
-    sym (select-refused _ _ _ _ _ _ _ _ _ (pair-tiled e.before.before.before.before.before.before.before.requires _ _ e.in_view-verdict.ensures c.before.in-Refused.is))
+    let e = c.before.before.before.before in
+    sym (select-refused _ _ _ _ _ _ _ _ _ (pair-tiled e.requires _ _ e.in_view-verdict.ensures c.in-Refused.is))
 
 -- where they do not hold
 module _ (c : In_default) where
@@ -22,17 +28,17 @@ module _ (c : In_default) where
   entry = c.before.before.before.before.before.before.before.before.before
 
   known : Usable entry.args.m entry.args.m entry.args.keys.now entry.args.window (length entry.args.border-1.now)
-  known = pair-known entry.requires _ _ c.before.before.in_view-verdict.ensures c.in_default.is
+  known = pair-known entry.requires _ _ c.in_view-verdict.ensures c.in_default.is
 
 pub spend-requires : goal.spend-requires
-spend-requires c = let u = known c.before in (inside-12 u.small u.inside, u.wide)
+spend-requires c = let u = known c.before.before in (inside-12 u.small u.inside, u.wide)
 
 pub list_class-requires : goal.list_class-requires
-list_class-requires c = let told = c.before.before.before.before.before in ((entry told).requires, (known told).inside)
+list_class-requires c = let told = c.before.before.before.before.before.before in ((entry told).requires, (known told).inside)
 
 pub returns : goal.returns
 returns c =
-    let spends = c.before.before.before.before.before.before in
+    let spends = c.before.before.before.before.before.before.before in
     let told = spends.before.before in
-    select-listed _ _ _ _ _ _ _ _ _ (pair-tiled (entry told).requires _ _ told.before.before.in_view-verdict.ensures told.in_default.is) spends.spend.ensures
-    c.before.before.list_class.ensures
+    select-listed _ _ _ _ _ _ _ _ _ (pair-tiled (entry told).requires _ _ told.in_view-verdict.ensures told.in_default.is) spends.spend.ensures
+    c.list_class.ensures

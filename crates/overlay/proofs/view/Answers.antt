@@ -11,10 +11,19 @@ use Rattle.overlay.specs.Overlay.{pairing}
 use Rattle.overlay.proofs.Pairs.{paired}
 use Rattle.overlay.proofs.Views.{alone-block, alone-malformed, view-refused, view-none, view-today, view-baseline}
 use Rattle.overlay.proofs.view.Goals as goal
-use Rattle.overlay.proofs.view.Goals.{In_default, In_default-sound, Start}
+use Rattle.overlay.proofs.view.Goals.{Start}
+use Rattle.overlay.proofs.view.Lts as lts
+use Rattle.overlay.proofs.view.Reads as reads
+use Rattle.overlay.proofs.view.Tie as tie
+
+abbrev In_default : Type 0
+In_default = lts.After-enum_told tie.the-claims reads.Pre reads.Post
+
+abbrev In_default-sound : Type 0
+In_default-sound = lts.After-enum_told3 tie.the-claims reads.Pre reads.Post
 
 pub returns-in-Refused : goal.returns-in-Refused
-returns-in-Refused c = sym (view-refused _ _ _ _ _ _ _ (sym c.before.before.before.check_pair-pairing.ensures ∙ c.before.in-Refused.is))
+returns-in-Refused c = sym (view-refused _ _ _ _ _ _ _ (sym c.check_pair-pairing.ensures ∙ c.in-Refused.is))
 
 -- both maps are sound
 module _ (c : In_default) where
@@ -22,14 +31,14 @@ module _ (c : In_default) where
   entry = c.before.before.before.before.before.before.before
 
   passed : pairing entry.args.m entry.args.keys.now (length entry.args.classes.now) entry.args.depth entry.args.base.now (length entry.args.beneath.now) ≡ Passed
-  passed = sym c.before.before.check_pair-pairing.ensures ∙ c.in_default.is
+  passed = sym c.check_pair-pairing.ensures ∙ c.in_default.is
 
   pair : Pair entry.args.m entry.args.keys.now (length entry.args.classes.now) entry.args.base.now (length entry.args.beneath.now)
   pair = paired _ _ _ _ _ _ passed
 
 pub returns-in-Refused-sound : goal.returns-in-Refused-sound
 returns-in-Refused-sound c =
-    let s = c.before.before in
+    let s = c.before.before.before in
     let t = s.before.before.before in
     sym (view-none _ _ _ _ _ _ _ (passed t) (alone-malformed _ _ (pair t).small (sym s.sound-sound.ensures ∙ c.in-Refused-sound.is)))
 
@@ -39,29 +48,29 @@ module _ (c : In_default-sound) where
   both = c.before.before.before.before.before
 
   block : SomeBlock (entry both).args.m (entry both).args.key
-  block = alone-block _ _ (sym c.before.before.sound-sound.ensures ∙ c.in_default-sound.is)
+  block = alone-block _ _ (sym c.sound-sound.ensures ∙ c.in_default-sound.is)
 
 pub overlapping-today-requires : goal.overlapping-today-requires
-overlapping-today-requires c = let p = pair (both c) in (p.small, p.few, p.today, block c)
+overlapping-today-requires c = let p = pair (both c.before) in (p.small, p.few, p.today, block c.before)
 
 pub overlapping-under-requires : goal.overlapping-under-requires
 overlapping-under-requires c =
-    let t = c.before.before in
+    let t = c.before.before.before in
     let p = pair (both t) in
     (p.small, p.under_few, spaced p.under, block t)
 
 pub returns-then-count-eq0 : goal.returns-then-count-eq0
 returns-then-count-eq0 c =
-    let r = c.before.before in
+    let r = c.before.before.before in
     let t = r.before in
     let u = c.overlapping-under.ensures in
     let some = some-records (pair (both t)).under (block t).names in
     ap₂ Baseline (u.first (λ e. omega (arith, some, u.count, e))) u.count
-    ∙ sym (view-baseline _ _ _ _ _ _ _ (passed (both t)) (block t) (sym r.overlapping-today.ensures.count ∙ c.before.if-count-eq0.true))
+    ∙ sym (view-baseline _ _ _ _ _ _ _ (passed (both t)) (block t) (sym r.overlapping-today.ensures.count ∙ c.if-count-eq0.true))
 
 pub returns : goal.returns
 returns c =
-    let r = c.before in
+    let r = c.before.before in
     let t = r.before in
     let u = r.overlapping-today.ensures in
     ap₂ Today (u.first c.if-count-eq0.false) u.count ∙ sym (view-today _ _ _ _ _ _ _ (passed (both t)) (block t) (λ e. c.if-count-eq0.false (u.count ∙ e)))

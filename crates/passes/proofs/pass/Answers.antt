@@ -4,13 +4,34 @@ use native.Mathlib.Omega.{arith}
 use Rattle.border.proofs.Laws.{fresh-same, fresh-usable, finding-usable, finding-last, Opens, finds-opens}
 use Rattle.border.proofs.Loops.{passing-first, passing-next, passing-few, passing-last}
 use Rattle.passes.proofs.pass.Goals as goal
-use Rattle.passes.proofs.pass.Goals.{After-fill, After-next_opening-found, After-slice_known-in-loop-key-2-1, At-loop-key, In-Opening-2, In_default, Start}
+use Rattle.passes.proofs.pass.Goals.{Start}
+use Rattle.passes.proofs.pass.Lts as lts
+use Rattle.passes.proofs.pass.Reads as reads
+use Rattle.passes.proofs.pass.Tie as tie
+
+abbrev After-fill : Type 0
+After-fill = lts.After-fill tie.the-claims reads.Pre reads.Post goal.the-invariant-loop-key goal.the-decreases-loop-key
+
+abbrev At-loop-key : Type 0
+At-loop-key = lts.At-loop tie.the-claims reads.Pre reads.Post goal.the-invariant-loop-key goal.the-decreases-loop-key
+
+abbrev After-next_opening-found : Type 0
+After-next_opening-found = lts.After-next_opening tie.the-claims reads.Pre reads.Post goal.the-invariant-loop-key goal.the-decreases-loop-key
+
+abbrev In-Opening-2 : Type 0
+In-Opening-2 = lts.After-found tie.the-claims reads.Pre reads.Post goal.the-invariant-loop-key goal.the-decreases-loop-key
+
+abbrev In_default : Type 0
+In_default = lts.After-enum_told tie.the-claims reads.Pre reads.Post goal.the-invariant-loop-key goal.the-decreases-loop-key
+
+abbrev After-slice_known-in-loop-key-2-1 : Type 0
+After-slice_known-in-loop-key-2-1 = lts.After-slice_known5 tie.the-claims reads.Pre reads.Post goal.the-invariant-loop-key goal.the-decreases-loop-key
 
 pub fill-requires : goal.fill-requires
-fill-requires c = (omega arith, omega (arith, c.before.before.before.before.before.requires.1.wide))
+fill-requires c = (omega arith, omega (arith, c.requires.1.wide))
 
 pub loop-key-init : goal.loop-key-init
-loop-key-init c = rw c.start-at.ensures (passing-first _ c.before.before.before.before.before.before.before.before.before.requires.1 c.before.before.before.fill.ensures _)
+loop-key-init c = rw c.start-at.ensures (passing-first _ c.requires.1 c.fill.ensures _)
 
 -- at a turn: what was there before the loop
 module _ (c : At-loop-key) where
@@ -22,7 +43,7 @@ module _ (c : At-loop-key) where
 
 pub next_opening-found-requires : goal.next_opening-found-requires
 next_opening-found-requires c =
-    let at = c.before in
+    let at = c.before.before in
     ((first at).requires.0, finding-usable at.loop-key.invariant.finding (fresh-usable _ (first at).requires.1 (fresh at).fill.ensures), at.loop-key.invariant.finding.reached)
 
 -- where nothing is left to be found
@@ -35,17 +56,17 @@ module _ (c : In_default) where
 
 pub shape_of-border-in_default : goal.shape_of-border-in_default
 shape_of-border-in_default c =
-    let at = last c in
-    let end = finding-last at.loop-key.invariant.finding (asked c).next_opening-found.ensures c.in_default.is in
+    let at = last c.before in
+    let end = finding-last at.loop-key.invariant.finding (asked c.before).next_opening-found.ensures c.in_default.is in
     end.2.same ∙ fresh-same _ (first at).requires.1 (fresh at).fill.ensures
 
 pub shape_of-out-in_default : goal.shape_of-out-in_default
-shape_of-out-in_default c = (last c).loop-key.invariant.written.same
+shape_of-out-in_default c = (last c.before).loop-key.invariant.written.same
 
 pub returns-in_default : goal.returns-in_default
 returns-in_default c =
-    let at = last c in
-    passing-last _ (first at).requires.1 (fresh at).fill.ensures at.loop-key.invariant (asked c).next_opening-found.ensures c.in_default.is
+    let at = last c.before in
+    passing-last _ (first at).requires.1 (fresh at).fill.ensures at.loop-key.invariant (asked c.before).next_opening-found.ensures c.in_default.is
 
 -- the arm of an opening
 module _ (c : After-slice_known-in-loop-key-2-1) where
@@ -65,13 +86,13 @@ module _ (c : After-slice_known-in-loop-key-2-1) where
   few = passing-few turn.loop-key.invariant opens (first turn).requires.1
 
 pub overflow_add-openings : goal.overflow_add-openings
-overflow_add-openings c = omega (arith, few c)
+overflow_add-openings c = omega (arith, few c.before)
 
 pub overflow_add-records : goal.overflow_add-records
-overflow_add-records c = omega (arith, few c)
+overflow_add-records c = omega (arith, few c.before)
 
 pub loop-key-smaller : goal.loop-key-smaller
-loop-key-smaller c = (opens c).fewer
+loop-key-smaller c = (opens c.before).fewer
 
 pub loop-key-preserved : goal.loop-key-preserved
-loop-key-preserved c = rw c.before.before.put_opening.ensures (passing-next (turn c).loop-key.invariant (opens c))
+loop-key-preserved c = rw c.put_opening.ensures (passing-next (turn c.before).loop-key.invariant (opens c.before))

@@ -2,7 +2,13 @@
 use native.Mathlib.Omega.{arith}
 use Rattle.pick.proofs.Picking.{picked-around, picked-inside}
 use Rattle.pick.proofs.pick.Goals as goal
-use Rattle.pick.proofs.pick.Goals.{Start, Then-exponent-run}
+use Rattle.pick.proofs.pick.Goals.{Start}
+use Rattle.pick.proofs.pick.Lts as lts
+use Rattle.pick.proofs.pick.Reads as reads
+use Rattle.pick.proofs.pick.Tie as tie
+
+abbrev Then-exponent-run : Type 0
+Then-exponent-run = lts.Then1 tie.the-claims reads.Pre reads.Post
 
 -- where a record reaches beyond the block
 module _ (c : Then-exponent-run) where
@@ -11,22 +17,22 @@ module _ (c : Then-exponent-run) where
 
 pub pick_around-requires : goal.pick_around-requires
 pick_around-requires c =
-    let t = c.before.before in
+    let t = c.before.before.before in
     let p = (start t).requires in
     let one = p.0.some t.if-exponent-run.true in
     (omega (arith, p.0.room, p.2), omega (arith, p.3))
 
 pub returns-then-exponent-run : goal.returns-then-exponent-run
 returns-then-exponent-run c =
-    let t = c.before.before.before.before.before in
+    let t = c.before.before.before.before.before.before in
     let a = (start t).args in
-    rw (picked-around a.keys.now a.classes.now a.class a.key a.exponent a.run t.if-exponent-run.true) c.before.before.pick_around.ensures
+    rw (picked-around a.keys.now a.classes.now a.class a.key a.exponent a.run t.if-exponent-run.true) c.pick_around.ensures
 
 pub pick_run-requires : goal.pick_run-requires
-pick_run-requires c = let p = c.before.before.before.before.before.before.requires in (p.0.room, p.1, p.2, p.3)
+pick_run-requires c = let p = c.requires in (p.0.room, p.1, p.2, p.3)
 
 pub returns : goal.returns
 returns c =
-    let e = c.before.before.before.before in
-    let a = e.before.before.before.before.before.args in
-    rw (picked-inside a.keys.now a.classes.now a.class a.key a.exponent a.run (omega (arith, e.if-exponent-run.false))) c.before.before.pick_run.ensures
+    let e = c.before.before.before.before.before in
+    let a = e.args in
+    rw (picked-inside a.keys.now a.classes.now a.class a.key a.exponent a.run (omega (arith, e.if-exponent-run.false))) c.pick_run.ensures

@@ -8,7 +8,22 @@ use Rattle.map.proofs.Laws.{spaced}
 use Rattle.pieces.proofs.Cursors.{advance-room}
 use Rattle.pieces.proofs.Whole.{whole-left, whole-held, whole_room}
 use Rattle.pieces.proofs.advance_whole.Goals as goal
-use Rattle.pieces.proofs.advance_whole.Goals.{After-pow4, After-zeros_of, Else-a-cursor, Else-next-keys, Start}
+use Rattle.pieces.proofs.advance_whole.Goals.{Start}
+use Rattle.pieces.proofs.advance_whole.Lts as lts
+use Rattle.pieces.proofs.advance_whole.Reads as reads
+use Rattle.pieces.proofs.advance_whole.Tie as tie
+
+abbrev Else-a-cursor : Type 0
+Else-a-cursor = lts.Else1 tie.the-claims reads.Pre reads.Post
+
+abbrev Else-next-keys : Type 0
+Else-next-keys = lts.Else2 tie.the-claims reads.Pre reads.Post
+
+abbrev After-zeros_of : Type 0
+After-zeros_of = lts.After-zeros_of tie.the-claims reads.Pre reads.Post
+
+abbrev After-pow4 : Type 0
+After-pow4 = lts.After-pow4 tie.the-claims reads.Pre reads.Post
 
 -- where the record ends by the place
 module _ (c : Else-a-cursor) where
@@ -30,25 +45,25 @@ module _ (c : Else-next-keys) where
   more = omega (arith, room ended, c.if-next-keys.false)
 
 pub overflow_add-next : goal.overflow_add-next
-overflow_add-next c = omega (arith, room c.before, (entry c.before).requires.1)
+overflow_add-next c = omega (arith, room c.before.before, (entry c.before.before).requires.1)
 
 pub overflow_add-result : goal.overflow_add-result
-overflow_add-result c = omega (arith, small c.before.before)
+overflow_add-result c = omega (arith, small c.before.before.before)
 
 pub returns-then-next-keys : goal.returns-then-next-keys
 returns-then-next-keys c =
-    let e = c.before.before in
+    let e = c.before.before.before in
     let p = (entry e).requires in
     whole-left p.2 p.5 p.3 (omega (arith, e.if-a-cursor.false)) p.6 refl refl c.if-next-keys.true refl
 
 pub offset_bounds-keys-next : goal.offset_bounds-keys-next
-offset_bounds-keys-next c = omega (arith, more c, (entry (ended c)).requires.1)
+offset_bounds-keys-next c = omega (arith, more c.before, (entry (ended c.before)).requires.1)
 
 pub bounds-keys-next : goal.bounds-keys-next
-bounds-keys-next c = more c.before
+bounds-keys-next c = more c.before.before
 
 pub pow4-requires : goal.pow4-requires
-pow4-requires c = omega (arith, c.zeros_of.ensures.most, (entry (ended c.before.before)).requires.0)
+pow4-requires c = omega (arith, c.zeros_of.ensures.most, (entry (ended c.before.before.before)).requires.0)
 
 -- behind the exponent of that one
 module _ (c : After-pow4) where
@@ -60,13 +75,13 @@ module _ (c : After-pow4) where
 
 pub overflow_add-end : goal.overflow_add-end
 overflow_add-end c =
-    let p = (entry (ended (other c))).requires in
-    let fits = whole_room p.2 p.5 (more (other c)) (told c).zeros_of.ensures (omega (arith, p.3, (ended (other c)).if-a-cursor.left)) in
+    let p = (entry (ended (other c.before))).requires in
+    let fits = whole_room p.2 p.5 (more (other c.before)) (told c.before).zeros_of.ensures (omega (arith, p.3, (ended (other c.before)).if-a-cursor.left)) in
     omega (arith, fits, c.pow4.ensures.is, pow-most 3 _ p.0)
 
 pub returns : goal.returns
 returns c =
-    let e = ended (other c) in
+    let e = ended (other c.before) in
     let p = (entry e).requires in
-    whole-held p.2 p.5 p.3 (omega (arith, e.if-a-cursor.left)) p.6 refl refl (more (other c)) (told c).zeros_of.ensures
+    whole-held p.2 p.5 p.3 (omega (arith, e.if-a-cursor.left)) p.6 refl refl (more (other c.before)) (told c.before).zeros_of.ensures
     (ap (λ (x : ℕ). (entry e).args.cursor.end + x) c.pow4.ensures.is)

@@ -5,6 +5,6 @@ use Rattle.pieces.proofs.first_stand.Goals as goal
 
 pub returns : goal.returns
 returns c =
-    let today = c.before.read_record-today.ensures in
+    let today = c.read_record-today.ensures in
     let under = c.read_record-under.ensures in
     record { within = omega arith; today = at_first today.0 today.1; under = at_first under.0 under.1 }

@@ -7,10 +7,16 @@ use Rattle.key.proofs.Laws.{block-lies, pow-most}
 use Rattle.map.proofs.Laws.{SomeRecord, record-at}
 use Rattle.pieces.specs.Cursors.{held, left}
 use Rattle.pieces.proofs.read_record.Goals as goal
-use Rattle.pieces.proofs.read_record.Goals.{Else-n-keys, Start}
+use Rattle.pieces.proofs.read_record.Goals.{Start}
+use Rattle.pieces.proofs.read_record.Lts as lts
+use Rattle.pieces.proofs.read_record.Reads as reads
+use Rattle.pieces.proofs.read_record.Tie as tie
+
+abbrev Else-n-keys : Type 0
+Else-n-keys = lts.Else1 tie.the-claims reads.Pre reads.Post
 
 pub returns-then-n-keys : goal.returns-then-n-keys
-returns-then-n-keys c = (refl, left c.before.if-n-keys.true c.pow4-picture.ensures.is (ap (λ (x : ℕ). x + 1) c.pow4-picture.ensures.is))
+returns-then-n-keys c = (refl, left c.if-n-keys.true c.pow4-picture.ensures.is (ap (λ (x : ℕ). x + 1) c.pow4-picture.ensures.is))
 
 -- the record is one of the map
 module _ (c : Else-n-keys) where
@@ -24,17 +30,17 @@ module _ (c : Else-n-keys) where
   found = record-at entry.requires.1 entry.args.n within
 
 pub span_of-block-requires : goal.span_of-block-requires
-span_of-block-requires c = let f = found c.before in ((entry c.before).requires.0, record { exponent = f.exponent; start = f.start; names = f.is.names })
+span_of-block-requires c = let f = found c.before.before in ((entry c.before.before).requires.0, record { exponent = f.exponent; start = f.start; names = f.is.names })
 
 pub pow4-requires : goal.pow4-requires
-pow4-requires c = omega (arith, (block-lies c.Span-of.ensures).small, (entry c.before.before).requires.0)
+pow4-requires c = omega (arith, (block-lies c.Span-of.ensures).small, (entry c.before.before.before).requires.0)
 
 pub overflow_add-end : goal.overflow_add-end
 overflow_add-end c =
-    let b = c.before.before in
-    omega (arith, (block-lies b.Span-of.ensures).span, pow-most 3 _ (entry b.before.before).requires.0, c.before.pow4.ensures.is)
+    let b = c.before.before.before in
+    omega (arith, (block-lies b.Span-of.ensures).span, pow-most 3 _ (entry b.before.before).requires.0, c.pow4.ensures.is)
 
 pub returns : goal.returns
 returns c =
-    let b = c.before.before in
-    (refl, held (within b.before.before) b.Span-of.ensures (ap (λ (x : ℕ). b.Span-of.result.start + x) c.before.pow4.ensures.is))
+    let b = c.before.before.before in
+    (refl, held (within b.before.before) b.Span-of.ensures (ap (λ (x : ℕ). b.Span-of.result.start + x) c.pow4.ensures.is))

@@ -11,11 +11,11 @@ use Rattle.records.proofs.misfit.Goals as goal
 use Rattle.records.proofs.misfit.Goals.{Else-start-at, In-Block-2, Start}
 
 pub returns-in_default : goal.returns-in_default
-returns-in_default c = refused (λ ks. step-malformed _ _ _ _ _ ks (sym c.before.before.read_key-form.ensures ∙ c.in_default.is))
+returns-in_default c = refused (λ ks. step-malformed _ _ _ _ _ ks (sym c.read_key-form.ensures ∙ c.in_default.is))
 
 -- the arm of a block: what the record is
-named : (c : In-Block-2) → Names c.before.before.before.args.m c.before.before.before.args.key c.in-Block.exponent c.in-Block.start
-named c = record { is = sym c.before.before.read_key-form.ensures ∙ c.in-Block.is }
+named : (c : In-Block-2) → Names c.args.m c.args.key c.in-Block.exponent c.in-Block.start
+named c = record { is = sym c.read_key-form.ensures ∙ c.in-Block.is }
 
 pub returns-then-start-at : goal.returns-then-start-at
 returns-then-start-at c = refused (λ ks. step-early _ _ _ _ _ ks (named c.before.before) c.if-start-at.true)
@@ -26,7 +26,7 @@ module _ (c : Else-start-at) where
   origin = c.before.before.before.before.before
 
   abbrev starts : ℕ
-  starts = c.before.before.in-Block.start
+  starts = c.in-Block.start
 
   later : origin.args.at < starts
   later = go (dec_lt _ _)
@@ -41,4 +41,4 @@ pub returns-then-whole : goal.returns-then-whole
 returns-then-whole c = refused (λ ks. step-late _ _ _ _ _ ks (named c.before.before.before) (rw c.if-whole.true ((late_is _ _).1 (later c.before))))
 
 pub returns : goal.returns
-returns c = behind {s = c.before.before.before.in-Block.start} c.if-whole.false (omega (arith, later c.before)) (named c.before.before.before)
+returns c = behind {s = c.in-Block.start} c.if-whole.false (omega (arith, later c.before)) (named c.before.before.before)

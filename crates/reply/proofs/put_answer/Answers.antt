@@ -11,7 +11,16 @@ use Rattle.lines.proofs.Laws.{window-most}
 use Rattle.reply.specs.Reply.{result_of, answer_of}
 use Rattle.reply.proofs.Results.{answer-most}
 use Rattle.reply.proofs.put_answer.Goals as goal
-use Rattle.reply.proofs.put_answer.Goals.{After-put_result, After-put_window-at, Start}
+use Rattle.reply.proofs.put_answer.Goals.{Start}
+use Rattle.reply.proofs.put_answer.Lts as lts
+use Rattle.reply.proofs.put_answer.Reads as reads
+use Rattle.reply.proofs.put_answer.Tie as tie
+
+abbrev After-put_window-at : Type 0
+After-put_window-at = lts.After-put_window tie.the-claims reads.Pre reads.Post
+
+abbrev After-put_result : Type 0
+After-put_result = lts.After-put_result tie.the-claims reads.Pre reads.Post
 
 module _ (c : Start) where
   abbrev all : List ℕ
@@ -50,16 +59,19 @@ module _ (c : After-put_result) where
   two = telling-part (one first) (rest (start first)) [] (sym (append-nil (rest (start first)))) c.put_result.ensures
 
 pub slice_bounds-put_result-count : goal.slice_bounds-put_result-count
-slice_bounds-put_result-count c = omega (arith, telling-room (one c.before.before))
+slice_bounds-put_result-count c = omega (arith, telling-room (one c.before.before.before))
+
+pub slice_bounds-put_result-start : goal.slice_bounds-put_result-start
+slice_bounds-put_result-start c = omega (arith, telling-room (one c.before.before.before))
 
 pub put_result-requires : goal.put_result-requires
 put_result-requires c =
-    let o = c.before.before.before in
+    let o = c.before.before.before.before in
     let pre = (start o).requires in
     (pre.0, rw (lent_is (at o) (begun o), length-drop) (omega (arith, short o, (one o).filled.same, pre.1)))
 
 pub overflow_add-result : goal.overflow_add-result
-overflow_add-result c = omega (arith, telling-length (two c.before.before), (two c.before.before).room)
+overflow_add-result c = omega (arith, telling-length (two c.before.before.before), (two c.before.before.before).room)
 
 pub returns : goal.returns
-returns c = telling-last (two c.before.before) refl
+returns c = telling-last (two c.before.before.before) refl

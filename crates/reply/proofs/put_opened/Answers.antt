@@ -7,7 +7,16 @@ use lib.ListN.{take, length-take, length-replicate}
 use Rattle.lines.proofs.Laws.{found-most}
 use Rattle.reply.proofs.Results.{Opening, open-never, open-fits, open-found}
 use Rattle.reply.proofs.put_opened.Goals as goal
-use Rattle.reply.proofs.put_opened.Goals.{After-open-opened, In-Done-2, Start}
+use Rattle.reply.proofs.put_opened.Goals.{Start}
+use Rattle.reply.proofs.put_opened.Lts as lts
+use Rattle.reply.proofs.put_opened.Reads as reads
+use Rattle.reply.proofs.put_opened.Tie as tie
+
+abbrev After-open-opened : Type 0
+After-open-opened = lts.After-open tie.the-claims reads.Pre reads.Post
+
+abbrev In-Done-2 : Type 0
+In-Done-2 = lts.After-opened2 tie.the-claims reads.Pre reads.Post
 
 -- with the window opened: what was asked, and what the call left in the cells and in the border
 module _ (c : After-open-opened) where
@@ -35,27 +44,27 @@ module _ (c : In-Done-2) where
   fits = open-fits (opening done) c.in-Done.is
 
 pub slice_bounds-cells-end : goal.slice_bounds-cells-end
-slice_bounds-cells-end c = omega (arith, fits c.before, (opening (done c.before)).long)
+slice_bounds-cells-end c = omega (arith, fits c.before.before, (opening (done c.before.before)).long)
 
 pub slice_bounds-put_found-end : goal.slice_bounds-put_found-end
-slice_bounds-put_found-end c = simp length-take (omega (arith, fits c.before.before, (opening (done c.before.before)).long))
+slice_bounds-put_found-end c = simp length-take (omega (arith, fits c.before.before.before, (opening (done c.before.before.before)).long))
 
 pub put_found-requires : goal.put_found-requires
 put_found-requires c =
-    let d = c.before.before.before in
+    let d = c.before.before.before.before in
     let s = asked (done d) in
     let most = found-most (take (3 * count d) (cells (done d))) s.args.totals.now (count d) d.in-Done.records s.args.pixels in
     (s.requires.1, omega (arith, fits d, length-take (3 * count d) (cells (done d)), most))
 
 pub returns-in-Refused : goal.returns-in-Refused
 returns-in-Refused c =
-    let d = c.before.before.before.before.before in
+    let d = c.before.before.before.before.before.before in
     let o = d.before.before.before.before.before in
     open-never (opening o) d.in-Refused.is
 
 pub returns-in-Done : goal.returns-in-Done
 returns-in-Done c =
-    let put = c.before.before in
+    let put = c.before.before.before in
     let d = put.before.before.before.before in
     let s = asked (done d) in
     rw (← open-found (opening (done d)) d.in-Done.is s.args.totals.now s.args.pixels) put.put_found.ensures

@@ -6,7 +6,13 @@ use native.Mathlib.Omega.{arith}
 use lib.ListN.{length-replicate}
 use Rattle.reply.proofs.Results.{Counting, report-refused, report-passed, report-counted}
 use Rattle.reply.proofs.put_result.Goals as goal
-use Rattle.reply.proofs.put_result.Goals.{After-report-reported, Start}
+use Rattle.reply.proofs.put_result.Goals.{Start}
+use Rattle.reply.proofs.put_result.Lts as lts
+use Rattle.reply.proofs.put_result.Reads as reads
+use Rattle.reply.proofs.put_result.Tie as tie
+
+abbrev After-report-reported : Type 0
+After-report-reported = lts.After-report tie.the-claims reads.Pre reads.Post
 
 -- with the pixels counted: what was asked, and what the call left
 module _ (c : After-report-reported) where
@@ -28,21 +34,21 @@ module _ (c : After-report-reported) where
 
 pub put_opened-requires : goal.put_opened-requires
 put_opened-requires c =
-    let d = c.before.before.before.before in
+    let d = c.before.before.before.before.before in
     let q = d.before.before.before.before in
     let pre = (asked q).requires in
     (report-passed (counting q) d.in-Done.is pre.0, omega (arith, (counting q).long), pre.1)
 
 pub returns-in-Refused : goal.returns-in-Refused
 returns-in-Refused c =
-    let said = c.before.before in
+    let said = c.before.before.before in
     let d = said.before.before.before in
     let q = d.before.before.before.before in
     rw (← report-refused (counting q) d.in-Refused.is) said.put_refusal.ensures
 
 pub returns-in-Done : goal.returns-in-Done
 returns-in-Done c =
-    let said = c.before.before.before in
+    let said = c.before.before.before.before in
     let d = said.before.before.before.before.before in
     let q = d.before.before.before.before in
     rw (← report-counted (counting q) d.in-Done.is) said.put_opened.ensures

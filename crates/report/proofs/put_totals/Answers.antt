@@ -8,19 +8,19 @@ pub loop-k-init : goal.loop-k-init
 loop-k-init c = (omega arith, filling-first _)
 
 pub bounds-out-k : goal.bounds-out-k
-bounds-out-k c = omega (arith, c.before.loop-k-test, c.before.before.loop-k.invariant.1.same, c.before.before.before.requires)
+bounds-out-k c = omega (arith, c.loop-k-test, c.loop-k.invariant.1.same, c.requires)
 
 pub loop-k-smaller : goal.loop-k-smaller
-loop-k-smaller c = omega (arith, c.before.loop-k-test)
+loop-k-smaller c = omega (arith, c.loop-k-test)
 
 pub loop-k-preserved : goal.loop-k-preserved
 loop-k-preserved c =
-    let more : c.before.before.loop-k.k < length c.before.before.before.args.totals.now = omega (arith, c.before.loop-k-test, c.before.before.before.requires) in
-    let room : c.before.before.loop-k.k < length c.before.before.before.args.out-1.now = omega (arith, c.before.loop-k-test, c.before.before.before.requires) in
-    (omega (arith, c.before.loop-k-test), copy-next _ _ c.before.before.loop-k.invariant.1 more room)
+    let more : c.loop-k.k < length c.args.totals.now = omega (arith, c.loop-k-test, c.requires) in
+    let room : c.loop-k.k < length c.args.out-1.now = omega (arith, c.loop-k-test, c.requires) in
+    (omega (arith, c.loop-k-test), copy-next _ _ c.loop-k.invariant.1 more room)
 
 pub shape_of-out : goal.shape_of-out
-shape_of-out c = c.before.loop-k.invariant.1.same
+shape_of-out c = c.loop-k.invariant.1.same
 
 pub returns : goal.returns
-returns c = list-last (λ xs. xs) c.before.before.args.totals.now c.before.loop-k.k c.before.loop-k.invariant.1 (omega (arith, c.loop-k-test, c.before.before.requires))
+returns c = list-last (λ xs. xs) c.args.totals.now c.loop-k.k c.loop-k.invariant.1 (omega (arith, c.loop-k-test, c.requires))

@@ -10,14 +10,14 @@ pub overflow_add-maps-2 : goal.overflow_add-maps-2
 overflow_add-maps-2 c = let start = c.before.before.before.before.before.before.before.before in omega (arith, c.once.ensures, once-most start.args.n, start.requires.3.counts)
 
 pub bounds-table-at-6 : goal.bounds-table-at-6
-bounds-table-at-6 c = simp length-set (omega (arith, c.before.before.before.before.before.before.before.before.requires))
+bounds-table-at-6 c = simp length-set (omega (arith, c.requires))
 
 pub bounds-table-at-7 : goal.bounds-table-at-7
-bounds-table-at-7 c = simp length-set (omega (arith, c.before.before.before.before.before.before.before.before.requires))
+bounds-table-at-7 c = simp length-set (omega (arith, c.requires))
 
 pub bounds-table-at-8 : goal.bounds-table-at-8
-bounds-table-at-8 c = simp length-set (omega (arith, c.before.before.before.before.before.before.before.before.requires))
+bounds-table-at-8 c = simp length-set (omega (arith, c.requires))
 
 pub returns : goal.returns
 unfolding put_row with_map
-returns c = rw (c.before.before.before.before.before.least-fewest.ensures, c.before.before.before.greatest-most.ensures, c.once.ensures)
+returns c = rw (c.least-fewest.ensures, c.greatest-most.ensures, c.once.ensures)

@@ -4,28 +4,28 @@ use Rattle.rows.proofs.Rows.{growing-first, growing-row, growing-next, growing-l
 use Rattle.rows.proofs.add_rows.Goals as goal
 
 pub loop-k-init : goal.loop-k-init
-loop-k-init c = growing-first _ _ _ c.before.requires.long
+loop-k-init c = growing-first _ _ _ c.requires.long
 
 pub bounds-counts-k : goal.bounds-counts-k
-bounds-counts-k c = omega (arith, c.before.loop-k-test.true, c.before.before.before.before.requires.each)
+bounds-counts-k c = omega (arith, c.loop-k-test.true, c.requires.each)
 
 pub overflow_cast-counts : goal.overflow_cast-counts
-overflow_cast-counts c = omega (arith, c.before.before.before.before.before.requires.small c.before.before.before.loop-k.k c.before.before.loop-k-test.true)
+overflow_cast-counts c = omega (arith, c.requires.small c.loop-k.k c.loop-k-test.true)
 
 pub add_row-requires : goal.add_row-requires
 add_row-requires c =
-    let g = c.before.before.before.loop-k.invariant in
-    let p = c.before.before.before.before.before.requires in
-    let l = c.before.before.loop-k-test.true in
+    let g = c.loop-k.invariant in
+    let p = c.requires in
+    let l = c.loop-k-test.true in
     (omega (arith, p.long, g.cells.same), l, p.small _ l, rw (growing-row _ _ _ p.long g) (p.fits _ l))
 
 pub loop-k-preserved : goal.loop-k-preserved
 loop-k-preserved c =
-    let turn = c.before.before.before.before.before.before in
-    growing-next _ _ _ turn.before.before.requires.long turn.loop-k.invariant c.before.before.before.before.before.loop-k-test.true c.before.before.add_row.ensures
+    let turn = c.before.before.before.before.before.before.before in
+    growing-next _ _ _ turn.requires.long turn.loop-k.invariant c.loop-k-test.true c.add_row.ensures
 
 pub shape_of-table : goal.shape_of-table
-shape_of-table c = c.before.loop-k.invariant.cells.same
+shape_of-table c = c.loop-k.invariant.cells.same
 
 pub returns : goal.returns
-returns c = growing-last _ _ _ c.before.before.before.requires.long c.before.loop-k.invariant c.loop-k-test.false
+returns c = growing-last _ _ _ c.requires.long c.loop-k.invariant c.loop-k-test.false

@@ -7,13 +7,13 @@ pub loop-k-init : goal.loop-k-init
 loop-k-init c = looking-first _ _ _
 
 pub returns-then-most-table : goal.returns-then-most-table
-returns-then-most-table c = sym (looking-found _ _ _ c.before.before.loop-k-test.true (over-sum _ _ _ c.if-most-table.true))
+returns-then-most-table c = sym (looking-found _ _ _ c.loop-k-test.true (over-sum _ _ _ c.if-most-table.true))
 
 pub returns-then-maps-table : goal.returns-then-maps-table
-returns-then-maps-table c = sym (looking-found _ _ _ c.before.before.before.before.loop-k-test.true (over-maps _ _ _ c.before.before.if-most-table.false c.if-maps-table.true))
+returns-then-maps-table c = sym (looking-found _ _ _ c.loop-k-test.true (over-maps _ _ _ c.if-most-table.false c.if-maps-table.true))
 
 pub loop-k-preserved : goal.loop-k-preserved
-loop-k-preserved c = looking-next _ _ _ c.before.before.before.before.before.loop-k.invariant c.before.before.before.before.loop-k-test.true c.before.before.if-most-table.false c.if-maps-table.false
+loop-k-preserved c = looking-next _ _ _ c.loop-k.invariant c.loop-k-test.true c.if-most-table.false c.if-maps-table.false
 
 pub returns : goal.returns
-returns c = sym (looking-last _ _ _ c.before.loop-k.invariant c.loop-k-test.false)
+returns c = sym (looking-last _ _ _ c.loop-k.invariant c.loop-k-test.false)

@@ -6,7 +6,7 @@ pub returns-then-first : goal.returns-then-first
 returns-then-first c = rw c.if-first.true
 
 pub returns-then-n-old : goal.returns-then-n-old
-returns-then-n-old c = rw c.before.if-first.false (omega (arith, c.if-n-old.true))
+returns-then-n-old c = rw c.if-first.false (omega (arith, c.if-n-old.true))
 
 pub returns-else-n-old : goal.returns-else-n-old
-returns-else-n-old c = rw c.before.if-first.false (omega (arith, c.if-n-old.false))
+returns-else-n-old c = rw c.if-first.false (omega (arith, c.if-n-old.false))

@@ -12,7 +12,25 @@ use Rattle.salvage.specs.Salvage.{dropped, mends_of, reached}
 use Rattle.salvage.proofs.Steps.{step-garbled, step-early}
 use Rattle.salvage.proofs.Taking.{take-entry, other-later, take-fills, drops, going-filled}
 use Rattle.salvage.proofs.mend.Goals as goal
-use Rattle.salvage.proofs.mend.Goals.{After-form_of-form, Else-start-spot, In-Block-2, In_default, Start, Then-start-spot}
+use Rattle.salvage.proofs.mend.Goals.{Start}
+use Rattle.salvage.proofs.mend.Lts as lts
+use Rattle.salvage.proofs.mend.Reads as reads
+use Rattle.salvage.proofs.mend.Tie as tie
+
+abbrev After-form_of-form : Type 0
+After-form_of-form = lts.After-form_of tie.the-claims reads.Pre reads.Post
+
+abbrev In-Block-2 : Type 0
+In-Block-2 = lts.After-form tie.the-claims reads.Pre reads.Post
+
+abbrev In_default : Type 0
+In_default = lts.After-enum_told tie.the-claims reads.Pre reads.Post
+
+abbrev Then-start-spot : Type 0
+Then-start-spot = lts.Then1 tie.the-claims reads.Pre reads.Post
+
+abbrev Else-start-spot : Type 0
+Else-start-spot = lts.Else1 tie.the-claims reads.Pre reads.Post
 
 -- what was there before, and what the key was read as
 module _ (c : After-form_of-form) where
@@ -34,11 +52,11 @@ garbled : (c : In_default) → let h = c.before.before in
 garbled c = let h = c.before.before in step-garbled _ _ _ _ (read h c.in_default.is)
 
 pub leave_out-requires : goal.leave_out-requires
-leave_out-requires c = let g = c.before in let p = (start g.before.before).requires in (p.0.4, take-entry (garbled g).0 p.1.1)
+leave_out-requires c = let g = c.before.before in let p = (start g.before.before).requires in (p.0.4, take-entry (garbled g).0 p.1.1)
 
 pub returns-in_default : goal.returns-in_default
 returns-in_default c =
-    let out = c.before.before in
+    let out = c.before.before.before in
     let g = out.before.before in
     let e = out.leave_out.ensures in
     drops {number = 3} (start g.before.before).requires.0.3 (garbled g) e.0 e.1
@@ -57,11 +75,11 @@ early : (c : Then-start-spot) → let h = here c.before.before.before.before in
 early c = step-early _ _ _ _ (named c.before.before.before.before) c.if-start-spot.true
 
 pub leave_out-requires-then-start-spot : goal.leave_out-requires-then-start-spot
-leave_out-requires-then-start-spot c = let g = c.before in let p = (start (here g.before.before.before.before)).requires in (p.0.4, take-entry (early g).0 p.1.1)
+leave_out-requires-then-start-spot c = let g = c.before.before in let p = (start (here g.before.before.before.before)).requires in (p.0.4, take-entry (early g).0 p.1.1)
 
 pub returns-then-start-spot : goal.returns-then-start-spot
 returns-then-start-spot c =
-    let out = c.before.before in
+    let out = c.before.before.before in
     let g = out.before.before in
     let e = out.leave_out-then-start-spot.ensures in
     drops {number = 4} (start (here g.before.before.before.before)).requires.0.3 (early g) e.0 e.1
@@ -76,7 +94,7 @@ module _ (c : Else-start-spot) where
 
 pub fill-now-requires : goal.fill-now-requires
 fill-now-requires c =
-    let e = c.before.before.before in
+    let e = c.before.before.before.before in
     let f = block e in
     let p = (start (here f)).requires in
     let l = later e in
@@ -84,7 +102,7 @@ fill-now-requires c =
 
 pub returns : goal.returns
 returns c =
-    let filled = c.before.before.before.before.before.before in
+    let filled = c.before.before.before.before.before.before.before in
     let e = filled.before.before.before.before in
     let l = later e in
     let w = filled.fill-now.ensures in

@@ -10,10 +10,19 @@ use Rattle.salvage.proofs.Making.{makes-nothing}
 use Rattle.salvage.proofs.Going.{all-counted, all-few}
 use Rattle.salvage.proofs.Answered.{salvage-sizes, salvage-short, salvage-done}
 use Rattle.salvage.proofs.salvage.Goals as goal
-use Rattle.salvage.proofs.salvage.Goals.{After-pass-counted, In_default, Start}
+use Rattle.salvage.proofs.salvage.Goals.{Start}
+use Rattle.salvage.proofs.salvage.Lts as lts
+use Rattle.salvage.proofs.salvage.Reads as reads
+use Rattle.salvage.proofs.salvage.Tie as tie
+
+abbrev In_default : Type 0
+In_default = lts.After-enum_told tie.the-claims reads.Pre reads.Post
+
+abbrev After-pass-counted : Type 0
+After-pass-counted = lts.After-pass tie.the-claims reads.Pre reads.Post
 
 pub returns-in-Refused : goal.returns-in-Refused
-returns-in-Refused c = salvage-sizes _ _ _ _ _ _ (sym c.before.before.before.sizes-sizes.ensures ∙ c.before.in-Refused.is)
+returns-in-Refused c = salvage-sizes _ _ _ _ _ _ (sym c.sizes-sizes.ensures ∙ c.in-Refused.is)
 
 -- where the sizes are right
 module _ (c : In_default) where
@@ -21,14 +30,14 @@ module _ (c : In_default) where
   start = c.before.before.before.before.before.before.before.before
 
   passed : verdict (size_refusals_in false start.args.m (length start.args.keys.now) (length start.args.classes.now)) ≡ Passed
-  passed = sym c.before.before.sizes-sizes.ensures ∙ c.in_default.is
+  passed = sym c.sizes-sizes.ensures ∙ c.in_default.is
 
   right : SizedIn false start.args.m (length start.args.keys.now) (length start.args.classes.now)
   right = sized.0 passed
 
 pub pass-counted-requires : goal.pass-counted-requires
 pass-counted-requires c =
-    let r = right c.before.before.before in
+    let r = right c.before.before.before.before in
     (r.small, r.same, r.most)
 
 -- the pass that counts
@@ -38,26 +47,26 @@ module _ (c : After-pass-counted) where
 
 pub room-verdict-requires : goal.room-verdict-requires
 room-verdict-requires c =
-    let p = c.before.before.before.before.before.before in
+    let p = c.before.before.before.before.before.before.before in
     let r = right (told p) in
     all-few (start (told p)).args.m p.pass-counted.ensures r.small r.most
 
 pub returns-in-Refused-verdict : goal.returns-in-Refused-verdict
 returns-in-Refused-verdict c =
-    let v = c.before.before.before in
+    let v = c.before.before.before.before in
     let p = v.before.before.before.before.before.before.before in
     let t = told p in
-    salvage-short _ _ _ _ _ _ (passed t) (all-counted (start t).args.m p.pass-counted.ensures) (makes-nothing p.pass-counted.ensures _ _ _) (sym v.room-verdict.ensures ∙ c.before.in-Refused-verdict.is)
+    salvage-short _ _ _ _ _ _ (passed t) (all-counted (start t).args.m p.pass-counted.ensures) (makes-nothing p.pass-counted.ensures _ _ _) (sym v.room-verdict.ensures ∙ c.in-Refused-verdict.is)
 
 pub pass-requires : goal.pass-requires
 pass-requires c =
-    let p = c.before.before.before.before.before.before.before.before.before.before.before.before in
+    let p = c.before.before.before.before.before.before.before.before.before.before.before.before.before in
     let r = right (told p) in
     (r.small, r.same, r.most)
 
 pub returns : goal.returns
 returns c =
-    let w = c.before.before.before.before.before.before in
+    let w = c.before.before.before.before.before.before.before in
     let e = w.before.before.before.before in
     let v = e.before.before in
     let p = v.before.before.before.before.before.before.before in

@@ -13,7 +13,16 @@ use Rattle.select.specs.Select.{selection}
 use Rattle.select.proofs.Selection.{selection-most}
 use Rattle.select.proofs.Tables.{keys-short, keys-done}
 use Rattle.select.proofs.list_keys.Goals as goal
-use Rattle.select.proofs.list_keys.Goals.{After-most_blocks, Joined-out-most_blocks, Start}
+use Rattle.select.proofs.list_keys.Goals.{Start}
+use Rattle.select.proofs.list_keys.Lts as lts
+use Rattle.select.proofs.list_keys.Reads as reads
+use Rattle.select.proofs.list_keys.Tie as tie
+
+abbrev After-most_blocks : Type 0
+After-most_blocks = lts.After-most_blocks tie.the-claims reads.Pre reads.Post
+
+abbrev Joined-out-most_blocks : Type 0
+Joined-out-most_blocks = lts.Joined1 tie.the-claims reads.Pre reads.Post
 
 -- what is lent, and chosen from it
 module _ (entry : Start) where
@@ -33,22 +42,22 @@ module _ (entry : Start) where
       omega (arith, most, blocks-most entry.args.window entry.args.top u.inside)
 
 pub most_blocks-requires : goal.most_blocks-requires
-most_blocks-requires c = let e = c.before.before.before in (omega (arith, e.requires.1.cap, e.requires.1.small), drawn e)
+most_blocks-requires c = let e = c.before.before.before.before in (omega (arith, e.requires.1.cap, e.requires.1.small), drawn e)
 
 -- behind the number of keys that there can be
 abbrev start : After-most_blocks → Start
 start c = c.before.before.before.before
 
 pub overflow_add-most_blocks : goal.overflow_add-most_blocks
-overflow_add-most_blocks c = let e = start c in omega (arith, c.most_blocks.ensures, most-small e.args.window e.args.top (drawn e), e.requires.1.few)
+overflow_add-most_blocks c = let e = start c.before in omega (arith, c.most_blocks.ensures, most-small e.args.window e.args.top (drawn e), e.requires.1.few)
 
 pub pick_all-needed-requires : goal.pick_all-needed-requires
-pick_all-needed-requires c = (start c.before.before).requires
+pick_all-needed-requires c = (start c.before.before.before).requires
 
 pub returns-then-out-needed : goal.returns-then-out-needed
 returns-then-out-needed c =
-    let k = start c.before.before.before.before.before.before in
-    let L = c.before.before.before.pick_all-needed.ensures in
+    let k = start c.before.before.before.before.before.before.before in
+    let L = c.pick_all-needed.ensures in
     let same = listed-nothing {xs = chosen k} L (lent k) in
     keys-short (chosen k) (lent k) (omega (arith, L.count)) (omega (arith, c.if-out-needed.true, ap length same)) same
 
@@ -58,17 +67,17 @@ ready c =
     let e = start c.before in
     ⊎_elim
     (λ w. let same = listed-nothing {xs = chosen e} w.2.ensures (lent e) in (w.6 ∙ same, omega (arith, w.2.ensures.count, w.5.left, ap length same)))
-    (λ w. (w.1, omega (arith, few e, c.before.most_blocks.ensures, w.0.left)))
+    (λ w. (w.1, omega (arith, few e, c.most_blocks.ensures, w.0.left)))
     c.if-out-most_blocks.branch
 
 pub pick_all-count-requires : goal.pick_all-count-requires
-pick_all-count-requires c = (start c.before.before).requires
+pick_all-count-requires c = (start c.before.before.before).requires
 
 pub shape_of-out : goal.shape_of-out
-shape_of-out c = listed_same c.before.before.pick_all-count.ensures ∙ ap length (ready c.before.before.before.before).0
+shape_of-out c = listed_same c.pick_all-count.ensures ∙ ap length (ready c.before.before.before.before.before).0
 
 pub returns : goal.returns
 returns c =
-    let j = c.before.before.before.before in
+    let j = c.before.before.before.before.before in
     let r = ready j in
-    keys-done (chosen (start j.before)) _ (rw r.0 at c.before.before.pick_all-count.ensures) r.1
+    keys-done (chosen (start j.before)) _ (rw r.0 at c.pick_all-count.ensures) r.1

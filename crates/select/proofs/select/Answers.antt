@@ -11,10 +11,16 @@ use Rattle.used.specs.Used.{Usable, tiled_refusals}
 use Rattle.used.proofs.Laws.{use-same, tiled-usable, tiled-known}
 use Rattle.select.proofs.Tables.{select-refused, select-listed}
 use Rattle.select.proofs.select.Goals as goal
-use Rattle.select.proofs.select.Goals.{In_default, Start}
+use Rattle.select.proofs.select.Goals.{Start}
+use Rattle.select.proofs.select.Lts as lts
+use Rattle.select.proofs.select.Reads as reads
+use Rattle.select.proofs.select.Tie as tie
+
+abbrev In_default : Type 0
+In_default = lts.After-enum_told tie.the-claims reads.Pre reads.Post
 
 pub returns-in-Refused : goal.returns-in-Refused
-returns-in-Refused c = sym (select-refused _ _ _ _ _ _ _ _ _ (sym c.before.before.before.usable_tiled-verdict.ensures ∙ c.before.in-Refused.is))
+returns-in-Refused c = sym (select-refused _ _ _ _ _ _ _ _ _ (sym c.usable_tiled-verdict.ensures ∙ c.in-Refused.is))
 
 -- where refusals 1 to 7 and 17 do not hold
 module _ (c : In_default) where
@@ -23,28 +29,28 @@ module _ (c : In_default) where
 
   passed : verdict (tiled_refusals true entry.args.m entry.args.top entry.args.keys.now (length entry.args.classes.now)
       entry.args.window (length entry.args.border-1.now)) ≡ Passed
-  passed = sym c.before.before.usable_tiled-verdict.ensures ∙ c.in_default.is
+  passed = sym c.usable_tiled-verdict.ensures ∙ c.in_default.is
 
   known : Usable entry.args.m entry.args.top entry.args.keys.now entry.args.window (length entry.args.border-1.now)
   known = tiled-known true _ _ _ _ _ _ passed
 
 pub overflow_add-window : goal.overflow_add-window
-overflow_add-window c = let u = known c.before.before.before in let i = inside-12 u.small u.inside in omega (arith, i)
+overflow_add-window c = let u = known c.before.before.before.before in let i = inside-12 u.small u.inside in omega (arith, i)
 
 pub fill-requires : goal.fill-requires
-fill-requires c = (omega arith, (known c.before.before.before).wide)
+fill-requires c = (omega arith, (known c.before.before.before.before).wide)
 
 pub list_keys-requires : goal.list_keys-requires
 list_keys-requires c =
-    let told = c.before.before.before.before.before.before.before.before.before in
+    let told = c.before.before.before.before.before.before.before.before.before.before in
     let u = known told in (
-      c.before.before.spread_table-table.ensures,
+      c.spread_table-table.ensures,
       record { small = u.small; cap = u.cap; few = u.few; spaced = u.spaced; inside = u.inside; wide = omega arith },
       use-same true _ _ _ _ _ (tiled-usable true _ _ _ _ _ _ (passed told)),
     )
 
 pub returns : goal.returns
 returns c =
-    let filled = c.before.before.before.before.before.before.before.before in
+    let filled = c.before.before.before.before.before.before.before.before.before in
     let told = filled.before.before.before.before in
-    select-listed _ _ _ _ _ _ _ _ _ (passed told) (filled.fill.ensures ∙ filled-spent _ _ (known told).wide) c.before.before.list_keys.ensures
+    select-listed _ _ _ _ _ _ _ _ _ (passed told) (filled.fill.ensures ∙ filled-spent _ _ (known told).wide) c.list_keys.ensures

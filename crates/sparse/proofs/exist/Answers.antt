@@ -11,10 +11,16 @@ use Rattle.exist.proofs.Laws.{exist-refused}
 use Rattle.pieces.specs.Pair.{Pair}
 use Rattle.sparse.proofs.Over.{one-over, one-exist}
 use Rattle.sparse.proofs.exist.Goals as goal
-use Rattle.sparse.proofs.exist.Goals.{In_default, Start}
+use Rattle.sparse.proofs.exist.Goals.{Start}
+use Rattle.sparse.proofs.exist.Lts as lts
+use Rattle.sparse.proofs.exist.Reads as reads
+use Rattle.sparse.proofs.exist.Tie as tie
+
+abbrev In_default : Type 0
+In_default = lts.After-enum_told tie.the-claims reads.Pre reads.Post
 
 pub returns-in-Refused : goal.returns-in-Refused
-returns-in-Refused c = sym (exist-refused _ _ _ _ _ _ _ _ (use-refused _ _ _ _ _ _ (sym c.before.before.before.sound-sound.ensures ∙ c.before.in-Refused.is)))
+returns-in-Refused c = sym (exist-refused _ _ _ _ _ _ _ _ (use-refused _ _ _ _ _ _ (sym c.sound-sound.ensures ∙ c.in-Refused.is)))
 
 -- where they do not hold
 module _ (c : In_default) where
@@ -22,13 +28,13 @@ module _ (c : In_default) where
   entry = c.before.before.before.before.before.before
 
   passed : verdict (map_refusals_in false entry.args.m entry.args.keys.now (length entry.args.classes.now)) ≡ Passed
-  passed = sym c.before.before.sound-sound.ensures ∙ c.in_default.is
+  passed = sym c.sound-sound.ensures ∙ c.in_default.is
 
   one : Pair entry.args.m entry.args.keys.now (length entry.args.classes.now) (0 ∷ []) 1
   one = one-over entry.args.m entry.args.keys.now entry.args.classes.now passed
 
 pub exist_over-requires : goal.exist_over-requires
-exist_over-requires c = one c.before.before.before
+exist_over-requires c = one c.before.before.before.before
 
 pub returns : goal.returns
-returns c = c.before.before.exist_over.ensures ∙ one-exist _ _ _ (passed c.before.before.before.before.before.before) _ _ _ _
+returns c = c.exist_over.ensures ∙ one-exist _ _ _ (passed c.before.before.before.before.before.before.before) _ _ _ _

@@ -8,15 +8,21 @@ use Rattle.exist.proofs.Laws.{exist-refused, exist-done, existing-is}
 use Rattle.sparse.proofs.Found.{found-presence}
 use Rattle.sparse.proofs.Over.{pair-view, pair-known}
 use Rattle.sparse.proofs.exist_over.Goals as goal
-use Rattle.sparse.proofs.exist_over.Goals.{In_default, Start}
+use Rattle.sparse.proofs.exist_over.Goals.{Start}
+use Rattle.sparse.proofs.exist_over.Lts as lts
+use Rattle.sparse.proofs.exist_over.Reads as reads
+use Rattle.sparse.proofs.exist_over.Tie as tie
+
+abbrev In_default : Type 0
+In_default = lts.After-enum_told tie.the-claims reads.Pre reads.Post
 
 pub in_view-verdict-requires : goal.in_view-verdict-requires
-in_view-verdict-requires c = c.before.before.before.before.before.requires.small
+in_view-verdict-requires c = c.requires.small
 
 pub returns-in-Refused : goal.returns-in-Refused
 returns-in-Refused c =
-    let e = c.before.before.before in
-    sym (exist-refused _ _ _ _ _ _ _ _ (pair-view e.before.before.before.before.before.before.requires _ _ e.in_view-verdict.ensures c.before.in-Refused.is))
+    let e = c.before.before.before.before in
+    sym (exist-refused _ _ _ _ _ _ _ _ (pair-view e.requires _ _ e.in_view-verdict.ensures c.in-Refused.is))
 
 -- where refusals 6 and 7 do not hold
 module _ (c : In_default) where
@@ -24,20 +30,20 @@ module _ (c : In_default) where
   entry = c.before.before.before.before.before.before.before.before
 
   known : Usable entry.args.m entry.args.m entry.args.keys.now entry.args.window (length entry.args.border-1.now)
-  known = pair-known entry.requires _ _ c.before.before.in_view-verdict.ensures c.in_default.is
+  known = pair-known entry.requires _ _ c.in_view-verdict.ensures c.in_default.is
 
 pub spend-requires : goal.spend-requires
-spend-requires c = let u = known c.before in (inside-12 u.small u.inside, u.wide)
+spend-requires c = let u = known c.before.before in (inside-12 u.small u.inside, u.wide)
 
 pub find-requires : goal.find-requires
 find-requires c =
-    let told = c.before.before.before.before.before.before in
-    (c.before.spread_table-table.ensures, (entry told).requires, (known told).inside)
+    let told = c.before.before.before.before.before.before.before in
+    (c.spread_table-table.ensures, (entry told).requires, (known told).inside)
 
 pub returns : goal.returns
 returns c =
-    let spent-now = c.before.before.before.before.before.before in
+    let spent-now = c.before.before.before.before.before.before.before in
     let told = spent-now.before.before in
-    ap₂ after (c.say.ensures ∙ found-presence _ _ _ c.before.find.ensures) spent-now.spend.ensures
+    ap₂ after (c.say.ensures ∙ found-presence _ _ _ c.find.ensures) spent-now.spend.ensures
     ∙ sym (existing-is _ _ _ _)
-    ∙ sym (exist-done _ _ _ _ _ _ _ _ (pair-view (entry told).requires _ _ told.before.before.in_view-verdict.ensures told.in_default.is))
+    ∙ sym (exist-done _ _ _ _ _ _ _ _ (pair-view (entry told).requires _ _ told.in_view-verdict.ensures told.in_default.is))

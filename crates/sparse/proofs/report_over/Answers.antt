@@ -10,15 +10,21 @@ use Rattle.used.specs.Used.{Usable, use_refusals_in}
 use Rattle.report.proofs.Laws.{report-refused, report-short, report-done}
 use Rattle.sparse.proofs.Over.{pair-view, pair-known}
 use Rattle.sparse.proofs.report_over.Goals as goal
-use Rattle.sparse.proofs.report_over.Goals.{In_default, Start}
+use Rattle.sparse.proofs.report_over.Goals.{Start}
+use Rattle.sparse.proofs.report_over.Lts as lts
+use Rattle.sparse.proofs.report_over.Reads as reads
+use Rattle.sparse.proofs.report_over.Tie as tie
+
+abbrev In_default : Type 0
+In_default = lts.After-enum_told tie.the-claims reads.Pre reads.Post
 
 pub in_view-verdict-requires : goal.in_view-verdict-requires
-in_view-verdict-requires c = c.before.before.before.before.before.before.requires.small
+in_view-verdict-requires c = c.requires.small
 
 pub returns-in-Refused : goal.returns-in-Refused
 returns-in-Refused c =
-    let e = c.before.before.before in
-    sym (report-refused _ _ _ _ _ _ _ _ (pair-view e.before.before.before.before.before.before.before.requires _ _ e.in_view-verdict.ensures c.before.in-Refused.is))
+    let e = c.before.before.before.before in
+    sym (report-refused _ _ _ _ _ _ _ _ (pair-view e.requires _ _ e.in_view-verdict.ensures c.in-Refused.is))
 
 -- where refusals 6 and 7 do not hold
 module _ (c : In_default) where
@@ -26,39 +32,39 @@ module _ (c : In_default) where
   entry = c.before.before.before.before.before.before.before.before.before
 
   passed : verdict (use_refusals_in false entry.args.m entry.args.keys.now (length entry.args.classes.now) entry.args.window (length entry.args.border-1.now)) ≡ Passed
-  passed = pair-view entry.requires _ _ c.before.before.in_view-verdict.ensures c.in_default.is
+  passed = pair-view entry.requires _ _ c.in_view-verdict.ensures c.in_default.is
 
   known : Usable entry.args.m entry.args.m entry.args.keys.now entry.args.window (length entry.args.border-1.now)
-  known = pair-known entry.requires _ _ c.before.before.in_view-verdict.ensures c.in_default.is
+  known = pair-known entry.requires _ _ c.in_view-verdict.ensures c.in_default.is
 
 pub spend-requires : goal.spend-requires
-spend-requires c = let u = known c.before in (inside-12 u.small u.inside, u.wide)
+spend-requires c = let u = known c.before.before in (inside-12 u.small u.inside, u.wide)
 
 pub returns-then-out-lt256 : goal.returns-then-out-lt256
 returns-then-out-lt256 c =
-    let spends = c.before.before.before in
+    let spends = c.before.before.before.before in
     report-short _ _ _ _ _ _ _ _ (passed spends.before.before) spends.spend.ensures
     (omega (arith, c.if-out-lt256.true))
 
 pub add_up-requires : goal.add_up-requires
 add_up-requires c =
-    let told = c.before.before.before.before.before.before.before.before in
-    (c.before.before.spread_table-table.ensures, (entry told).requires, (known told).inside, refl)
+    let told = c.before.before.before.before.before.before.before.before.before in
+    (c.spread_table-table.ensures, (entry told).requires, (known told).inside, refl)
 
 pub put_totals-requires : goal.put_totals-requires
 put_totals-requires c =
-    (ap length c.before.before.add_up.ensures ∙ totals-by-length _ _, omega (arith, c.before.before.before.before.before.before.if-out-lt256.false))
+    (ap length c.add_up.ensures ∙ totals-by-length _ _, omega (arith, c.if-out-lt256.false))
 
 pub overflow_mul-result : goal.overflow_mul-result
 overflow_mul-result c =
-    let told = c.before.before.before.before.before.before.before.before.before.before.before.before.before.before.before.before in
+    let told = c.before.before.before.before.before.before.before.before.before.before.before.before.before.before.before.before.before in
     let u = known told in
     omega (arith, pixels-most (entry told).args.window (inside-12 u.small u.inside))
 
 pub returns : goal.returns
 returns c =
-    let spends = c.before.before.before.before.before.before.before.before.before.before.before.before.before.before in
+    let spends = c.before.before.before.before.before.before.before.before.before.before.before.before.before.before.before in
     report-done _ _ _ _ _ _ _ _ (passed spends.before.before) spends.spend.ensures
-    (omega (arith, c.before.before.before.before.before.before.before.before.before.before.before.if-out-lt256.false))
-    c.before.before.before.before.before.before.before.add_up.ensures
-    c.before.before.before.before.put_totals.ensures
+    (omega (arith, c.if-out-lt256.false))
+    c.add_up.ensures
+    c.put_totals.ensures

@@ -5,7 +5,7 @@ pub returns-then-looked : goal.returns-then-looked
 returns-then-looked c = rw c.if-looked.true
 
 pub returns-then-looked-2 : goal.returns-then-looked-2
-returns-then-looked-2 c = rw (c.before.if-looked.false, c.if-looked-2.true)
+returns-then-looked-2 c = rw (c.if-looked.false, c.if-looked-2.true)
 
 pub returns : goal.returns
-returns c = rw (c.before.if-looked.false, c.if-looked-2.false)
+returns c = rw (c.if-looked.false, c.if-looked-2.false)

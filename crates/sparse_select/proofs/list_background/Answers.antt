@@ -11,7 +11,13 @@ use Rattle.select.proofs.Laws.{keys-short, keys-done}
 use Rattle.sparse_select.specs.Select.{sparse_selection}
 use Rattle.sparse_select.proofs.Window.{sparse-most}
 use Rattle.sparse_select.proofs.list_background.Goals as goal
-use Rattle.sparse_select.proofs.list_background.Goals.{Joined-out-most, Start}
+use Rattle.sparse_select.proofs.list_background.Goals.{Start}
+use Rattle.sparse_select.proofs.list_background.Lts as lts
+use Rattle.sparse_select.proofs.list_background.Reads as reads
+use Rattle.sparse_select.proofs.list_background.Tie as tie
+
+abbrev Joined-out-most : Type 0
+Joined-out-most = lts.Joined1 tie.the-claims reads.Pre reads.Post
 
 -- what is lent, and chosen from it
 module _ (entry : Start) where
@@ -25,12 +31,12 @@ module _ (entry : Start) where
   few = let u = entry.requires.1 in sparse-most u.spaced u.inside u.cap entry.args.class entry.args.classes.now entry.requires.2 entry.args.class
 
 pub overflow_mul-most : goal.overflow_mul-most
-overflow_mul-most c = let e = c.before.before.before.before.before.before in omega (arith, pixels-most e.args.window (inside-12 e.requires.1.small e.requires.1.inside))
+overflow_mul-most c = let e = c.before.before.before.before.before.before.before in omega (arith, pixels-most e.args.window (inside-12 e.requires.1.small e.requires.1.inside))
 
 pub returns-then-out-needed : goal.returns-then-out-needed
 returns-then-out-needed c =
-    let k = c.before.before.before.before.before.before.before.before.before.before.before.before.before in
-    let L = c.before.before.before.put_all-needed.ensures in
+    let k = c.before.before.before.before.before.before.before.before.before.before.before.before.before.before in
+    let L = c.put_all-needed.ensures in
     let same = listed-nothing {xs = chosen k} L (lent k) in
     keys-short (chosen k) (lent k) (omega (arith, L.count)) (omega (arith, c.if-out-needed.true, ap length same)) same
 
@@ -47,10 +53,10 @@ ready c =
     c.if-out-most.branch
 
 pub shape_of-out : goal.shape_of-out
-shape_of-out c = listed_same c.before.before.put_all-count.ensures ∙ ap length (ready c.before.before.before.before.before).0
+shape_of-out c = listed_same c.put_all-count.ensures ∙ ap length (ready c.before.before.before.before.before.before).0
 
 pub returns : goal.returns
 returns c =
-    let j = c.before.before.before.before.before in
+    let j = c.before.before.before.before.before.before in
     let r = ready j in
-    keys-done (chosen (start j)) _ (rw r.0 at c.before.before.put_all-count.ensures) r.1
+    keys-done (chosen (start j)) _ (rw r.0 at c.put_all-count.ensures) r.1

@@ -7,20 +7,29 @@ use Rattle.sparse_select.specs.Select.{sparse_selection}
 use Rattle.sparse_select.proofs.Walking.{walking-first, walking-last, walking-goes, walking-name, walking-next}
 use Rattle.sparse_select.proofs.Asking.{asking-pixel, asking-block, asking}
 use Rattle.sparse_select.proofs.put_all.Goals as goal
-use Rattle.sparse_select.proofs.put_all.Goals.{At-loop-row, In-Block, Start}
+use Rattle.sparse_select.proofs.put_all.Goals.{Start}
+use Rattle.sparse_select.proofs.put_all.Lts as lts
+use Rattle.sparse_select.proofs.put_all.Reads as reads
+use Rattle.sparse_select.proofs.put_all.Tie as tie
+
+abbrev At-loop-row : Type 0
+At-loop-row = lts.At-loop tie.the-claims reads.Pre reads.Post goal.the-invariant-loop-row goal.the-decreases-loop-row
+
+abbrev In-Block : Type 0
+In-Block = lts.After-known_told tie.the-claims reads.Pre reads.Post goal.the-invariant-loop-row goal.the-decreases-loop-row
 
 pub loop-row-init : goal.loop-row-init
-loop-row-init c = walking-first _ c.before.before.before.requires.2.inside _
+loop-row-init c = walking-first _ c.requires.2.inside _
 
 pub next_block-next-requires : goal.next_block-next-requires
-next_block-next-requires c = let u = c.before.before.before.before.requires.2 in (omega (arith, u.cap, u.small), inside-12 u.small u.inside, c.loop-row.invariant.walked.cursor)
+next_block-next-requires c = let u = c.requires.2 in (omega (arith, u.cap, u.small), inside-12 u.small u.inside, c.loop-row.invariant.walked.cursor)
 
 pub shape_of-out-in_default : goal.shape_of-out-in_default
-shape_of-out-in_default c = listed_same c.before.before.before.loop-row.invariant.listing
+shape_of-out-in_default c = listed_same c.loop-row.invariant.listing
 
 pub returns-in_default : goal.returns-in_default
 unfolding sparse_selection
-returns-in_default c = walking-last c.before.before.before.loop-row.invariant c.before.before.next_block-next.ensures c.in_default.is
+returns-in_default c = walking-last c.loop-row.invariant c.next_block-next.ensures c.in_default.is
 
 -- the arm of a block: where the loop is, and which block it is
 module _ (c : In-Block) where
@@ -30,34 +39,34 @@ module _ (c : In-Block) where
   abbrev start : Start
   start = turn.before.before.before.before
 
-  on : Goes start.args.window start.args.top (turn.loop-row.r, turn.loop-row.c) c.before.before.before.next_block-next.result
-  on = c.before.before.before.next_block-next.ensures
+  on : Goes start.args.window start.args.top (turn.loop-row.r, turn.loop-row.c) c.next_block-next.result
+  on = c.next_block-next.ensures
 
   goes : Goes start.args.window start.args.top (turn.loop-row.r, turn.loop-row.c)
-      (Block c.before.in-Block.row c.before.in-Block.col c.before.in-Block.exponent c.before.in-Block.after)
-  goes = walking-goes turn.loop-row.invariant on c.before.in-Block.is
+      (Block c.in-Block.row c.in-Block.col c.in-Block.exponent c.in-Block.after)
+  goes = walking-goes turn.loop-row.invariant on c.in-Block.is
 
 pub block_key-key-requires : goal.block_key-key-requires
 block_key-key-requires c =
-    let p = (start c).requires in
-    let k = asking-pixel p.2 (goes c) in
+    let p = (start c.before).requires in
+    let k = asking-pixel p.2 (goes c.before) in
     (p.1, p.2.small, k.0, k.1)
 
 pub put_block-n-requires : goal.put_block-n-requires
 put_block-n-requires c =
-    let b = c.before.before in
+    let b = c.before.before.before in
     let p = (start b).requires in
-    let named = c.before.block_key-key.ensures in (
+    let named = c.block_key-key.ensures in (
       p.0,
       p.1,
-      asking (start b).args.classes.now p.2 p.3 (turn b).loop-row.invariant (on b) b.before.in-Block.is named,
-      asking-block p.2 (goes b) (walking-name (turn b).loop-row.invariant (on b) b.before.in-Block.is named),
+      asking (start b).args.classes.now p.2 p.3 (turn b).loop-row.invariant (on b) b.in-Block.is named,
+      asking-block p.2 (goes b) (walking-name (turn b).loop-row.invariant (on b) b.in-Block.is named),
     )
 
 pub loop-row-smaller : goal.loop-row-smaller
-loop-row-smaller c = goes-less (goes c.before.before.before.before.before)
+loop-row-smaller c = goes-less (goes c.before.before.before.before.before.before)
 
 pub loop-row-preserved : goal.loop-row-preserved
 loop-row-preserved c =
-    let b = c.before.before.before.before.before in
-    walking-next (turn b).loop-row.invariant (on b) b.before.in-Block.is c.before.before.before.before.block_key-key.ensures c.before.before.put_block-n.ensures
+    let b = c.before.before.before.before.before.before in
+    walking-next (turn b).loop-row.invariant (on b) b.in-Block.is c.block_key-key.ensures c.put_block-n.ensures

@@ -7,7 +7,25 @@ use Rattle.key.proofs.Laws.{one_block, block-lies, pow-most}
 use Rattle.stretch.specs.Fewest.{stretch}
 use Rattle.sparse_select.proofs.Merging.{merging-room, merging-first, merging-record, merging-some, merging-next, merging-few, merging-last}
 use Rattle.sparse_select.proofs.put_run.Goals as goal
-use Rattle.sparse_select.proofs.put_run.Goals.{After-advance-spot, After-span_of-at, After-span_of-block, At-loop-i, In-loop-i, Start}
+use Rattle.sparse_select.proofs.put_run.Goals.{Start}
+use Rattle.sparse_select.proofs.put_run.Lts as lts
+use Rattle.sparse_select.proofs.put_run.Reads as reads
+use Rattle.sparse_select.proofs.put_run.Tie as tie
+
+abbrev After-span_of-block : Type 0
+After-span_of-block = lts.After-span_of tie.the-claims reads.Pre reads.Post goal.the-invariant-loop-i goal.the-decreases-loop-i
+
+abbrev At-loop-i : Type 0
+At-loop-i = lts.At-loop tie.the-claims reads.Pre reads.Post goal.the-invariant-loop-i goal.the-decreases-loop-i
+
+abbrev In-loop-i : Type 0
+In-loop-i = lts.In-loop tie.the-claims reads.Pre reads.Post goal.the-invariant-loop-i goal.the-decreases-loop-i
+
+abbrev After-span_of-at : Type 0
+After-span_of-at = lts.After-span_of2 tie.the-claims reads.Pre reads.Post goal.the-invariant-loop-i goal.the-decreases-loop-i
+
+abbrev After-advance-spot : Type 0
+After-advance-spot = lts.After-advance tie.the-claims reads.Pre reads.Post goal.the-invariant-loop-i goal.the-decreases-loop-i
 
 -- the block, as it is read
 module _ (c : After-span_of-block) where
@@ -25,27 +43,27 @@ module _ (c : After-span_of-block) where
       (omega (arith, l.small, start.requires.1.small), omega (arith, l.span, pow-most 3 start.args.m start.requires.1.small))
 
 pub span_of-block-requires : goal.span_of-block-requires
-span_of-block-requires c = let s = c.before.before.before in let b = s.requires.2 in (s.requires.1.small, record { exponent = s.args.run.reach; start = b.start; names = b.names })
+span_of-block-requires c = let s = c.before.before.before.before in let b = s.requires.2 in (s.requires.1.small, record { exponent = s.args.run.reach; start = b.start; names = b.names })
 
 pub pow4-requires : goal.pow4-requires
-pow4-requires c = (span c).0
+pow4-requires c = (span c.before).0
 
 pub overflow_add-end : goal.overflow_add-end
-overflow_add-end c = let b = c.before.before in omega (arith, (span b).1, c.before.pow4.ensures)
+overflow_add-end c = let b = c.before.before.before in omega (arith, (span b).1, c.pow4.ensures)
 
 pub begin-spot-requires : goal.begin-spot-requires
-begin-spot-requires c = let b = c.before.before in ((start b).requires.0, (start b).requires.1.small, b.Span-of.ensures)
+begin-spot-requires c = let b = c.before.before.before in ((start b).requires.0, (start b).requires.1.small, b.Span-of.ensures)
 
 pub overflow_add-last : goal.overflow_add-last
 overflow_add-last c =
-    let b = c.before.before.before.before.before in
+    let b = c.before.before.before.before.before.before in
     omega (arith, merging-room (start b).requires.1 b.Span-of.ensures (short b))
 
 pub loop-i-init : goal.loop-i-init
 loop-i-init c =
-    let b = c.before.before.before.before.before in
-    let g = c.before.before.begin-spot.ensures in
-    merging-first (start b).requires.1 b.Span-of.ensures (short b) _ g.0 g.1 (omega (arith, c.before.before.before.before.pow4.ensures.is)) refl
+    let b = c.before.before.before.before.before.before in
+    let g = c.begin-spot.ensures in
+    merging-first (start b).requires.1 b.Span-of.ensures (short b) _ g.0 g.1 (omega (arith, c.pow4.ensures.is)) refl
 
 -- at a turn
 module _ (c : In-loop-i) where
@@ -59,10 +77,10 @@ module _ (c : In-loop-i) where
   test = omega (arith, c.loop-i-test)
 
 pub bounds-keys-i : goal.bounds-keys-i
-bounds-keys-i c = (merging-record (turn c.before).loop-i.invariant (test c.before)).0
+bounds-keys-i c = (merging-record (turn c.before.before).loop-i.invariant (test c.before.before)).0
 
 pub span_of-at-requires : goal.span_of-at-requires
-span_of-at-requires c = let t = c.before in ((entry t).requires.1.small, (merging-record (turn t).loop-i.invariant (test t)).1)
+span_of-at-requires c = let t = c.before.before in ((entry t).requires.1.small, (merging-record (turn t).loop-i.invariant (test t)).1)
 
 -- with the record that comes next, as it is read
 module _ (c : After-span_of-at) where
@@ -75,19 +93,19 @@ module _ (c : After-span_of-at) where
 
 pub put_stretch-k-requires : goal.put_stretch-k-requires
 put_stretch-k-requires c =
-    let a = c.before in
+    let a = c.before.before in
     let e = entry (inside a) in
     (e.requires.0, e.requires.1.small, (turn (inside a)).loop-i.invariant.stands, omega (arith, (block-lies a.span_of-at.ensures).span), omega (arith, room a))
 
 pub pick_around-k-requires : goal.pick_around-k-requires
 pick_around-k-requires c =
-    let a = c.before.before.before.before.before in
+    let a = c.before.before.before.before.before.before in
     let t = inside a in
-    (rw (← (entry t).requires.1.same) (merging-record (turn t).loop-i.invariant (test t)).0, omega (arith, room a, c.before.before.before.put_stretch-k.ensures.count))
+    (rw (← (entry t).requires.1.same) (merging-record (turn t).loop-i.invariant (test t)).0, omega (arith, room a, c.put_stretch-k.ensures.count))
 
 pub advance-spot-requires : goal.advance-spot-requires
 advance-spot-requires c =
-    let a = c.before.before.before.before.before.before.before.before in
+    let a = c.before.before.before.before.before.before.before.before.before in
     let e = entry (inside a) in
     (e.requires.0, e.requires.1.small, a.span_of-at.ensures)
 
@@ -98,32 +116,32 @@ module _ (c : After-advance-spot) where
 
 pub overflow_add-i : goal.overflow_add-i
 overflow_add-i c =
-    let t = inside (behind c) in
+    let t = inside (behind c.before) in
     let b = (turn t).before.before.before.before.before.before in
     omega (arith, test t, merging-room (start b).requires.1 b.Span-of.ensures (short b))
 
 pub loop-i-smaller : goal.loop-i-smaller
-loop-i-smaller c = omega (arith, test (inside (behind c)))
+loop-i-smaller c = omega (arith, test (inside (behind c.before)))
 
 pub loop-i-preserved : goal.loop-i-preserved
 loop-i-preserved c =
-    let a = behind c in
+    let a = behind c.before in
     let t = inside a in
     let e = c.advance-spot.ensures in
-    let gap = c.before.before.before.before.before.before.before.put_stretch-k.ensures in
-    merging-next (turn t).loop-i.invariant (test t) a.span_of-at.ensures gap c.before.before.before.pick_around-k.ensures e.0 e.1
+    let gap = c.put_stretch-k.ensures in
+    merging-next (turn t).loop-i.invariant (test t) a.span_of-at.ensures gap c.pick_around-k.ensures e.0 e.1
 
 pub put_stretch-requires : goal.put_stretch-requires
 put_stretch-requires c =
-    let b = c.before.before.before.before.before.before.before.before in
+    let b = c.before.before.before.before.before.before.before.before.before in
     let p = (start b).requires in
-    let M = c.before.before.loop-i.invariant in
+    let M = c.loop-i.invariant in
     let l = (block-lies b.Span-of.ensures).span in
-    let w = c.before.before.before.before.before.before.before.pow4.ensures.is in
-    (p.0, p.1.small, M.stands, omega (arith, l, w), omega (arith, merging-few M (omega (arith, c.before.loop-i-test)), p.1.room))
+    let w = c.pow4.ensures.is in
+    (p.0, p.1.small, M.stands, omega (arith, l, w), omega (arith, merging-few M (omega (arith, c.loop-i-test)), p.1.room))
 
 pub shape_of-out : goal.shape_of-out
-shape_of-out c = listed_same c.before.before.put_stretch.ensures ∙ listed_same c.before.before.before.before.before.loop-i.invariant.listing
+shape_of-out c = listed_same c.put_stretch.ensures ∙ listed_same c.loop-i.invariant.listing
 
 pub returns : goal.returns
-returns c = merging-last c.before.before.before.before.before.loop-i.invariant (omega (arith, c.before.before.before.before.loop-i-test)) c.before.before.put_stretch.ensures
+returns c = merging-last c.loop-i.invariant (omega (arith, c.loop-i-test)) c.put_stretch.ensures

@@ -31,28 +31,28 @@ module _ (c : Else-start-eq0) where
   room = omega (arith, (begin-first {top = top} start.requires.1 start.requires.2 some refl).2)
 
 pub bounds-ones-i : goal.bounds-ones-i
-bounds-ones-i c = omega (arith, (block-lies c.before.requires.2).small, c.before.requires.1)
+bounds-ones-i c = omega (arith, (block-lies c.requires.2).small, c.requires.1)
 
 pub overflow_add-first : goal.overflow_add-first
 overflow_add-first c =
-    let s = c.before.before in
+    let s = c.before.before.before in
     let i = s.args.i in
-    omega (arith, own c.before, (block-lies s.requires.2).keys, ones-pow i, pow-most 4 s.args.m s.requires.1)
+    omega (arith, own c.before.before, (block-lies s.requires.2).keys, ones-pow i, pow-most 4 s.args.m s.requires.1)
 
 pub overflow_cast-largest : goal.overflow_cast-largest
-overflow_cast-largest c = omega (arith, small c.before)
+overflow_cast-largest c = omega (arith, small c.before.before)
 
 pub offset_bounds-ones-top : goal.offset_bounds-ones-top
-offset_bounds-ones-top c = omega (arith, small c.before)
+offset_bounds-ones-top c = omega (arith, small c.before.before)
 
 pub bounds-ones-top : goal.bounds-ones-top
-bounds-ones-top c = omega (arith, small c.before)
+bounds-ones-top c = omega (arith, small c.before.before)
 
 pub overflow_sub-largest : goal.overflow_sub-largest
-overflow_sub-largest c = let e = c.before.before in omega (arith, own e, largest e, room e)
+overflow_sub-largest c = let e = c.before.before.before in omega (arith, own e, largest e, room e)
 
 pub returns : goal.returns
 returns c =
-    let e = c.before.before in
+    let e = c.before.before.before in
     let p = (start e).requires in
     (refl, begin-stands {top = top e} p.1 p.2 (some e) refl refl refl (omega (arith, own e, largest e, room e)))

@@ -11,20 +11,20 @@ pub loop-i-init : goal.loop-i-init
 loop-i-init c = (omega arith, c.requires.0, sym (filled_none _ _ _), refl)
 
 pub bounds-cells-i : goal.bounds-cells-i
-bounds-cells-i c = omega (arith, c.before.loop-i.invariant.3, c.before.before.requires.1)
+bounds-cells-i c = omega (arith, c.loop-i.invariant.3, c.requires.1)
 
 pub loop-i-preserved : goal.loop-i-preserved
 loop-i-preserved c =
-    let k = c.before.loop-i.invariant in
-    let i = c.before.loop-i.i in (
+    let k = c.loop-i.invariant in
+    let i = c.loop-i.i in (
       omega arith,
       omega arith,
-      ap (λ (xs : List ℕ). set xs i c.before.before.args.value) k.2 ∙ rw (add-one i) (sym (filled_next _ i _ _ k.0 (omega (arith, c.before.before.requires.1)))),
-      length-set c.before.loop-i.cells i _ ∙ k.3,
+      ap (λ (xs : List ℕ). set xs i c.args.value) k.2 ∙ rw (add-one i) (sym (filled_next _ i _ _ k.0 (omega (arith, c.requires.1)))),
+      length-set c.loop-i.cells i _ ∙ k.3,
     )
 
 pub shape_of-cells : goal.shape_of-cells
-shape_of-cells c = c.before.loop-i.invariant.3
+shape_of-cells c = c.loop-i.invariant.3
 
 pub returns : goal.returns
-returns c = let e : c.before.loop-i.i ≡ c.before.before.args.to = omega (arith, c.before.loop-i.invariant.1, c.loop-i-test.false) in c.before.loop-i.invariant.2 ∙ rw e
+returns c = let e : c.loop-i.i ≡ c.args.to = omega (arith, c.loop-i.invariant.1, c.loop-i-test.false) in c.loop-i.invariant.2 ∙ rw e

@@ -4,14 +4,14 @@ use Rattle.streams.proofs.Pieces.{piece-short, piece-lines, piece_bytes}
 use Rattle.streams.proofs.piece.Goals as goal
 
 pub returns-then-text-le-PIPE_BUF : goal.returns-then-text-le-PIPE_BUF
-returns-then-text-le-PIPE_BUF c = sym (piece-short 4096 c.before.before.args.text.now c.if-text-le-PIPE_BUF.true)
+returns-then-text-le-PIPE_BUF c = sym (piece-short 4096 c.args.text.now c.if-text-le-PIPE_BUF.true)
 
 pub returns-then-n-eq0 : goal.returns-then-n-eq0
 returns-then-n-eq0 c =
-    let call = c.before in
-    sym (piece_bytes 4096 call.before.before.before.args.text.now call.before.if-text-le-PIPE_BUF.false (sym call.whole_lines-n.ensures ∙ c.if-n-eq0.true))
+    let call = c.before.before in
+    sym (piece_bytes 4096 call.args.text.now call.if-text-le-PIPE_BUF.false (sym call.whole_lines-n.ensures ∙ c.if-n-eq0.true))
 
 pub returns-else-n-eq0 : goal.returns-else-n-eq0
 returns-else-n-eq0 c =
-    let call = c.before in
-    call.whole_lines-n.ensures ∙ sym (piece-lines 4096 call.before.before.before.args.text.now call.before.if-text-le-PIPE_BUF.false (λ none. c.if-n-eq0.false (call.whole_lines-n.ensures ∙ none)))
+    let call = c.before.before in
+    call.whole_lines-n.ensures ∙ sym (piece-lines 4096 call.args.text.now call.if-text-le-PIPE_BUF.false (λ none. c.if-n-eq0.false (call.whole_lines-n.ensures ∙ none)))

@@ -13,7 +13,10 @@ pub loop-count-init : goal.loop-count-init
 loop-count-init c = (refl, omega arith)
 
 pub slice_bounds-read-count : goal.slice_bounds-read-count
-slice_bounds-read-count c = c.before.loop-count.invariant.1
+slice_bounds-read-count c = c.loop-count.invariant.1
+
+pub slice_bounds-read-start : goal.slice_bounds-read-start
+slice_bounds-read-start c = c.loop-count.invariant.1
 
 -- a read fills at most what is left of the slice, which stays as long as it was
 module _ (c : After-read-more) where
@@ -33,16 +36,16 @@ counted : (n : ℕ) (xs : List ℕ) → n ≤ length xs → IsPrefixLen n xs
 counted n xs l = (l, sym (length-take-le n xs l))
 
 pub returns-then-more-eq0 : goal.returns-then-more-eq0
-returns-then-more-eq0 c = let call = c.before.before.before.before in counted _ (bytes call) (omega (arith, long call, (at call).loop-count.invariant.1))
+returns-then-more-eq0 c = let call = c.before.before.before.before.before in counted _ (bytes call) (omega (arith, long call, (at call).loop-count.invariant.1))
 
 pub overflow_add-count : goal.overflow_add-count
-overflow_add-count c = let call = c.before.before.before.before.before in omega (arith, more call, (at call).loop-count.invariant.0, (at call).before.before.well-formed.1.0)
+overflow_add-count c = let call = c.before.before.before.before.before.before in omega (arith, more call, (at call).loop-count.invariant.0, (at call).well-formed.1.0)
 
 pub loop-count-smaller : goal.loop-count-smaller
-loop-count-smaller c = let call = c.before.before.before.before.before in omega (arith, (at call).loop-count.invariant.0, more call, c.before.if-more-eq0.false)
+loop-count-smaller c = let call = c.before.before.before.before.before.before in omega (arith, (at call).loop-count.invariant.0, more call, c.if-more-eq0.false)
 
 pub loop-count-preserved : goal.loop-count-preserved
-loop-count-preserved c = let call = c.before.before.before.before.before in (long call ∙ (at call).loop-count.invariant.0, omega (arith, long call, more call))
+loop-count-preserved c = let call = c.before.before.before.before.before.before in (long call ∙ (at call).loop-count.invariant.0, omega (arith, long call, more call))
 
 pub returns : goal.returns
-returns c = counted _ c.before.loop-count.buf-1 c.before.loop-count.invariant.1
+returns c = counted _ c.loop-count.buf-1 c.loop-count.invariant.1

@@ -3,15 +3,33 @@ use native.Mathlib.Omega.{arith}
 use Rattle.border.proofs.Laws.{fresh-same, fresh-usable, fresh-spent, finding-first, finding-usable, finding-last, Opens, finds-opens}
 use Rattle.totals.proofs.Loops.{totalling-first, totalling-hands, totalling-once, totalling-next, totalling-last}
 use Rattle.sums.proofs.add_up.Goals as goal
-use Rattle.sums.proofs.add_up.Goals.{After-fill, After-next_opening-found, At-loop-row, In-Opening, In_default, Start}
+use Rattle.sums.proofs.add_up.Goals.{Start}
+use Rattle.sums.proofs.add_up.Lts as lts
+use Rattle.sums.proofs.add_up.Reads as reads
+use Rattle.sums.proofs.add_up.Tie as tie
+
+abbrev After-fill : Type 0
+After-fill = lts.After-fill tie.the-claims reads.Pre reads.Post goal.the-invariant-loop-row goal.the-decreases-loop-row
+
+abbrev At-loop-row : Type 0
+At-loop-row = lts.At-loop tie.the-claims reads.Pre reads.Post goal.the-invariant-loop-row goal.the-decreases-loop-row
+
+abbrev After-next_opening-found : Type 0
+After-next_opening-found = lts.After-next_opening tie.the-claims reads.Pre reads.Post goal.the-invariant-loop-row goal.the-decreases-loop-row
+
+abbrev In-Opening : Type 0
+In-Opening = lts.After-known_told tie.the-claims reads.Pre reads.Post goal.the-invariant-loop-row goal.the-decreases-loop-row
+
+abbrev In_default : Type 0
+In_default = lts.After-enum_told tie.the-claims reads.Pre reads.Post goal.the-invariant-loop-row goal.the-decreases-loop-row
 
 pub fill-requires : goal.fill-requires
-fill-requires c = (omega arith, omega (arith, c.before.before.before.before.before.requires.3.wide))
+fill-requires c = (omega arith, omega (arith, c.requires.3.wide))
 
 pub loop-row-init : goal.loop-row-init
 loop-row-init c =
-    let p = c.before.before.before.before.before.before.before.before.before.requires in
-    rw (c.start-at.ensures, p.5) (totalling-first _ (finding-first _ p.3 c.before.before.before.fill.ensures))
+    let p = c.requires in
+    rw (c.start-at.ensures, p.5) (totalling-first _ (finding-first _ p.3 c.fill.ensures))
 
 -- at a turn: what was there before the loop
 module _ (c : At-loop-row) where
@@ -23,7 +41,7 @@ module _ (c : At-loop-row) where
 
 pub next_opening-found-requires : goal.next_opening-found-requires
 next_opening-found-requires c =
-    let at = c.before in
+    let at = c.before.before in
     ((first at).requires.0, finding-usable at.loop-row.invariant.finding (fresh-usable _ (first at).requires.3 (fresh at).fill.ensures), at.loop-row.invariant.finding.reached)
 
 -- where nothing is left to be found
@@ -36,15 +54,15 @@ module _ (c : In_default) where
 
 pub shape_of-border-in_default : goal.shape_of-border-in_default
 shape_of-border-in_default c =
-    let at = last c in
-    let end = finding-last at.loop-row.invariant.finding (asked c).next_opening-found.ensures c.in_default.is in
+    let at = last c.before in
+    let end = finding-last at.loop-row.invariant.finding (asked c.before).next_opening-found.ensures c.in_default.is in
     end.2.same ∙ fresh-same _ (first at).requires.3 (fresh at).fill.ensures
 
 pub returns-in_default : goal.returns-in_default
 returns-in_default c =
-    let at = last c in
-    let end = finding-last at.loop-row.invariant.finding (asked c).next_opening-found.ensures c.in_default.is in (
-      totalling-last _ (first at).requires.3 (first at).requires.6 at.loop-row.invariant (asked c).next_opening-found.ensures c.in_default.is,
+    let at = last c.before in
+    let end = finding-last at.loop-row.invariant.finding (asked c.before).next_opening-found.ensures c.in_default.is in (
+      totalling-last _ (first at).requires.3 (first at).requires.6 at.loop-row.invariant (asked c.before).next_opening-found.ensures c.in_default.is,
       end.1 ∙ fresh-spent _ (first at).requires.3 (fresh at).fill.ensures,
     )
 
@@ -56,20 +74,20 @@ module _ (c : In-Opening) where
   abbrev turn : At-loop-row
   turn = answered.before.before
 
-  opens : Opens turn.loop-row.invariant.finding c.before.in-Opening.is answered.next_opening-found.last.1.1.1.1.1.1.0
-  opens = finds-opens (first turn).requires.3 turn.loop-row.invariant.finding c.before.in-Opening.is answered.next_opening-found.ensures
+  opens : Opens turn.loop-row.invariant.finding c.in-Opening.is answered.next_opening-found.last.1.1.1.1.1.1.0
+  opens = finds-opens (first turn).requires.3 turn.loop-row.invariant.finding c.in-Opening.is answered.next_opening-found.ensures
 
 pub gather-requires : goal.gather-requires
 gather-requires c =
-    let of = c.before in
+    let of = c.before.before in
     let p = (first (turn of)).requires in
     let T = (turn of).loop-row.invariant in
     (p.1, p.2, totalling-hands _ p.3 p.6 T (opens of) p.4, totalling-once _ p.3 p.6 T (opens of))
 
 pub loop-row-smaller : goal.loop-row-smaller
-loop-row-smaller c = (opens c.before.before).fewer
+loop-row-smaller c = (opens c.before.before.before).fewer
 
 pub loop-row-preserved : goal.loop-row-preserved
 loop-row-preserved c =
-    let at = turn c.before.before in
-    totalling-next _ (first at).requires.3 (first at).requires.6 at.loop-row.invariant (opens c.before.before) c.gather.ensures
+    let at = turn c.before.before.before in
+    totalling-next _ (first at).requires.3 (first at).requires.6 at.loop-row.invariant (opens c.before.before.before) c.gather.ensures

@@ -9,7 +9,16 @@ use Rattle.text.specs.Text.{spaced, line_of}
 use Rattle.text.proofs.Digits.{put-none, line-length}
 use Rattle.text.proofs.Telling.{Telling, telling-first, telling-length, telling-room, telling-lent, telling-part, telling-byte, telling-last}
 use Rattle.text.proofs.put_line.Goals as goal
-use Rattle.text.proofs.put_line.Goals.{After-put_numbers-at, Else-span-most, Start}
+use Rattle.text.proofs.put_line.Goals.{Start}
+use Rattle.text.proofs.put_line.Lts as lts
+use Rattle.text.proofs.put_line.Reads as reads
+use Rattle.text.proofs.put_line.Tie as tie
+
+abbrev Else-span-most : Type 0
+Else-span-most = lts.Else2 tie.the-claims reads.Pre reads.Post
+
+abbrev After-put_numbers-at : Type 0
+After-put_numbers-at = lts.After-put_numbers tie.the-claims reads.Pre reads.Post
 
 -- where the line fits
 module _ (c : Else-span-most) where
@@ -29,7 +38,7 @@ module _ (c : Else-span-most) where
   line = line_of letter numbers
 
   room : length line ≤ length out
-  room = omega (arith, line-length letter numbers, c.before.span.ensures, c.if-span-most.false, c.before.before.if-out-lt2.false)
+  room = omega (arith, line-length letter numbers, c.span.ensures, c.if-span-most.false, c.if-out-lt2.false)
 
   lettered : Telling line (spaced numbers ++ (10 ∷ [])) 1 out (set out 0 letter)
   unfolding line_of
@@ -44,30 +53,33 @@ module _ (c : After-put_numbers-at) where
   numbered = telling-part (lettered fits) (spaced (numbers fits)) (10 ∷ []) refl c.put_numbers-at.ensures
 
 pub returns-then-out-lt2 : goal.returns-then-out-lt2
-returns-then-out-lt2 c = sym (put-none _ _ (omega (arith, line-length c.before.before.before.args.letter c.before.before.before.args.numbers.now, c.if-out-lt2.true)))
+returns-then-out-lt2 c = sym (put-none _ _ (omega (arith, line-length c.args.letter c.args.numbers.now, c.if-out-lt2.true)))
 
 pub returns-then-span-most : goal.returns-then-span-most
 returns-then-span-most c =
-    let start = c.before.before.before.before.before in
-    sym (put-none _ _ (omega (arith, line-length start.args.letter start.args.numbers.now, c.before.span.ensures, c.if-span-most.true, c.before.before.if-out-lt2.false)))
+    let start = c.before.before.before.before.before.before in
+    sym (put-none _ _ (omega (arith, line-length start.args.letter start.args.numbers.now, c.span.ensures, c.if-span-most.true, c.if-out-lt2.false)))
 
 pub slice_bounds-put_numbers-count : goal.slice_bounds-put_numbers-count
-slice_bounds-put_numbers-count c = omega (arith, telling-room (lettered c))
+slice_bounds-put_numbers-count c = omega (arith, telling-room (lettered c.before))
+
+pub slice_bounds-put_numbers-start : goal.slice_bounds-put_numbers-start
+slice_bounds-put_numbers-start c = omega (arith, telling-room (lettered c.before))
 
 pub put_numbers-at-requires : goal.put_numbers-at-requires
-put_numbers-at-requires c = telling-lent (lettered c.before) (spaced (numbers c.before)) (10 ∷ []) refl
+put_numbers-at-requires c = telling-lent (lettered c.before.before) (spaced (numbers c.before.before)) (10 ∷ []) refl
 
 pub overflow_add-at : goal.overflow_add-at
-overflow_add-at c = omega (arith, telling-length (numbered c.before.before), (numbered c.before.before).room)
+overflow_add-at c = omega (arith, telling-length (numbered c.before.before.before), (numbered c.before.before.before).room)
 
 pub bounds-out-at : goal.bounds-out-at
-bounds-out-at c = omega (arith, telling-room (numbered c.before.before))
+bounds-out-at c = omega (arith, telling-room (numbered c.before.before.before))
 
 pub overflow_add-result : goal.overflow_add-result
-overflow_add-result c = omega (arith, telling-length (numbered c.before.before), (numbered c.before.before).room)
+overflow_add-result c = omega (arith, telling-length (numbered c.before.before.before), (numbered c.before.before.before).room)
 
 pub shape_of-out : goal.shape_of-out
-shape_of-out c = rw length-set (numbered c.before.before).filled.same
+shape_of-out c = rw length-set (numbered c.before.before.before).filled.same
 
 pub returns : goal.returns
-returns c = telling-last (telling-byte (numbered c.before.before) 10 [] refl) refl
+returns c = telling-last (telling-byte (numbered c.before.before.before) 10 [] refl) refl

@@ -7,19 +7,19 @@ use Rattle.text.proofs.span.Goals as goal
 
 pub returns-then-most-total : goal.returns-then-most-total
 returns-then-most-total c =
-    let turn = c.before.before.before in
-    let xs = turn.before.before.before.args.numbers.now in
-    let i = turn.before.loop-i.i in
-    omega (arith, turn.before.loop-i.invariant.0, c.before.width-n.ensures, c.if-most-total.true, span-next xs i turn.loop-i-test.true)
+    let turn = c.before.before.before.before in
+    let xs = turn.args.numbers.now in
+    let i = turn.loop-i.i in
+    omega (arith, turn.loop-i.invariant.0, c.width-n.ensures, c.if-most-total.true, span-next xs i turn.loop-i-test.true)
 
 pub loop-i-preserved : goal.loop-i-preserved
 loop-i-preserved c =
-    let turn = c.before.before.before in
-    let xs = turn.before.before.before.args.numbers.now in
-    let i = turn.before.loop-i.i in
-    omega (arith, turn.before.loop-i.invariant.0, c.before.width-n.ensures, c.if-most-total.false, span-next xs i turn.loop-i-test.true)
+    let turn = c.before.before.before.before in
+    let xs = turn.args.numbers.now in
+    let i = turn.loop-i.i in
+    omega (arith, turn.loop-i.invariant.0, c.width-n.ensures, c.if-most-total.false, span-next xs i turn.loop-i-test.true)
 
 pub returns : goal.returns
 returns c =
-    let none = ap length (spaced-none c.before.before.before.args.numbers.now c.before.loop-i.i c.loop-i-test.false) in
-    omega (arith, c.before.loop-i.invariant.0)
+    let none = ap length (spaced-none c.args.numbers.now c.loop-i.i c.loop-i-test.false) in
+    omega (arith, c.loop-i.invariant.0)

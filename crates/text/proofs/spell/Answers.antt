@@ -12,10 +12,10 @@ pub loop-rest-init : goal.loop-rest-init
 loop-rest-init c = (spell-first _ _ _ (search rules) (omega (arith, width_some c.args.x)) c.requires, refl)
 
 pub overflow_sub-i-in-loop-rest : goal.overflow_sub-i-in-loop-rest
-overflow_sub-i-in-loop-rest c = spell-more c.before.loop-rest.invariant.0 c.loop-rest-test.true
+overflow_sub-i-in-loop-rest c = spell-more c.loop-rest.invariant.0 c.loop-rest-test.true
 
 pub loop-rest-preserved : goal.loop-rest-preserved
-loop-rest-preserved c = (spell_next c.before.loop-rest.invariant.0 c.loop-rest-test.true, search rules)
+loop-rest-preserved c = (spell_next c.loop-rest.invariant.0 c.loop-rest-test.true, search rules)
 
 pub returns : goal.returns
-returns c = spell_last c.before.loop-rest.invariant.0 c.loop-rest-test.false
+returns c = spell_last c.loop-rest.invariant.0 c.loop-rest-test.false

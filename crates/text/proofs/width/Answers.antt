@@ -4,7 +4,7 @@ use Rattle.text.proofs.Digits.{width_small, width-large}
 use Rattle.text.proofs.width.Goals as goal
 
 pub loop-rest-preserved : goal.loop-rest-preserved
-loop-rest-preserved c = omega (arith, width-large c.before.loop-rest.rest c.loop-rest-test.true (search rules))
+loop-rest-preserved c = omega (arith, width-large c.loop-rest.rest c.loop-rest-test.true (search rules))
 
 pub returns : goal.returns
-returns c = omega (arith, width_small c.before.loop-rest.rest c.loop-rest-test.false)
+returns c = omega (arith, width_small c.loop-rest.rest c.loop-rest-test.false)

@@ -4,7 +4,7 @@ use Rattle.used.proofs.Use.{view-outside, view-inside}
 use Rattle.used.proofs.in_view.Goals as goal
 
 pub returns-then-outside : goal.returns-then-outside
-returns-then-outside c = sym (view-outside _ _ _ (sym c.before.outside.ensures ∙ c.if-outside.true))
+returns-then-outside c = sym (view-outside _ _ _ (sym c.outside.ensures ∙ c.if-outside.true))
 
 pub returns : goal.returns
-returns c = c.wide_enough.ensures ∙ sym (view-inside _ _ _ (sym c.before.before.outside.ensures ∙ c.before.if-outside.false))
+returns c = c.wide_enough.ensures ∙ sym (view-inside _ _ _ (sym c.outside.ensures ∙ c.if-outside.false))

@@ -8,4 +8,4 @@ pub returns-then-count-eq0 : goal.returns-then-count-eq0
 returns-then-count-eq0 c = sym (beyond-none _ _ _ (omega (arith, c.if-count-eq0.true)))
 
 pub returns : goal.returns
-returns c = rw c.side.ensures.is (sym (beyond-some _ _ _ c.before.if-count-eq0.false))
+returns c = rw c.side.ensures.is (sym (beyond-some _ _ _ c.if-count-eq0.false))

@@ -16,12 +16,12 @@ module _ (c : After-least-both) where
 
   bit : count_leading_zeros 32 (2 * c.least-both.result + 1) ≤ 30
   bit =
-      let rows = c.before.before.reach-rows.ensures in
-      leading-most _ (omega (arith, c.least-both.ensures, rows.some, c.before.reach-cols.ensures.some)) (omega (arith, c.least-both.ensures, rows.most))
+      let rows = c.reach-rows.ensures in
+      leading-most _ (omega (arith, c.least-both.ensures, rows.some, c.reach-cols.ensures.some)) (omega (arith, c.least-both.ensures, rows.most))
 
   is : min entry.args.top (30 - count_leading_zeros 32 (2 * c.least-both.result + 1)) ≡ exponent entry.args.window entry.args.top (entry.args.row, entry.args.col)
   is =
-      exponent-least _ _ entry.requires.2 entry.requires.0 c.before.before.reach-rows.ensures c.before.reach-cols.ensures
+      exponent-least _ _ entry.requires.2 entry.requires.0 c.reach-rows.ensures c.reach-cols.ensures
       (ap (λ (x : ℕ). 30 - count_leading_zeros 32 (2 * x + 1)) c.least-both.ensures)
 
 pub overflow_sub-i : goal.overflow_sub-i

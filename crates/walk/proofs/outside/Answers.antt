@@ -4,7 +4,7 @@ use Rattle.window.proofs.Loops.{outside-rows, outside-cols}
 use Rattle.walk.proofs.outside.Goals as goal
 
 pub returns-then-beyond : goal.returns-then-beyond
-returns-then-beyond c = sym (outside-rows _ _ (sym c.before.beyond.ensures ∙ c.if-beyond.true))
+returns-then-beyond c = sym (outside-rows _ _ (sym c.beyond.ensures ∙ c.if-beyond.true))
 
 pub returns : goal.returns
-returns c = c.beyond-2.ensures ∙ sym (outside-cols _ _ (sym c.before.before.beyond.ensures ∙ c.before.if-beyond.false))
+returns c = c.beyond-2.ensures ∙ sym (outside-cols _ _ (sym c.beyond.ensures ∙ c.if-beyond.false))

@@ -20,10 +20,34 @@ use Rattle.why.proofs.Listed.{listed-names}
 use Rattle.why.proofs.Blocks.{said-opened, said-skipped}
 use Rattle.why.proofs.Tables.{why-refused, why-more, why-done, key-refused, key-passed}
 use Rattle.why.proofs.of_block.Goals as goal
-use Rattle.why.proofs.of_block.Goals.{After-bring-brought, After-maximal, After-record_at-index, After-square_of-square, After-struct_known-1, Else-not-maximal, In_default, Start}
+use Rattle.why.proofs.of_block.Goals.{Start}
+use Rattle.why.proofs.of_block.Lts as lts
+use Rattle.why.proofs.of_block.Reads as reads
+use Rattle.why.proofs.of_block.Tie as tie
+
+abbrev In_default : Type 0
+In_default = lts.After-enum_told tie.the-claims reads.Pre reads.Post
+
+abbrev After-square_of-square : Type 0
+After-square_of-square = lts.After-square_of tie.the-claims reads.Pre reads.Post
+
+abbrev After-maximal : Type 0
+After-maximal = lts.After-maximal tie.the-claims reads.Pre reads.Post
+
+abbrev Else-not-maximal : Type 0
+Else-not-maximal = lts.Else1 tie.the-claims reads.Pre reads.Post
+
+abbrev After-record_at-index : Type 0
+After-record_at-index = lts.After-record_at tie.the-claims reads.Pre reads.Post
+
+abbrev After-bring-brought : Type 0
+After-bring-brought = lts.After-bring tie.the-claims reads.Pre reads.Post
+
+abbrev After-struct_known-1 : Type 0
+After-struct_known-1 = lts.After-struct_known tie.the-claims reads.Pre reads.Post
 
 pub returns-in-Refused : goal.returns-in-Refused
-returns-in-Refused c = sym (why-refused _ _ _ _ _ _ _ (sym c.before.before.before.usable-verdict.ensures ∙ c.before.in-Refused.is))
+returns-in-Refused c = sym (why-refused _ _ _ _ _ _ _ (sym c.usable-verdict.ensures ∙ c.in-Refused.is))
 
 -- where refusals 1 to 7 do not hold
 module _ (c : In_default) where
@@ -31,13 +55,13 @@ module _ (c : In_default) where
   first = c.before.before.before.before.before.before
 
   passed : let a = first.args in verdict (use_refusals a.m a.keys.now (length a.classes.now) a.window (length a.border-1.now)) ≡ Passed
-  passed = sym c.before.before.usable-verdict.ensures ∙ c.in_default.is
+  passed = sym c.usable-verdict.ensures ∙ c.in_default.is
 
   known : let a = first.args in Usable a.m a.m a.keys.now a.window (length a.border-1.now)
   known = use-known true _ _ _ _ _ passed
 
 pub square_of-square-requires : goal.square_of-square-requires
-square_of-square-requires c = (known c.before).small
+square_of-square-requires c = (known c.before.before).small
 
 -- what is asked of the key
 module _ (c : After-maximal) where
@@ -49,16 +73,16 @@ module _ (c : After-maximal) where
 
 pub maximal-requires : goal.maximal-requires
 maximal-requires c =
-    let squared = c.before in
+    let squared = c.before.before in
     let U = known squared.before.before in
-    (squared.before.spread_table-table.ensures, U.small, U.inside, squared.square_of-square.ensures)
+    (squared.spread_table-table.ensures, U.small, U.inside, squared.square_of-square.ensures)
 
 turned : {b t : Bool} → not b ≡ t → b ≡ not t
 turned {b} e = sym (not-not b) ∙ ap not e
 
 pub returns-then-not-maximal : goal.returns-then-not-maximal
 returns-then-not-maximal c =
-    let asked = c.before in
+    let asked = c.before.before in
     sym (why-more _ _ _ _ _ _ _ (passed (at asked)) (key-refused _ _ _ (λ n. never (sym (asked.maximal.ensures.1 n) ∙ turned c.if-not-maximal.true))))
 
 -- the arm of a maximal block
@@ -67,21 +91,21 @@ module _ (c : Else-not-maximal) where
   told = at c.before
 
   listed : let a = (first told).args in Memᴰ a.key (keys_of a.m a.m a.window)
-  listed = c.before.maximal.ensures.0 (turned c.if-not-maximal.false)
+  listed = c.maximal.ensures.0 (turned c.if-not-maximal.false)
 
   whole : Follow (first told).args.m 0 (first told).args.keys.now
   whole = use-whole _ _ _ _ _ (passed told)
 
 pub record_at-index-requires : goal.record_at-index-requires
 record_at-index-requires c =
-    let of = c.before in
+    let of = c.before.before in
     let U = known (told of) in
-    ((squared of.before).before.spread_table-table.ensures, U.small, U.few, whole of, (squared of.before).square_of-square.ensures.pixel)
+    ((squared of.before).spread_table-table.ensures, U.small, U.few, whole of, (squared of.before).square_of-square.ensures.pixel)
 
 pub bring-brought-requires : goal.bring-brought-requires
 bring-brought-requires c =
-    let of = c.before.before.before.before in
-    ((squared of.before).before.spread_table-table.ensures, known (told of))
+    let of = c.before.before.before.before.before in
+    ((squared of.before).spread_table-table.ensures, known (told of))
 
 -- what is said, by the opening that brings the record of the block's corner
 module _ (c : After-struct_known-1) where
@@ -106,10 +130,10 @@ module _ (c : After-struct_known-1) where
 
 pub returns-then-brought-key : goal.returns-then-brought-key
 returns-then-brought-key c =
-    let s = c.before in
+    let s = c.before.before in
     answers s (said-opened (whole (of s)) (known (told (of s))).inside (listed (of s)) (first-is s) (brought s).bring-brought.ensures.0 c.if-brought-key.true)
 
 pub returns : goal.returns
 returns c =
-    let s = c.before in
+    let s = c.before.before in
     answers s (said-skipped (whole (of s)) (known (told (of s))).inside (listed (of s)) (first-is s) (brought s).bring-brought.ensures.0 c.if-brought-key.false)

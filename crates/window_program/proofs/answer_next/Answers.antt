@@ -5,7 +5,7 @@ use Rattle.text.proofs.Laws.{put-within}
 use Rattle.window_program.proofs.answer_next.Goals as goal
 
 pub slice_bounds-text-end : goal.slice_bounds-text-end
-slice_bounds-text-end c = put-within _ _ c.before.put_next-n.ensures
+slice_bounds-text-end c = put-within _ _ c.put_next-n.ensures
 
 pub slice_bounds-print-end : goal.slice_bounds-print-end
-slice_bounds-print-end c = simp length-take (omega (arith, put-within _ _ c.before.before.put_next-n.ensures))
+slice_bounds-print-end c = simp length-take (omega (arith, put-within _ _ c.put_next-n.ensures))
