@@ -27,19 +27,19 @@ pub overflow_add-place : goal.overflow_add-place
 overflow_add-place c = omega (arith, (room c.before).span, c.pow4.ensures, pow-most 3 c.args.m c.requires.1)
 
 pub bounds-ones-i : goal.bounds-ones-i
-bounds-ones-i c = omega (arith, (room c.before.before).small, c.requires.1)
+bounds-ones-i c = omega (arith, (room c.before.before.before).small, c.requires.1)
 
 pub overflow_mul-end : goal.overflow_mul-end
-overflow_mul-end c = omega (arith, own c.before.before.before, end c.before.before.before, most c.before.before.before)
+overflow_mul-end c = omega (arith, own c.before.before.before.before, end c.before.before.before.before, most c.before.before.before.before)
 
 pub overflow_add-end : goal.overflow_add-end
-overflow_add-end c = omega (arith, own c.before.before.before, end c.before.before.before, most c.before.before.before)
+overflow_add-end c = omega (arith, own c.before.before.before.before, end c.before.before.before.before, most c.before.before.before.before)
 
 pub overflow_add-end-2 : goal.overflow_add-end-2
-overflow_add-end-2 c = omega (arith, own c.before.before.before, end c.before.before.before, most c.before.before.before)
+overflow_add-end-2 c = omega (arith, own c.before.before.before.before, end c.before.before.before.before, most c.before.before.before.before)
 
 pub returns : goal.returns
 returns c =
     let s = c.before.before.before in
     let reached : s.args.start + c.pow4.result ≡ s.args.start + 4 ^ s.args.i = omega (arith, c.pow4.ensures.is) in
-    (reached, next-stands s.requires.1 s.requires.2 reached refl (omega (arith, own s)))
+    (reached, next-stands s.requires.1 s.requires.2 reached refl (omega (arith, own s.before)))

@@ -37,22 +37,22 @@ pub overflow_add-first : goal.overflow_add-first
 overflow_add-first c =
     let s = c.before.before.before in
     let i = s.args.i in
-    omega (arith, own c.before.before, (block-lies s.requires.2).keys, ones-pow i, pow-most 4 s.args.m s.requires.1)
+    omega (arith, own c.before.before.before, (block-lies s.requires.2).keys, ones-pow i, pow-most 4 s.args.m s.requires.1)
 
 pub overflow_cast-largest : goal.overflow_cast-largest
-overflow_cast-largest c = omega (arith, small c.before.before)
+overflow_cast-largest c = omega (arith, small c.before.before.before)
 
 pub offset_bounds-ones-top : goal.offset_bounds-ones-top
-offset_bounds-ones-top c = omega (arith, small c.before.before)
+offset_bounds-ones-top c = omega (arith, small c.before.before.before)
 
 pub bounds-ones-top : goal.bounds-ones-top
-bounds-ones-top c = omega (arith, small c.before.before)
+bounds-ones-top c = omega (arith, small c.before.before.before)
 
 pub overflow_sub-largest : goal.overflow_sub-largest
-overflow_sub-largest c = let e = c.before.before.before in omega (arith, own e, largest e, room e)
+overflow_sub-largest c = let e = c.before.before.before in omega (arith, own e.before, largest e.before, room e.before)
 
 pub returns : goal.returns
 returns c =
     let e = c.before.before.before in
-    let p = (start e).requires in
-    (refl, begin-stands {top = top e} p.1 p.2 (some e) refl refl refl (omega (arith, own e, largest e, room e)))
+    let p = (start e.before).requires in
+    (refl, begin-stands {top = top e.before} p.1 p.2 (some e.before) refl refl refl (omega (arith, own e, largest e, room e)))

@@ -42,34 +42,34 @@ module _ (c : After-wrapping_sub_u32-over) where
 
 pub overflow_cast-exponent-2 : goal.overflow_cast-exponent-2
 unfolding over digits
-overflow_cast-exponent-2 c = omega (arith, (tells c.before.before).small)
+overflow_cast-exponent-2 c = omega (arith, (tells c.before.before.before).small)
 
 pub overflow_cast-exponent-3 : goal.overflow_cast-exponent-3
 unfolding over digits
-overflow_cast-exponent-3 c = omega (arith, (tells c.before.before).small)
+overflow_cast-exponent-3 c = omega (arith, (tells c.before.before.before).small)
 
 pub offset_bounds-ones-exponent : goal.offset_bounds-ones-exponent
 unfolding over digits
-offset_bounds-ones-exponent c = omega (arith, (tells c.before.before).small)
+offset_bounds-ones-exponent c = omega (arith, (tells c.before.before.before).small)
 
 pub bounds-ones-exponent : goal.bounds-ones-exponent
 unfolding over digits
-bounds-ones-exponent c = omega (arith, (tells c.before.before).small)
+bounds-ones-exponent c = omega (arith, (tells c.before.before.before.before).small)
 
 pub returns-then-ones-exponent : goal.returns-then-ones-exponent
 unfolding over digits
 returns-then-ones-exponent c =
     let e = c.before.before.before.before in
-    fits-unlike (start e).requires.3 (inside e) (start e).requires.2 (tells e) (less e) c.if-ones-exponent.true
+    fits-unlike (start e.before.before).requires.3 (inside e.before.before) (start e.before.before).requires.2 (tells e) (less e) c.if-ones-exponent.true
 
 pub returns-then-spot-exponent : goal.returns-then-spot-exponent
 unfolding over digits
 returns-then-spot-exponent c =
     let e = c.before.before.before.before.before.before in
-    fits-large (start e).requires.3 (inside e) (start e).requires.2 (tells e) (less e) c.if-spot-exponent.true
+    fits-large (start e.before.before).requires.3 (inside e.before.before) (start e.before.before).requires.2 (tells e) (less e) c.if-spot-exponent.true
 
 pub returns : goal.returns
 unfolding over digits
 returns c =
     let e = c.before.before.before.before.before.before in
-    fits-here (start e).requires.3 (inside e) (start e).requires.2 (tells e) (less e) c.if-ones-exponent.false c.if-spot-exponent.false
+    fits-here (start e.before.before).requires.3 (inside e.before.before) (start e.before.before).requires.2 (tells e) (less e) c.if-ones-exponent.false c.if-spot-exponent.false

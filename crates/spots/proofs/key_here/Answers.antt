@@ -15,9 +15,9 @@ module _ (c : Start) where
   room = omega (arith, (fits-start c.requires.2 c.requires.3 c.requires.4).2)
 
 pub overflow_sub-result : goal.overflow_sub-result
-overflow_sub-result c = let s = c.before.before.before in omega (arith, c.pixel_at.ensures, own s, room s)
+overflow_sub-result c = let s = c.before.before.before in omega (arith, c.pixel_at.ensures, own s.before, room s.before)
 
 pub returns : goal.returns
 returns c =
     let s = c.before.before.before in
-    (fits-key s.requires.2 s.requires.3).1 (s.requires.4, omega (arith, c.pixel_at.ensures, own s, room s))
+    (fits-key s.requires.2 s.requires.3).1 (s.requires.4, omega (arith, c.pixel_at.ensures, own s.before, room s.before))

@@ -12,7 +12,7 @@ pub bounds-ones-spot : goal.bounds-ones-spot
 bounds-ones-spot c = let s = c.before.before in omega (arith, s.requires.1, s.requires.2.cap)
 
 pub overflow_add-result : goal.overflow_add-result
-overflow_add-result c = let s = c.before.before.before.before in omega (arith, told s, pixel-room s.requires.2 s.requires.3 s.requires.1)
+overflow_add-result c = let s = c.before.before.before.before in omega (arith, told s.before, pixel-room s.requires.2 s.requires.3 s.requires.1)
 
 pub returns : goal.returns
-returns c = let s = c.before.before.before.before in omega (arith, told s)
+returns c = let s = c.before.before.before.before in omega (arith, told s.before)
