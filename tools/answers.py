@@ -103,6 +103,68 @@ def turn(names, crate, path, folder):
             typed.add(new)
         if step[0]:
             steps[norm(step[0])] = step[1]
+    # the places of an arm are one, which stands where the last of them stood
+    parent = {x[0]: x[1] for x in d["places"]}
+    arm_of = {x[0]: a for x, a in zip(d["places"], d["arms"]) if a}
+    for new in list(raw):
+        old = raw[new]
+        if old in arm_of and not any(parent[q] == old and q in arm_of and arm_of[q][0] == arm_of[old][0] and arm_of[q][1] == arm_of[old][1] + 1 for q in parent):
+            raw[new] = "Past-" + old
+    old_of = {new: x[0] for x, new in zip(d["places"], d["places_by_name"])}
+
+    def shown(old):
+        new = next(n for n in old_of if old_of[n] == old)
+        return raw[new]
+
+    def chain(old):
+        """The places up from one, as today's records stand."""
+        out = [shown(old)]
+        while True:
+            if old in arm_of and shown(old).startswith("Past-"):
+                while old in arm_of and arm_of[old][1] > 1 and arm_of.get(parent[old], [None])[0] == arm_of[old][0]:
+                    old = parent[old]
+            old = parent.get(old)
+            if old is None:
+                return out
+            out.append(shown(old))
+
+    # what takes a place: its name and the place
+    takes = {}
+    for it in items:
+        m = re.match(r"module _ \((" + TOKEN + r") : tie\.(" + TOKEN + r")", it["lines"][0])
+        if m and norm(m.group(2)) in places:
+            it["var"] = (m.group(1), places[norm(m.group(2))])
+            for line in it["lines"][1:]:
+                mm = re.match(r"  (?:(?:abbrev|unfoldable|pub) )*(" + TOKEN + r") :", line)
+                if mm:
+                    takes[mm.group(1)] = it["var"][1]
+        m = re.match(r"(?:(?:abbrev|pub) )*(" + TOKEN + r") : (?:\{[^}]*\} → )*\((" + TOKEN + r") : tie\.(" + TOKEN + r")[^)]*\) →", it["lines"][0])
+        if not m:
+            m = re.match(r"(?:(?:abbrev|pub) )*(" + TOKEN + r") :()(?: tie\.)(" + TOKEN + r")(?: invariant-\S+| decreases-\S+)* →", it["lines"][0])
+            if m and m.group(3).startswith("Need"):
+                m = None
+        if m and norm(m.group(3)) in places:
+            takes[m.group(1)] = places[norm(m.group(3))]
+            it["var"] = (m.group(2) or "c", places[norm(m.group(3))])
+
+    def up(var, at, to, extra):
+        c = chain(old_of[at])
+        want = raw[to]
+        return var + ".before" * (c.index(want) + extra) if want in c else None
+
+    def settle(s, var, at, extra):
+        """Chains of `before` that are handed to what takes a place."""
+        def one(m):
+            return m.group(1) + (up(var, at, takes[m.group(2)], extra) or m.group(3))
+        for h in takes:
+            s = re.sub(r"((?<![\w'.₀-₉-])(" + re.escape(h) + r") )(" + re.escape(var) + r"(?:\.before)*)(?![\w'.₀-₉-])", one, s)
+        # a place that is named
+        def named(m):
+            q = next((n for n in old_of if n == m.group(3)), None)
+            return m.group(1) + ((up(var, at, q, extra) if q else None) or m.group(4))
+        s = re.sub(r"(abbrev (" + TOKEN + r") : (" + TOKEN + r")\n\s*\2 = )(" + re.escape(var) + r"(?:\.before)*)(?![\w'.₀-₉-])", named, s)
+        return s
+
     asked = {}
     for (_, new), (_, where) in zip(d["needs"], d["asked_at"]):
         asked[new] = where
@@ -129,10 +191,24 @@ def turn(names, crate, path, folder):
                 renamed[it["name"]] = new
 
     def step_of(s):
-        for t in (s, re.sub(r"_lem$", "", s)):
+        for t in (s, re.sub(r"_lem$", "", s), s[:1].lower() + s[1:]):
             if norm(t) in steps:
                 return steps[norm(t)]
         return None
+
+    def fields_of(m):
+        """A path of fields: the first that is no `before` may be a step."""
+        parts = m.group(1).split(".")[1:]
+        for i, q in enumerate(parts):
+            if q == "before":
+                continue
+            new = step_of(q)
+            if q in ("args", "requires", "ranges", "lifetimes"):
+                break
+            if new and not (q in ("result", "out", "new", "is", "totals", "cells", "border", "keys", "classes", "table", "to", "from") and (i + 1 == len(parts) or parts[i + 1] not in ("given", "element_fits"))):
+                parts[i] = new
+            break
+        return "." + ".".join(parts)
 
     def body(s):
         s = re.sub(r"tie\.(" + TOKEN + r")((?: invariant-" + TOKEN + r"| decreases-" + TOKEN + r")*)", place, s)
@@ -141,9 +217,9 @@ def turn(names, crate, path, folder):
         for step, at, arm, new in fields:
             pat = r"\.(" + re.sub(r"\\?-", "[-_]", re.escape(step)) + r"(?:_lem)?)" + "".join(r"\." + re.escape(a) for a in at) + r"(?![\w'-])"
             s = re.sub(pat, f".{arm}.{new}", s)
-        s = re.sub(r"\.(" + TOKEN + r")", lambda m: "." + (step_of(m.group(1)) or m.group(1)), s)
+        s = re.sub(r"((?:\." + TOKEN + r")+)", fields_of, s)
         s = re.sub(r"(?<![\w'.₀-₉-])(" + TOKEN + r")", lambda m: renamed.get(m.group(1), m.group(1)), s)
-        s = re.sub(r"(-test)\.left(?![\w'-])", r"\1.false", s)
+        s = re.sub(r"(-test|\.if-[\w'-]+)\.left(?![\w'-])", r"\1.false", s)
         s = re.sub(r"(?:\.before)+(?=\.(?!before))", "", s)
         return s
 
@@ -207,9 +283,14 @@ def turn(names, crate, path, folder):
             b = body(b)
             if asked.get(new) in typed:
                 b = re.sub(r"(?ms)^(" + re.escape(new) + r" c\s*=)(.*)$", lambda m: m.group(1) + lower(m.group(2)), b)
+            if new in asked:
+                b = settle(b, "c", asked[new], 1 if asked[new] in typed else 0)
             ans.append("\n".join(it["comment"] + [f"pub {new} : goal.{new}", b]))
             continue
-        ans.append("\n".join(it["comment"] + [body("\n".join(it["lines"]))]))
+        b = body("\n".join(it["lines"]))
+        if "var" in it:
+            b = settle(b, it["var"][0], it["var"][1], 0)
+        ans.append("\n".join(it["comment"] + [b]))
     uses = [u for u in uses if not re.search(r"\.Statement\.\{statement\}$|\.Tie as tie$", u)]
     mod = f"Rattle.{crate}.proofs.{path.replace('/', '.')}"
     # definitions that the invariants cite

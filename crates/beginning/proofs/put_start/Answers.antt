@@ -21,7 +21,7 @@ module _ (c : After-read-reading) where
   abbrev asked : Start
   asked = c.before.before.before.before.before.before.before
 
-  got : Got asked.args.file.now asked.args.keys-1.now asked.args.classes-1.now c.read-reading.result c.read-reading.new.1.0 c.read-reading.new.1.1.0
+  got : Got asked.args.file.now asked.args.keys.now asked.args.classes.now c.read-reading.result c.read-reading.new.keys c.read-reading.new.classes
   got = record { is = c.read-reading.ensures; keys = asked.requires.0; classes = asked.requires.1 }
 
 -- and where it was not refused: the records fit in the two slices
@@ -32,7 +32,7 @@ module _ (c : In-Read-2) where
   abbrev count : ℕ
   count = c.in-Read.count
 
-  room : (count ≤ 1000) × (length read.read-reading.last.1.0 ≡ 1000) × (length read.read-reading.last.1.1.0 ≡ 1000)
+  room : (count ≤ 1000) × (length read.read-reading.new.keys ≡ 1000) × (length read.read-reading.new.classes ≡ 1000)
   room = (start-room (got read) c.in-Read.is, read.read-reading.kept.1.0 ∙ (asked read).requires.0, read.read-reading.kept.1.1.0 ∙ (asked read).requires.1)
 
 pub slice_bounds-put_map-end : goal.slice_bounds-put_map-end

@@ -14,7 +14,7 @@ use Rattle.checks.proofs.check.Reads as reads
 use Rattle.checks.proofs.check.Tie as tie
 
 abbrev In_default : Type 0
-In_default = lts.After-enum_told tie.the-claims reads.Pre reads.Post
+In_default = lts.Past-After-enum_told tie.the-claims reads.Pre reads.Post
 
 pub returns-in-Refused : goal.returns-in-Refused
 returns-in-Refused c = sym (check-refused _ _ _ _ (sym c.sound-verdict.ensures ∙ c.in-Refused.is))
@@ -22,7 +22,7 @@ returns-in-Refused c = sym (check-refused _ _ _ _ (sym c.sound-verdict.ensures �
 -- behind the test: the map has passed
 module _ (c : In_default) where
   abbrev start : Start
-  start = c.before.before.before.before.before
+  start = c.before.before.before.before
 
   passed : verdict (map_refusals_in start.args.whole start.args.m start.args.keys.now (length start.args.classes.now)) ≡ Passed
   passed = sym c.sound-verdict.ensures ∙ c.in_default.is

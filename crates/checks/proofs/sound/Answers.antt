@@ -13,7 +13,7 @@ use Rattle.checks.proofs.sound.Reads as reads
 use Rattle.checks.proofs.sound.Tie as tie
 
 abbrev In_default : Type 0
-In_default = lts.After-enum_told tie.the-claims reads.Pre reads.Post
+In_default = lts.Past-After-enum_told tie.the-claims reads.Pre reads.Post
 
 pub returns-in-Refused : goal.returns-in-Refused
 returns-in-Refused c = sym (sizes-refused _ _ _ _ (sym c.sizes-sizes.ensures ∙ c.in-Refused.is))
@@ -21,7 +21,7 @@ returns-in-Refused c = sym (sizes-refused _ _ _ _ (sym c.sizes-sizes.ensures ∙
 -- behind the first test: the sizes have passed
 module _ (c : In_default) where
   abbrev start : Start
-  start = c.before.before.before.before.before
+  start = c.before.before.before.before
 
   passed : verdict (size_refusals_in start.args.whole start.args.m (length start.args.keys.now) (length start.args.classes.now)) ≡ Passed
   passed = sym c.sizes-sizes.ensures ∙ c.in_default.is

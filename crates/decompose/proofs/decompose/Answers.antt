@@ -22,7 +22,7 @@ use Rattle.decompose.proofs.decompose.Reads as reads
 use Rattle.decompose.proofs.decompose.Tie as tie
 
 abbrev In_default : Type 0
-In_default = lts.After-enum_told tie.the-claims reads.Pre reads.Post
+In_default = lts.Past-After-enum_told tie.the-claims reads.Pre reads.Post
 
 abbrev Else-outside : Type 0
 Else-outside = lts.Else1 tie.the-claims reads.Pre reads.Post
@@ -36,7 +36,7 @@ returns-in-Refused c = sym (decompose-tile _ _ _ _ (sym c.tile-tile.ensures ∙ 
 -- where refusals 1 and 17 do not hold
 module _ (c : In_default) where
   abbrev entry : Start
-  entry = c.before.before.before.before
+  entry = c.before.before.before
 
   passed : verdict (tile_refusals entry.args.m entry.args.top) ≡ Passed
   passed = sym c.tile-tile.ensures ∙ c.in_default.is
@@ -48,7 +48,7 @@ module _ (c : In_default) where
   keys = keys_of entry.args.m entry.args.top entry.args.window
 
   abbrev lent : List ℕ
-  lent = entry.args.out-1.now
+  lent = entry.args.out.now
 
 pub outside-requires : goal.outside-requires
 outside-requires c = omega (arith, small c.before)
@@ -93,13 +93,16 @@ module _ (c : Joined-out-most_blocks) where
   abbrev now : In_default
   now = told (clear c.before)
 
-  ready : (c.if-out-most_blocks.out-1 ≡ lent now) × (length (keys now) ≤ length (lent now))
+  ready : (c.if-out-most_blocks.out ≡ lent now) × (length (keys now) ≤ length (lent now))
   ready =
       let few = blocks-most (entry now).args.window (entry now).args.top (drawn (clear c.before)) in
-      ⊎_elim
-      (λ w. let same = listed-nothing w.3.ensures (lent now) in (w.7 ∙ same, omega (arith, listed-count w.3.ensures, w.6.left, ap length same)))
-      (λ w. (w.1, omega (arith, keys_length (entry now).args.m (entry now).args.top (entry now).args.window, few, c.most_blocks.ensures, w.0.left)))
-      c.if-out-most_blocks.branch
+      elim c.if-out-most_blocks.branch [
+          goal.then-out-most_blocks+else-out-needed w ↦
+              let same = listed-nothing w.list_blocks-needed.ensures (lent now) in
+              (w.out-is ∙ same, omega (arith, listed-count w.list_blocks-needed.ensures, w.if-out-needed.false, ap length same))
+          | goal.else-out-most_blocks w ↦
+              (w.out-is, omega (arith, keys_length (entry now).args.m (entry now).args.top (entry now).args.window, few, c.most_blocks.ensures, w.if-out-most_blocks.false))
+      ]
 
 pub list_blocks-count-requires : goal.list_blocks-count-requires
 list_blocks-count-requires c =

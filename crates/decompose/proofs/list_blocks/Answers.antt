@@ -28,7 +28,7 @@ returns-in_default c = listing-last c.loop-row.invariant (rw c.in_default.is at 
 -- the arm of a block
 module _ (c : In-Block) where
   abbrev at : At-loop-row
-  at = c.before.before.before.before
+  at = c.before.before
 
   abbrev entry : Start
   entry = at.before.before

@@ -13,7 +13,7 @@ use Rattle.exist.proofs.exist.Reads as reads
 use Rattle.exist.proofs.exist.Tie as tie
 
 abbrev In_default : Type 0
-In_default = lts.After-enum_told tie.the-claims reads.Pre reads.Post
+In_default = lts.Past-After-enum_told tie.the-claims reads.Pre reads.Post
 
 pub returns-in-Refused : goal.returns-in-Refused
 returns-in-Refused c = sym (exist-refused _ _ _ _ _ _ _ _ (sym c.usable-verdict.ensures ∙ c.in-Refused.is))
@@ -21,7 +21,7 @@ returns-in-Refused c = sym (exist-refused _ _ _ _ _ _ _ _ (sym c.usable-verdict.
 -- where refusals 1 to 7 do not hold
 passed : (c : In_default)
     → let a = c.args in
-    verdict (use_refusals a.m a.keys.now (length a.classes.now) a.window (length a.border-1.now)) ≡ Passed
+    verdict (use_refusals a.m a.keys.now (length a.classes.now) a.window (length a.border.now)) ≡ Passed
 passed c = sym c.usable-verdict.ensures ∙ c.in_default.is
 
 pub seek-requires : goal.seek-requires

@@ -28,10 +28,10 @@ abbrev After-next_opening-found : Type 0
 After-next_opening-found = lts.After-next_opening tie.the-claims reads.Pre reads.Post goal.the-invariant-loop-first goal.the-decreases-loop-first
 
 abbrev In-Opening : Type 0
-In-Opening = lts.After-known_told tie.the-claims reads.Pre reads.Post goal.the-invariant-loop-first goal.the-decreases-loop-first
+In-Opening = lts.Past-After-known_told tie.the-claims reads.Pre reads.Post goal.the-invariant-loop-first goal.the-decreases-loop-first
 
 abbrev In_default : Type 0
-In_default = lts.After-enum_told tie.the-claims reads.Pre reads.Post goal.the-invariant-loop-first goal.the-decreases-loop-first
+In_default = lts.Past-After-enum_told tie.the-claims reads.Pre reads.Post goal.the-invariant-loop-first goal.the-decreases-loop-first
 
 abbrev After-look-looked : Type 0
 After-look-looked = lts.After-look tie.the-claims reads.Pre reads.Post goal.the-invariant-loop-first goal.the-decreases-loop-first
@@ -55,7 +55,7 @@ module _ (c : At-loop-first) where
   abbrev fresh : After-fill
   fresh = c.before.before.before.before
 
-  usable : Usable first.args.m first.args.m first.args.keys.now first.args.window (length fresh.fill.last.0)
+  usable : Usable first.args.m first.args.m first.args.keys.now first.args.window (length fresh.fill.new.cells)
   usable = fresh-usable _ first.requires.1 fresh.fill.ensures
 
 pub next_opening-found-requires : goal.next_opening-found-requires
@@ -64,17 +64,17 @@ next_opening-found-requires c = let at = c.before.before in ((first at).requires
 -- where nothing is left to be found
 module _ (c : In_default) where
   abbrev asked : After-next_opening-found
-  asked = c.before.before.before.before
+  asked = c.before.before.before
 
   abbrev last : At-loop-first
   last = asked.before.before
 
   abbrev left : List ℕ
-  left = asked.next_opening-found.last.1.1.1.1.1.1.0
+  left = asked.next_opening-found.new.border
 
   ended : let a = (first last).args in
-      (length left ≡ length a.border-1.now)
-      × (after (cond last.loop-first.unseen CannotTell No) left ≡ existing a.m a.keys.now a.classes.now a.window a.class a.border-1.now)
+      (length left ≡ length a.border.now)
+      × (after (cond last.loop-first.unseen CannotTell No) left ≡ existing a.m a.keys.now a.classes.now a.window a.class a.border.now)
   ended =
       let p = (first last).requires in
       let end = finding-last last.loop-first.invariant.finding asked.next_opening-found.ensures c.in_default.is in
@@ -98,12 +98,12 @@ returns-else-unseen c = ap (λ (u : Bool). after (cond u CannotTell No) (left c.
 -- the arm of an opening
 module _ (c : In-Opening) where
   abbrev answered : After-next_opening-found
-  answered = c.before.before.before.before.before
+  answered = c.before.before.before
 
   abbrev turn : At-loop-first
   turn = answered.before.before
 
-  opens : Opens turn.loop-first.invariant.finding c.in-Opening.is answered.next_opening-found.last.1.1.1.1.1.1.0
+  opens : Opens turn.loop-first.invariant.finding c.in-Opening.is answered.next_opening-found.new.border
   opens = finds-opens (first turn).requires.1 turn.loop-first.invariant.finding c.in-Opening.is answered.next_opening-found.ensures
 
 pub look-looked-requires : goal.look-looked-requires
@@ -126,9 +126,9 @@ module _ (c : After-slice_known-then-looked-1) where
   at = turn looked.before
 
   abbrev filled : List ℕ
-  filled = c.fill-then-looked.new.0
+  filled = c.fill-then-looked.new.cells
 
-  spent-now : (filled ≡ spent (first at).args.window (fresh at).fill.last.0) × (length filled ≡ length (fresh at).fill.last.0)
+  spent-now : (filled ≡ spent (first at).args.window (fresh at).fill.new.cells) × (length filled ≡ length (fresh at).fill.new.cells)
   spent-now = finding-spent (opens looked.before).next (usable at) c.fill-then-looked.ensures
 
 pub shape_of-border-then-looked : goal.shape_of-border-then-looked

@@ -52,7 +52,7 @@ pub offset_bounds-totals-classes : goal.offset_bounds-totals-classes
 offset_bounds-totals-classes c = omega (arith, byte c.before)
 
 pub bounds-totals-classes : goal.bounds-totals-classes
-bounds-totals-classes c = byte c.before
+bounds-totals-classes c = byte c.before.before
 
 -- what is added
 part : (c : After-clipped-area) → let s = start c.before in c.clipped-area.result ≡ area s.args.m s.args.keys.now s.args.window s.args.first
@@ -62,15 +62,15 @@ pub overflow_add-totals : goal.overflow_add-totals
 overflow_add-totals c =
     let t = c.before.before.before.before in
     let g = (start t).requires.2.given in
-    omega (arith, adding-most (adding-first (start t).requires.3) (only t).most (inside-12 g.small g.inside) (byte c.before.before), part c.before.before.before)
+    omega (arith, adding-most (adding-first (start t).requires.3) (only t).most (inside-12 g.small g.inside) (byte c.before.before.before), part c.before.before.before.before)
 
 pub bounds-totals-classes-then-exponent-reach : goal.bounds-totals-classes-then-exponent-reach
-bounds-totals-classes-then-exponent-reach c = byte c.before.before
+bounds-totals-classes-then-exponent-reach c = byte c.before.before.before
 
 pub returns-then-exponent-reach : goal.returns-then-exponent-reach
 returns-then-exponent-reach c =
     let t = c.before.before.before.before in
-    adding-last _ (adding-next (adding-first (start t).requires.3) (only t).most (part c.before.before.before)) (omega (arith, one t))
+    adding-last _ (adding-next (adding-first (start t).requires.3) (only t).most (part c.before.before.before.before)) (omega (arith, one t))
 
 pub gather_run-requires : goal.gather_run-requires
 gather_run-requires c =

@@ -45,7 +45,7 @@ module _ (c : In-loop-n) where
   start = turn.before.before.before.before
 
   adding : Adding start.args.m start.args.keys.now start.args.classes.now start.args.window start.args.first (start.args.first + start.args.count)
-      start.args.totals-1.now turn.loop-n.totals-1 turn.loop-n.n
+      start.args.totals.now turn.loop-n.totals turn.loop-n.n
   adding = turn.loop-n.invariant.0 start.args.window start.requires.2 start.requires.3
 
   among : Among start.args.first start.args.count turn.loop-n.n

@@ -18,4 +18,4 @@ returns c =
     let got = copied.before.before.before.before.before in
     let start = got.before.before.before.before.before.before in
     let n : length start.args.file.now - (20 + 4 * start.args.q) ≡ start.args.q = omega (arith, start.requires.0) in
-    (keys-got start.args.file.now _ _ got.get_all.ensures start.requires.1, copied.copy.ensures ∙ rw n)
+    record { keys_after = keys-got start.args.file.now _ _ got.get_all.ensures start.requires.1; classes_after = copied.copy.ensures ∙ rw n }

@@ -16,19 +16,19 @@ pub returns-then-fields-size : goal.returns-then-fields-size
 returns-then-fields-size c = sym (layout-total _ _ _ (λ e. c.if-fields-size.true (omega (arith, e))))
 
 -- behind the first test: the length field is right
-total : (c : Else-fields-size) → get_or c.args.t2 0 0 ≡ c.args.size
+total : (c : Else-fields-size) → get_or c.args.fields 0 0 ≡ c.args.size
 total c = omega (arith, c.if-fields-size.false)
 
 pub returns-in-Refused : goal.returns-in-Refused
-returns-in-Refused c = sym (layout-refused _ _ _ (total c.before.before.before.before) (sym c.sizes-sizes.ensures ∙ c.in-Refused.is))
+returns-in-Refused c = sym (layout-refused _ _ _ (total c.before.before) (sym c.sizes-sizes.ensures ∙ c.in-Refused.is))
 
 -- behind the second: so are m and Q
 module _ (c : In_default) where
   abbrev right : Else-fields-size
-  right = c.before.before.before
+  right = c.before.before
 
   abbrev fields : List ℕ
-  fields = right.args.t2
+  fields = right.args.fields
 
   passed : verdict (size_refusals_in right.args.whole (get_or fields 1 0) (get_or fields 2 0) (get_or fields 2 0)) ≡ Passed
   passed = sym c.sizes-sizes.ensures ∙ c.in_default.is

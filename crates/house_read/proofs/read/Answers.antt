@@ -16,15 +16,15 @@ use Rattle.house_read.proofs.read.Reads as reads
 use Rattle.house_read.proofs.read.Tie as tie
 
 abbrev After-get_all : Type 0
-After-get_all = lts.After-get_all tie.the-claims reads.Pre reads.Post
+After-get_all = lts.After-get_all tie.the-claims reads.Pre reads.Post tie.handed_clauses
 
 abbrev In_default : Type 0
-In_default = lts.After-enum_told tie.the-claims reads.Pre reads.Post
+In_default = lts.Past-After-enum_told tie.the-claims reads.Pre reads.Post tie.handed_clauses
 
 pub returns-then-file-lt20 : goal.returns-then-file-lt20
 returns-then-file-lt20 c = sym (read_short _ _ _ _ (omega (arith, c.if-file-lt20.true)))
 
-fields-are : (c : After-get_all) → c.get_all.new.1.0 ≡ numbers 5 c.args.file.now
+fields-are : (c : After-get_all) → c.get_all.new.cells ≡ numbers 5 c.args.file.now
 fields-are c = c.get_all.ensures
 
 -- a file that is not too short
@@ -33,13 +33,13 @@ long c = omega (arith, c.if-file-lt20.false)
 
 pub returns-in-Refused : goal.returns-in-Refused
 returns-in-Refused c =
-    let header = c.before.before.before.before.before.before in
+    let header = c.before.before.before.before in
     sym (read-refused _ _ _ _ (fields-are header) (long header) (sym c.layout-verdict.ensures ∙ c.in-Refused.is))
 
 -- where the layout is right
 module _ (c : In_default) where
   abbrev header : After-get_all
-  header = c.before.before.before.before
+  header = c.before.before.before
 
   abbrev total : ℕ
   total = length header.args.file.now
@@ -47,10 +47,10 @@ module _ (c : In_default) where
   abbrev whole : Bool
   whole = header.args.whole
 
-  passed : verdict (layout_refusals whole total header.get_all.last.1.0) ≡ Passed
+  passed : verdict (layout_refusals whole total header.get_all.new.cells) ≡ Passed
   passed = sym c.layout-verdict.ensures ∙ c.in_default.is
 
-  right : Laid whole total header.get_all.last.1.0
+  right : Laid whole total header.get_all.new.cells
   right = (laid _ _ _).0 passed
 
 pub overflow_cast-q : goal.overflow_cast-q

@@ -15,7 +15,7 @@ use Rattle.house_write.proofs.write.Reads as reads
 use Rattle.house_write.proofs.write.Tie as tie
 
 abbrev In_default : Type 0
-In_default = lts.After-enum_told tie.the-claims reads.Pre reads.Post
+In_default = lts.Past-After-enum_told tie.the-claims reads.Pre reads.Post
 
 pub returns-in-Refused : goal.returns-in-Refused
 returns-in-Refused c = sym (write-refused _ _ _ _ _ (sym c.sizes-sizes.ensures ∙ c.in-Refused.is))
@@ -23,7 +23,7 @@ returns-in-Refused c = sym (write-refused _ _ _ _ _ (sym c.sizes-sizes.ensures �
 -- where refusals 1 and 2 do not hold
 module _ (c : In_default) where
   abbrev entry : Start
-  entry = c.before.before.before.before.before.before
+  entry = c.before.before.before.before.before
 
   passed : verdict (size_refusals_in entry.args.whole entry.args.m (length entry.args.keys.now) (length entry.args.classes.now)) ≡ Passed
   passed = sym c.sizes-sizes.ensures ∙ c.in_default.is

@@ -24,7 +24,7 @@ loop-class-preserved c =
     telling-part turn.loop-class.invariant (class_line class (get_or totals class 0)) _ (class-next totals class turn.loop-class-test.true) called.put_class-at.ensures
 
 pub overflow_add-at : goal.overflow_add-at
-overflow_add-at c = omega (arith, telling-length (loop-class-preserved c.before), (loop-class-preserved c.before).room)
+overflow_add-at c = omega (arith, telling-length (loop-class-preserved c), (loop-class-preserved c).room)
 
 pub returns : goal.returns
 returns c = telling-last c.loop-class.invariant (class-last _ c.loop-class.class c.loop-class-test.false)

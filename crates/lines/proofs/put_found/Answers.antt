@@ -42,11 +42,11 @@ module _ (c : After-put_openings-at) where
   at = c.put_openings-at.result
 
   abbrev opened : List ℕ
-  opened = c.put_openings-at.new.1.0
+  opened = c.put_openings-at.new.out
 
-  one : Telling (all start) (classes start ++ sums start) at start.args.out-1.now opened
+  one : Telling (all start) (classes start ++ sums start) at start.args.out.now opened
   unfolding found_lines
-  one = telling-begin (all start) (opening_lines start.args.cells.now) (classes start ++ sums start) start.args.out-1.now refl start.requires.1 c.put_openings-at.ensures
+  one = telling-begin (all start) (opening_lines start.args.cells.now) (classes start ++ sums start) start.args.out.now refl start.requires.1 c.put_openings-at.ensures
 
 -- and with the classes behind them
 module _ (c : After-put_classes-at) where
@@ -57,9 +57,9 @@ module _ (c : After-put_classes-at) where
   at' = at first + c.put_classes-at.result
 
   abbrev listed : List ℕ
-  listed = back (at first) (opened first) c.put_classes-at.new.1.0
+  listed = back (at first) (opened first) c.put_classes-at.new.out
 
-  two : Telling (all (start first)) (sums (start first)) at' (start first).args.out-1.now listed
+  two : Telling (all (start first)) (sums (start first)) at' (start first).args.out.now listed
   two = telling-part (one first) (classes (start first)) (sums (start first)) refl c.put_classes-at.ensures
 
 pub put_openings-at-requires : goal.put_openings-at-requires
@@ -96,7 +96,7 @@ module _ (c : After-put_line-at) where
   abbrev asked : Start
   asked = start (first second)
 
-  three : Telling (all asked) [] (at' second + c.put_line-at.result) asked.args.out-1.now (back (at' second) (listed second) c.put_line-at.new.1.1.0)
+  three : Telling (all asked) [] (at' second + c.put_line-at.result) asked.args.out.now (back (at' second) (listed second) c.put_line-at.new.out)
   three = telling-part (two second) (sums asked) [] (sym (append-nil (sums asked))) c.put_line-at.ensures
 
 pub overflow_add-at-2 : goal.overflow_add-at-2

@@ -26,7 +26,7 @@ loop-i-preserved c =
     (telling-part turn.loop-i.invariant.0 line _ (opening-next cells i test) called.put_line-at.ensures, test)
 
 pub overflow_add-at : goal.overflow_add-at
-overflow_add-at c = omega (arith, telling-length (loop-i-preserved c.before).0, (loop-i-preserved c.before).0.room)
+overflow_add-at c = omega (arith, telling-length (loop-i-preserved c).0, (loop-i-preserved c).0.room)
 
 pub returns : goal.returns
 returns c = telling-last c.loop-i.invariant.0 (opening-last _ c.loop-i.i c.loop-i-test.false)

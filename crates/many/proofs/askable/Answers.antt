@@ -19,7 +19,7 @@ use Rattle.many.proofs.askable.Reads as reads
 use Rattle.many.proofs.askable.Tie as tie
 
 abbrev In_default : Type 0
-In_default = lts.After-enum_told tie.the-claims reads.Pre reads.Post
+In_default = lts.Past-After-enum_told tie.the-claims reads.Pre reads.Post
 
 abbrev Else-wrong_list : Type 0
 Else-wrong_list = lts.Else1 tie.the-claims reads.Pre reads.Post
@@ -28,7 +28,7 @@ abbrev After-wide_enough-wide : Type 0
 After-wide_enough-wide = lts.After-wide_enough tie.the-claims reads.Pre reads.Post
 
 abbrev In_default-wide : Type 0
-In_default-wide = lts.After-enum_told2 tie.the-claims reads.Pre reads.Post
+In_default-wide = lts.Past-After-enum_told2 tie.the-claims reads.Pre reads.Post
 
 pub returns-in-Refused : goal.returns-in-Refused
 returns-in-Refused c = sym (many-unsound _ _ _ _ _ _ (sym c.sound-sound.ensures ∙ c.in-Refused.is))
@@ -36,7 +36,7 @@ returns-in-Refused c = sym (many-unsound _ _ _ _ _ _ (sym c.sound-sound.ensures 
 -- where the map is sound
 module _ (c : In_default) where
   abbrev asked : Start
-  asked = c.before.before.before.before.before.before
+  asked = c.before.before.before.before.before
 
   passed : verdict (map_refusals asked.args.m asked.args.keys.now (length asked.args.classes.now)) ≡ Passed
   passed = sym c.sound-sound.ensures ∙ c.in_default.is
@@ -70,7 +70,7 @@ returns-in-Refused-wide c =
 -- where it is wide enough
 module _ (c : In_default-wide) where
   abbrev drawn : Else-wrong_list
-  drawn = c.before.before.before.before
+  drawn = c.before.before.before
 
   wide : verdict (border_refusals (widest (asked (told drawn)).args.m (windows_in (asked (told drawn)).args.windows.now)) (asked (told drawn)).args.cells) ≡ Passed
   wide = border c.before.before ∙ c.in_default-wide.is

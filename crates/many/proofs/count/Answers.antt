@@ -17,7 +17,7 @@ use Rattle.many.proofs.count.Reads as reads
 use Rattle.many.proofs.count.Tie as tie
 
 abbrev In_default : Type 0
-In_default = lts.After-enum_told tie.the-claims reads.Pre reads.Post
+In_default = lts.Past-After-enum_told tie.the-claims reads.Pre reads.Post
 
 abbrev After-slice_known-4-1 : Type 0
 After-slice_known-4-1 = lts.After-slice_known4 tie.the-claims reads.Pre reads.Post
@@ -28,14 +28,14 @@ returns-in-Refused c = sym (many_is _ _ _ _ _ _ ∙ on-refused _ _ _ (sym c.aska
 -- where nothing is refused
 module _ (c : In_default) where
   abbrev entry : Start
-  entry = c.before.before.before.before.before.before.before.before
+  entry = c.before.before.before.before.before.before.before
 
   passed : verdict (many_refusals entry.args.m entry.args.keys.now (length entry.args.classes.now) entry.args.windows.now
-      (length entry.args.border-1.now) (length entry.args.out-1.now)) ≡ Passed
+      (length entry.args.border.now) (length entry.args.out.now)) ≡ Passed
   passed = sym c.askable-verdict.ensures ∙ c.in_default.is
 
-  taken : Askable entry.args.m entry.args.keys.now (length entry.args.classes.now) entry.args.windows.now (length entry.args.border-1.now)
-      (length entry.args.out-1.now)
+  taken : Askable entry.args.m entry.args.keys.now (length entry.args.classes.now) entry.args.windows.now (length entry.args.border.now)
+      (length entry.args.out.now)
   taken = (many-askable _ _ _ _ _ _).0 passed
 
 pub put_lines-requires : goal.put_lines-requires

@@ -40,7 +40,7 @@ module _ (c : Else-outside) where
   drawn : Inside asked.args.m asked.args.window
   drawn = inside _ _ lies
 
-  usable : Usable asked.args.m asked.args.m asked.args.keys.now asked.args.window (length asked.args.border-1.now)
+  usable : Usable asked.args.m asked.args.m asked.args.keys.now asked.args.window (length asked.args.border.now)
   usable =
       use-known true _ _ _ _ _
       ((use-answerable true _ _ _ _ _).1 (record { sound = asked.requires.1; inside = drawn; wide = rw (columns-inside _ _ lies) at asked.requires.2 }))

@@ -58,9 +58,9 @@ loop-i-preserved c =
     let same = line.window_at.ensures in
     telling-next
     _ _ _ _ _ (start at).requires.1 (start at).requires.2 at.loop-i.invariant (told c.before).loop-i-test.true
-    (rw (← same) line.Line-of.ensures.0)
-    (rw (← same) line.Line-of.ensures.1)
-    line.Line-of.auto.1.1.1.1.0
+    (rw (← same) line.line_of-line.ensures.0)
+    (rw (← same) line.line_of-line.ensures.1)
+    line.line_of-line.auto.1.1.1.1.0
     c.put_line.ensures
 
 pub shape_of-border : goal.shape_of-border

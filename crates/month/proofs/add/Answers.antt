@@ -24,7 +24,7 @@ use Rattle.month.proofs.add.Reads as reads
 use Rattle.month.proofs.add.Tie as tie
 
 abbrev In_default : Type 0
-In_default = lts.After-enum_told tie.the-claims reads.Pre reads.Post
+In_default = lts.Past-After-enum_told tie.the-claims reads.Pre reads.Post
 
 abbrev After-window_in : Type 0
 After-window_in = lts.After-window_in tie.the-claims reads.Pre reads.Post
@@ -38,30 +38,30 @@ returns-in-Refused c = sym (add_is _ _ _ _ _ ∙ on-refused _ _ _ (sym c.addable
 -- where nothing is refused
 module _ (c : In_default) where
   abbrev entry : Start
-  entry = c.before.before.before.before.before.before.before.before
+  entry = c.before.before.before.before.before.before
 
   abbrev cells : List ℕ
-  cells = entry.args.table-1.now
+  cells = entry.args.table.now
 
-  passed : verdict (add_refusals entry.args.m entry.args.keys.now (length entry.args.classes.now) (length entry.args.border-1.now) cells) ≡ Passed
+  passed : verdict (add_refusals entry.args.m entry.args.keys.now (length entry.args.classes.now) (length entry.args.border.now) cells) ≡ Passed
   passed = sym c.addable-verdict.ensures ∙ c.in_default.is
 
-  taken : Addable entry.args.m entry.args.keys.now (length entry.args.classes.now) (length entry.args.border-1.now) cells
+  taken : Addable entry.args.m entry.args.keys.now (length entry.args.classes.now) (length entry.args.border.now) cells
   taken = (add-addable _ _ _ _ _).0 passed
 
   small : entry.args.m ≤ 12
   small = taken.sound.sizes.small
 
-  used : verdict (use_refusals entry.args.m entry.args.keys.now (length entry.args.classes.now) (window_in cells) (length entry.args.border-1.now)) ≡ Passed
+  used : verdict (use_refusals entry.args.m entry.args.keys.now (length entry.args.classes.now) (window_in cells) (length entry.args.border.now)) ≡ Passed
   used = (use-answerable true _ _ _ _ _).1 (record { sound = taken.sound; inside = taken.ongoing.sane.inside; wide = taken.wide })
 
 pub window_in-requires : goal.window_in-requires
-window_in-requires c = (taken c.before.before).ongoing.long
+window_in-requires c = (taken c.before).ongoing.long
 
 -- the window is the table's
 module _ (c : After-window_in) where
   abbrev told : In_default
-  told = c.before.before
+  told = c.before
 
   exact : c.window_in.result ≡ window_in (cells told)
   exact = c.window_in.ensures ∙ narrowed-inside (inside-12 (small told) (taken told).ongoing.sane.inside)
@@ -83,10 +83,10 @@ module _ (c : After-count) where
   abbrev table : List ℕ
   table = cells (told drawn)
 
-  counted : c.count.new.1.1.1.1.1.0 ≡ totals start.args.m start.args.keys.now start.args.classes.now (window_in table)
+  counted : c.count.new.counts ≡ totals start.args.m start.args.keys.now start.args.classes.now (window_in table)
   counted = rw (← exact drawn) c.count.ensures.0
 
-  spends : c.count.new.1.1.1.1.0 ≡ spent (window_in table) start.args.border-1.now
+  spends : c.count.new.border ≡ spent (window_in table) start.args.border.now
   spends = rw (← exact drawn) c.count.ensures.1
 
   goes_on : Ongoing start.args.m table

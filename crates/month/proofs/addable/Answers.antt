@@ -19,10 +19,10 @@ use Rattle.month.proofs.addable.Reads as reads
 use Rattle.month.proofs.addable.Tie as tie
 
 abbrev In_default : Type 0
-In_default = lts.After-enum_told tie.the-claims reads.Pre reads.Post
+In_default = lts.Past-After-enum_told tie.the-claims reads.Pre reads.Post
 
 abbrev In_default-fits : Type 0
-In_default-fits = lts.After-enum_told2 tie.the-claims reads.Pre reads.Post
+In_default-fits = lts.Past-After-enum_told2 tie.the-claims reads.Pre reads.Post
 
 abbrev After-window_in : Type 0
 After-window_in = lts.After-window_in tie.the-claims reads.Pre reads.Post
@@ -33,7 +33,7 @@ returns-in-Refused c = sym (add-unsound _ _ _ _ _ (sym c.sound-sound.ensures ∙
 -- where the map is sound
 module _ (c : In_default) where
   abbrev entry : Start
-  entry = c.before.before.before.before.before.before
+  entry = c.before.before.before.before.before
 
   passed : verdict (map_refusals entry.args.m entry.args.keys.now (length entry.args.classes.now)) ≡ Passed
   passed = sym c.sound-sound.ensures ∙ c.in_default.is
@@ -45,12 +45,12 @@ pub ongoing-fits-requires : goal.ongoing-fits-requires
 ongoing-fits-requires c = small c.before
 
 pub returns-in-Refused-fits : goal.returns-in-Refused-fits
-returns-in-Refused-fits c = sym (add-unfit _ _ _ _ _ (passed c.before.before.before.before.before) (sym c.ongoing-fits.ensures ∙ c.fits2.given.1))
+returns-in-Refused-fits c = sym (add-unfit _ _ _ _ _ (passed c.before.before.before) (sym c.ongoing-fits.ensures ∙ c.fits2.given.1))
 
 -- and the table can be added to
 module _ (c : In_default-fits) where
   abbrev told : In_default
-  told = c.before.before.before
+  told = c.before.before
 
   abbrev cells : List ℕ
   cells = (entry told).args.table.now

@@ -28,9 +28,9 @@ sane c = c.before
 pub returns-then-table-eq1000 : goal.returns-then-table-eq1000
 returns-then-table-eq1000 c =
     let at = sane c.before.before in
-    sym (table-full _ _ at.if-table-lt1030.left at.if-table-m.left (sym at.spoiled.ensures ∙ at.if-spoiled.left) c.if-table-eq1000.true)
+    sym (table-full _ _ at.if-table-lt1030.false at.if-table-m.false (sym at.spoiled.ensures ∙ at.if-spoiled.false) c.if-table-eq1000.true)
 
 pub returns : goal.returns
 returns c =
     let at = sane c.before.before in
-    sym (table-open _ _ at.if-table-lt1030.left at.if-table-m.left (sym at.spoiled.ensures ∙ at.if-spoiled.left) c.if-table-eq1000.false)
+    sym (table-open _ _ at.if-table-lt1030.false at.if-table-m.false (sym at.spoiled.ensures ∙ at.if-spoiled.false) c.if-table-eq1000.false)

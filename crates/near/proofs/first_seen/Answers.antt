@@ -35,6 +35,6 @@ returns c =
     let e = c.before.before.before.before in
     let f = e.before.before in
     let n = f.before in
-    let p = (start n).requires in
+    let p = (start n.before.before).requires in
     rw (c.seen_with.ensures, c.near_to-whole.ensures)
-    (known-whole p.2 (omega (arith, f.if-keys-ne1.false)) (omega (arith, e.if-keys-ne0.false)) c.pow5.ensures.is, (nowhere n).1)
+    (known-whole p.2 (omega (arith, f.if-keys-ne1.false)) (omega (arith, e.if-keys-ne0.false)) c.pow5.ensures.is, (nowhere n.before.before).1)

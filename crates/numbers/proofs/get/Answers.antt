@@ -8,10 +8,9 @@ use Rattle.numbers.proofs.Steps.{number-four}
 use Rattle.numbers.proofs.get.Goals as goal
 use Rattle.numbers.proofs.get.Lts as lts
 use Rattle.numbers.proofs.get.Reads as reads
-use Rattle.numbers.proofs.get.Tie as tie
 
 abbrev After-shared_slice_known-1 : Type 0
-After-shared_slice_known-1 = lts.After-shared_slice_known tie.the-claims reads.Pre reads.Post
+After-shared_slice_known-1 = lts.After-shared_slice_known reads.Pre reads.Post
 
 pub bounds-from-0 : goal.bounds-from-0
 bounds-from-0 c = search rules

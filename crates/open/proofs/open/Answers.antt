@@ -23,7 +23,7 @@ use Rattle.open.proofs.open.Reads as reads
 use Rattle.open.proofs.open.Tie as tie
 
 abbrev In_default : Type 0
-In_default = lts.After-enum_told tie.the-claims reads.Pre reads.Post
+In_default = lts.Past-After-enum_told tie.the-claims reads.Pre reads.Post
 
 abbrev After-most_blocks : Type 0
 After-most_blocks = lts.After-most_blocks tie.the-claims reads.Pre reads.Post
@@ -43,16 +43,16 @@ returns-in-Refused c = sym (open-refused _ _ _ _ _ _ _ _ (sym c.usable_tiled-ver
 -- where refusals 1 to 7 and 17 do not hold
 module _ (c : In_default) where
   abbrev asked : Start
-  asked = c.before.before.before.before.before.before.before
+  asked = c.before.before.before.before.before.before
 
   abbrev all : List Opening
   all = openings asked.args.m asked.args.top asked.args.keys.now asked.args.window
 
   passed : verdict (tiled_refusals asked.args.whole asked.args.m asked.args.top asked.args.keys.now (length asked.args.classes.now)
-      asked.args.window (length asked.args.border-1.now)) ≡ Passed
+      asked.args.window (length asked.args.border.now)) ≡ Passed
   passed = sym c.usable_tiled-verdict.ensures ∙ c.in_default.is
 
-  known : Usable asked.args.m asked.args.top asked.args.keys.now asked.args.window (length asked.args.border-1.now)
+  known : Usable asked.args.m asked.args.top asked.args.keys.now asked.args.window (length asked.args.border.now)
   known = tiled-known _ _ _ _ _ _ _ passed
 
   drawn : Inside 12 asked.args.window
@@ -95,7 +95,7 @@ pub returns-then-out-needed : goal.returns-then-out-needed
 returns-then-out-needed c =
     let k = c.before.before in
     let p = (counted k).pass-counted.ensures in
-    let none = passed-nothing (asked (of k)).args.out-1.now p in
+    let none = passed-nothing (asked (of k)).args.out.now p in
     open-short _ _ _ _ _ _ _ _ (passed (of k)) (needed k) (omega (arith, c.if-out-needed.true, ap length none)) p.ends none
 
 -- where the openings are written
@@ -106,7 +106,7 @@ module _ (c : Joined-out-most_blocks) where
   abbrev lent : Start
   lent = asked told
 
-  ready : Writable lent.args.m lent.args.top lent.args.keys.now lent.args.window lent.args.border-1.now lent.args.out-1.now c.if-out-most_blocks.border-1 c.if-out-most_blocks.out-1
+  ready : Writable lent.args.m lent.args.top lent.args.keys.now lent.args.window lent.args.border.now lent.args.out.now c.if-out-most_blocks.border c.if-out-most_blocks.out
   ready =
       ⊎_elim
       (λ w. writable-counted w.4.ensures (known told).wide w.11 w.12 (omega (arith, w.10.left)))

@@ -15,10 +15,10 @@ abbrev At-loop-row : Type 0
 At-loop-row = lts.At-loop tie.the-claims reads.Pre reads.Post goal.the-invariant-loop-row goal.the-decreases-loop-row
 
 abbrev In-Block : Type 0
-In-Block = lts.After-known_told tie.the-claims reads.Pre reads.Post goal.the-invariant-loop-row goal.the-decreases-loop-row
+In-Block = lts.Past-After-known_told tie.the-claims reads.Pre reads.Post goal.the-invariant-loop-row goal.the-decreases-loop-row
 
 abbrev In-Opened : Type 0
-In-Opened = lts.After-known_told2 tie.the-claims reads.Pre reads.Post goal.the-invariant-loop-row goal.the-decreases-loop-row
+In-Opened = lts.Past-After-known_told2 tie.the-claims reads.Pre reads.Post goal.the-invariant-loop-row goal.the-decreases-loop-row
 
 pub returns-then-left-eq0 : goal.returns-then-left-eq0
 returns-then-left-eq0 c = reached-done c.requires.2 c.if-left-eq0.true
@@ -38,10 +38,10 @@ returns-in_default c = skipping-end c.loop-row.invariant (rw c.in_default.is at 
 -- the arm of a block: where the loop is, and what the walk says
 module _ (c : In-Block) where
   abbrev turn : At-loop-row
-  turn = c.before.before.before.before
+  turn = c.before.before
 
   abbrev start : Start
-  start = c.before.before.before.before.before.before.before.before
+  start = c.before.before.before.before.before.before
 
   goes : Goes start.args.window start.args.top (turn.loop-row.r, turn.loop-row.c)
       (Block c.in-Block.row c.in-Block.col c.in-Block.exponent c.in-Block.after)
@@ -53,7 +53,7 @@ step-stepped-requires c = let at = c.before.before in ((start at).requires.0, sk
 -- the arm of an opened block
 module _ (c : In-Opened) where
   abbrev at : In-Block
-  at = c.before.before.before.before.before.before.before
+  at = c.before.before.before.before.before
 
   room : c.in-Opened.closed ≤ (start at).args.at.left
   room = skipping-room (turn at).loop-row.invariant (start at).requires.1 (goes at) c.step-stepped.ensures c.in-Opened.is
@@ -71,7 +71,7 @@ returns-in-Opened c =
     (skipping-found (turn (at k)).loop-row.invariant (start (at k)).requires.1 (goes (at k)) k.step-stepped.ensures k.in-Opened.is (omega (arith, room k)))
 
 pub loop-row-smaller : goal.loop-row-smaller
-loop-row-smaller c = goes-less (goes c.before.before.before.before.before.before.before)
+loop-row-smaller c = goes-less (goes c.before.before.before.before.before.before)
 
 pub loop-row-preserved : goal.loop-row-preserved
 loop-row-preserved c =

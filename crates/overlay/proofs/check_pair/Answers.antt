@@ -13,10 +13,10 @@ use Rattle.overlay.proofs.check_pair.Reads as reads
 use Rattle.overlay.proofs.check_pair.Tie as tie
 
 abbrev In_default : Type 0
-In_default = lts.After-enum_told tie.the-claims reads.Pre reads.Post
+In_default = lts.Past-After-enum_told tie.the-claims reads.Pre reads.Post
 
 abbrev In_default-under : Type 0
-In_default-under = lts.After-enum_told2 tie.the-claims reads.Pre reads.Post
+In_default-under = lts.Past-After-enum_told2 tie.the-claims reads.Pre reads.Post
 
 pub returns-in-Refused : goal.returns-in-Refused
 returns-in-Refused c = sym (today-refused _ _ _ _ _ _ (sym c.sound-today.ensures ∙ c.in-Refused.is))
@@ -24,7 +24,7 @@ returns-in-Refused c = sym (today-refused _ _ _ _ _ _ (sym c.sound-today.ensures
 -- today's map is sound
 module _ (c : In_default) where
   abbrev entry : Start
-  entry = c.before.before.before.before.before.before.before
+  entry = c.before.before.before.before.before.before
 
   first : verdict (map_refusals_in false entry.args.m entry.args.keys.now (length entry.args.classes.now)) ≡ Passed
   first = sym c.sound-today.ensures ∙ c.in_default.is
@@ -37,7 +37,7 @@ returns-in-Refused-under c =
 -- and so is the baseline
 module _ (c : In_default-under) where
   abbrev today : In_default
-  today = c.before.before.before
+  today = c.before.before
 
   second : verdict (map_refusals (entry today).args.depth (entry today).args.base.now (length (entry today).args.beneath.now)) ≡ Passed
   second = sym c.sound-under.ensures ∙ c.in_default-under.is

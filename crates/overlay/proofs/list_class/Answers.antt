@@ -29,7 +29,7 @@ module _ (entry : Start) where
   chosen = class_selection entry.args.m rule entry.args.window entry.args.class
 
   abbrev lent : List ℕ
-  lent = entry.args.out-1.now
+  lent = entry.args.out.now
 
   few : length chosen ≤ entry.args.window.h * entry.args.window.w
   few = class-most entry.args.m rule entry.args.class entry.requires.0.today entry.requires.1
@@ -48,7 +48,7 @@ returns-then-out-needed c =
 abbrev start : Joined-out-most → Start
 start c = c.before.before.before.before.before.before.before.before
 
-ready : (c : Joined-out-most) → (c.if-out-most.out-1 ≡ lent (start c)) × (length (chosen (start c)) ≤ length (lent (start c)))
+ready : (c : Joined-out-most) → (c.if-out-most.out ≡ lent (start c)) × (length (chosen (start c)) ≤ length (lent (start c)))
 ready c =
     let e = start c in
     ⊎_elim

@@ -33,12 +33,12 @@ pub seek-from-requires : goal.seek-from-requires
 seek-from-requires c =
     let b = c.before.before in
     let p = (entry b).requires in
-    (p.0, p.2, record { exponent = b.Span-of.result.exponent; names = b.Span-of.ensures })
+    (p.0, p.2, record { exponent = b.span_of-block.result.exponent; names = b.span_of-block.ensures })
 
 pub pow5-requires : goal.pow5-requires
 pow5-requires c =
     let b = c.before.before.before.before in
-    (c.spread_table-table.ensures, omega (arith, (block-lies b.Span-of.ensures).small, (entry b).requires.0))
+    (c.spread_table-table.ensures, omega (arith, (block-lies b.span_of-block.ensures).small, (entry b).requires.0))
 
 -- and behind the first record
 module _ (c : After-pow5) where
@@ -51,13 +51,13 @@ module _ (c : After-pow5) where
 pub overflow_add-beyond : goal.overflow_add-beyond
 overflow_add-beyond c =
     let b = block c.before in
-    omega (arith, (block-lies b.Span-of.ensures).keys, pow-most 4 _ (entry b).requires.0, c.pow5.ensures.is)
+    omega (arith, (block-lies b.span_of-block.ensures).keys, pow-most 4 _ (entry b).requires.0, c.pow5.ensures.is)
 
 pub keys_below-requires : goal.keys_below-requires
 keys_below-requires c =
     let b = block c.before in
     let F = (entry b).requires.2 in
-    (keys-rise F, rw c.pow5.ensures.is (meets-bracket F b.Span-of.ensures (sought c.before).seek-from.ensures))
+    (keys-rise F, rw c.pow5.ensures.is (meets-bracket F b.span_of-block.ensures (sought c.before).seek-from.ensures))
 
 -- the records that overlap it
 module _ (c : After-keys_below) where
@@ -67,11 +67,11 @@ module _ (c : After-keys_below) where
   abbrev found : After-span_of-block
   found = block powered
 
-  splits : Splits (entry found).args.keys.now ((entry found).args.key + 5 ^ found.Span-of.result.exponent) c.keys_below.result
+  splits : Splits (entry found).args.keys.now ((entry found).args.key + 5 ^ found.span_of-block.result.exponent) c.keys_below.result
   splits = rw powered.pow5.ensures.is at c.keys_below.ensures
 
   order : (sought powered).seek-from.result.next ≤ c.keys_below.result
-  order = meets-order (entry found).requires.2 found.Span-of.ensures (sought powered).seek-from.ensures splits
+  order = meets-order (entry found).requires.2 found.span_of-block.ensures (sought powered).seek-from.ensures splits
 
 pub overflow_sub-count : goal.overflow_sub-count
 overflow_sub-count c = omega (arith, order c.before)
@@ -83,4 +83,4 @@ pub overflow_cast-result-2 : goal.overflow_cast-result-2
 overflow_cast-result-2 c = omega (arith, order c.before, (splits c.before).room, (entry (found c.before)).requires.1)
 
 pub returns : goal.returns
-returns c = meets (entry (found c.before)).requires.2 (found c.before).Span-of.ensures (sought (powered c.before)).seek-from.ensures (splits c.before) refl refl
+returns c = meets (entry (found c.before)).requires.2 (found c.before).span_of-block.ensures (sought (powered c.before)).seek-from.ensures (splits c.before) refl refl

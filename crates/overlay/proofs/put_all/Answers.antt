@@ -23,7 +23,7 @@ abbrev At-loop-row : Type 0
 At-loop-row = lts.At-loop tie.the-claims reads.Pre reads.Post goal.the-invariant-loop-row goal.the-decreases-loop-row
 
 abbrev In-Block : Type 0
-In-Block = lts.After-known_told tie.the-claims reads.Pre reads.Post goal.the-invariant-loop-row goal.the-decreases-loop-row
+In-Block = lts.Past-After-known_told tie.the-claims reads.Pre reads.Post goal.the-invariant-loop-row goal.the-decreases-loop-row
 
 abbrev After-block_ahead-ahead : Type 0
 After-block_ahead-ahead = lts.After-block_ahead tie.the-claims reads.Pre reads.Post goal.the-invariant-loop-row goal.the-decreases-loop-row
@@ -57,7 +57,7 @@ returns-in_default c = walking-last c.loop-row.invariant.0 c.next_block-next.ens
 -- the arm of a block: where the loop is, and what the walk says
 module _ (c : In-Block) where
   abbrev turn : At-loop-row
-  turn = c.before.before.before.before
+  turn = c.before.before
 
   abbrev start : Start
   start = entry turn

@@ -12,7 +12,7 @@ use Rattle.overlay.proofs.select.Reads as reads
 use Rattle.overlay.proofs.select.Tie as tie
 
 abbrev In_default : Type 0
-In_default = lts.After-enum_told tie.the-claims reads.Pre reads.Post
+In_default = lts.Past-After-enum_told tie.the-claims reads.Pre reads.Post
 
 pub returns-in-Refused : goal.returns-in-Refused
 unfolding select_over
@@ -21,7 +21,7 @@ returns-in-Refused c = over-refused Refused Told _ _ (sym c.check_pair-pairing.e
 -- both are sound
 module _ (c : In_default) where
   abbrev entry : Start
-  entry = c.before.before.before.before.before.before.before.before.before
+  entry = c.before.before.before.before.before.before.before.before
 
   passed : pairing entry.args.m entry.args.keys.now (length entry.args.classes.now) entry.args.depth entry.args.base.now (length entry.args.beneath.now) ≡ Passed
   passed = sym c.check_pair-pairing.ensures ∙ c.in_default.is

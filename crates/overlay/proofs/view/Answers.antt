@@ -17,10 +17,10 @@ use Rattle.overlay.proofs.view.Reads as reads
 use Rattle.overlay.proofs.view.Tie as tie
 
 abbrev In_default : Type 0
-In_default = lts.After-enum_told tie.the-claims reads.Pre reads.Post
+In_default = lts.Past-After-enum_told tie.the-claims reads.Pre reads.Post
 
 abbrev In_default-sound : Type 0
-In_default-sound = lts.After-enum_told3 tie.the-claims reads.Pre reads.Post
+In_default-sound = lts.Past-After-enum_told3 tie.the-claims reads.Pre reads.Post
 
 pub returns-in-Refused : goal.returns-in-Refused
 returns-in-Refused c = sym (view-refused _ _ _ _ _ _ _ (sym c.check_pair-pairing.ensures ∙ c.in-Refused.is))
@@ -28,7 +28,7 @@ returns-in-Refused c = sym (view-refused _ _ _ _ _ _ _ (sym c.check_pair-pairing
 -- both maps are sound
 module _ (c : In_default) where
   abbrev entry : Start
-  entry = c.before.before.before.before.before.before.before
+  entry = c.before.before.before.before.before.before
 
   passed : pairing entry.args.m entry.args.keys.now (length entry.args.classes.now) entry.args.depth entry.args.base.now (length entry.args.beneath.now) ≡ Passed
   passed = sym c.check_pair-pairing.ensures ∙ c.in_default.is
@@ -45,7 +45,7 @@ returns-in-Refused-sound c =
 -- and the key is that of a block
 module _ (c : In_default-sound) where
   abbrev both : In_default
-  both = c.before.before.before.before.before
+  both = c.before.before.before.before
 
   block : SomeBlock (entry both).args.m (entry both).args.key
   block = alone-block _ _ (sym c.sound-sound.ensures ∙ c.in_default-sound.is)

@@ -22,7 +22,7 @@ abbrev In-Opening-2 : Type 0
 In-Opening-2 = lts.After-found tie.the-claims reads.Pre reads.Post goal.the-invariant-loop-key goal.the-decreases-loop-key
 
 abbrev In_default : Type 0
-In_default = lts.After-enum_told tie.the-claims reads.Pre reads.Post goal.the-invariant-loop-key goal.the-decreases-loop-key
+In_default = lts.Past-After-enum_told tie.the-claims reads.Pre reads.Post goal.the-invariant-loop-key goal.the-decreases-loop-key
 
 abbrev After-slice_known-in-loop-key-2-1 : Type 0
 After-slice_known-in-loop-key-2-1 = lts.After-slice_known5 tie.the-claims reads.Pre reads.Post goal.the-invariant-loop-key goal.the-decreases-loop-key
@@ -49,10 +49,10 @@ next_opening-found-requires c =
 -- where nothing is left to be found
 module _ (c : In_default) where
   abbrev last : At-loop-key
-  last = c.before.before.before.before.before.before
+  last = c.before.before.before.before.before
 
   abbrev asked : After-next_opening-found
-  asked = c.before.before.before.before
+  asked = c.before.before.before
 
 pub shape_of-border-in_default : goal.shape_of-border-in_default
 shape_of-border-in_default c =
@@ -79,7 +79,7 @@ module _ (c : After-slice_known-in-loop-key-2-1) where
   abbrev turn : At-loop-key
   turn = answered.before.before
 
-  opens : Opens turn.loop-key.invariant.finding of.in-Opening.is answered.next_opening-found.last.1.1.1.1.1.1.0
+  opens : Opens turn.loop-key.invariant.finding of.in-Opening.is answered.next_opening-found.new.border
   opens = finds-opens (first turn).requires.1 turn.loop-key.invariant.finding of.in-Opening.is answered.next_opening-found.ensures
 
   few : (turn.loop-key.openings + 1 ≤ 16777216) × (turn.loop-key.records + of.in-Opening.count ≤ 65536)

@@ -76,12 +76,12 @@ module _ (c : After-pow4) where
 pub overflow_add-end : goal.overflow_add-end
 overflow_add-end c =
     let p = (entry (ended (other c.before))).requires in
-    let fits = whole_room p.2 p.5 (more (other c.before)) (told c.before).zeros_of.ensures (omega (arith, p.3, (ended (other c.before)).if-a-cursor.left)) in
+    let fits = whole_room p.2 p.5 (more (other c.before)) (told c.before).zeros_of.ensures (omega (arith, p.3, (ended (other c.before)).if-a-cursor.false)) in
     omega (arith, fits, c.pow4.ensures.is, pow-most 3 _ p.0)
 
 pub returns : goal.returns
 returns c =
     let e = ended (other c.before) in
     let p = (entry e).requires in
-    whole-held p.2 p.5 p.3 (omega (arith, e.if-a-cursor.left)) p.6 refl refl (more (other c.before)) (told c.before).zeros_of.ensures
+    whole-held p.2 p.5 p.3 (omega (arith, e.if-a-cursor.false)) p.6 refl refl (more (other c.before)) (told c.before).zeros_of.ensures
     (ap (λ (x : ℕ). (entry e).args.cursor.end + x) c.pow4.ensures.is)

@@ -14,7 +14,7 @@ abbrev At-loop-row : Type 0
 At-loop-row = lts.At-loop tie.the-claims reads.Pre reads.Post goal.the-invariant-loop-row goal.the-decreases-loop-row
 
 abbrev In-Block : Type 0
-In-Block = lts.After-known_told tie.the-claims reads.Pre reads.Post goal.the-invariant-loop-row goal.the-decreases-loop-row
+In-Block = lts.Past-After-known_told tie.the-claims reads.Pre reads.Post goal.the-invariant-loop-row goal.the-decreases-loop-row
 
 pub first_stand-at-requires : goal.first_stand-at-requires
 first_stand-at-requires c = let p = c.requires.1 in (p.small, p.today, spaced p.under)
@@ -30,13 +30,13 @@ next_block-next-requires c = let p = (entry c.before).requires in (p.1.small, in
 
 pub returns-in_default : goal.returns-in_default
 returns-in_default c =
-    let at = c.before.before.before.before in
+    let at = c.before.before.before in
     finding-no (entry at).requires.2 at.loop-row.invariant.0 (rw c.in_default.is at c.next_block-next.ensures)
 
 -- the arm of a block
 module _ (c : In-Block) where
   abbrev at : At-loop-row
-  at = c.before.before.before.before
+  at = c.before.before
 
   -- what the walk says
   goes : Goes (entry at).args.window (entry at).args.m (at.loop-row.r, at.loop-row.c)

@@ -33,14 +33,14 @@ pub span_of-block-requires : goal.span_of-block-requires
 span_of-block-requires c = let f = found c.before.before in ((entry c.before.before).requires.0, record { exponent = f.exponent; start = f.start; names = f.is.names })
 
 pub pow4-requires : goal.pow4-requires
-pow4-requires c = omega (arith, (block-lies c.Span-of.ensures).small, (entry c.before.before.before).requires.0)
+pow4-requires c = omega (arith, (block-lies c.span_of-block.ensures).small, (entry c.before.before.before).requires.0)
 
 pub overflow_add-end : goal.overflow_add-end
 overflow_add-end c =
     let b = c.before.before.before in
-    omega (arith, (block-lies b.Span-of.ensures).span, pow-most 3 _ (entry b.before.before).requires.0, c.pow4.ensures.is)
+    omega (arith, (block-lies b.span_of-block.ensures).span, pow-most 3 _ (entry b.before.before).requires.0, c.pow4.ensures.is)
 
 pub returns : goal.returns
 returns c =
     let b = c.before.before.before in
-    (refl, held (within b.before.before) b.Span-of.ensures (ap (λ (x : ℕ). b.Span-of.result.start + x) c.pow4.ensures.is))
+    (refl, held (within b.before.before) b.span_of-block.ensures (ap (λ (x : ℕ). b.span_of-block.result.start + x) c.pow4.ensures.is))

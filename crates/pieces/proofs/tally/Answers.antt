@@ -32,14 +32,14 @@ overflow_sub-totals c = omega (arith, c.next_piece-piece.ensures.0.more)
 pub overflow_add-totals : goal.overflow_add-totals
 overflow_add-totals c =
     let n = c.before.before.before.before.before in
-    let at = turn n in
+    let at = turn n.before in
     let p = (entry at).requires in
     omega (arith, tallying-fits at.loop-stand.invariant n.next_piece-piece.ensures.0 (omega (arith, p.4)) p.5 (omega arith))
 
 pub go_on-stand-requires : goal.go_on-stand-requires
 go_on-stand-requires c =
     let n = c.before.before.before.before.before in
-    let at = turn n in
+    let at = turn n.before in
     let p = (entry at).requires.0 in
     let e = n.next_piece-piece.ensures in
     (p.small, p.few, p.under_few, p.today, p.under, at.loop-stand.invariant.stands, omega (arith, e.0.more), omega (arith, e.0.most, (entry at).requires.3), e.1, e.2)
@@ -50,7 +50,7 @@ loop-stand-smaller c = let n = c.before.before.before.before.before.before in om
 pub loop-stand-preserved : goal.loop-stand-preserved
 loop-stand-preserved c =
     let n = c.before.before.before.before.before.before in
-    let at = turn n in
+    let at = turn n.before in
     tallying-next at.loop-stand.invariant n.next_piece-piece.ensures.0 (omega (arith, (entry at).requires.4)) c.go_on-stand.ensures.0 c.go_on-stand.ensures.1
 
 pub returns : goal.returns

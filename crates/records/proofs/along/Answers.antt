@@ -39,11 +39,11 @@ module _ (c : In-Block-2) where
   named = fits-block (rw c.in-Block.is at c.exponent_at-fit.ensures)
 
 pub advance-spot-requires : goal.advance-spot-requires
-advance-spot-requires c = let s = start c.before.before in (s.requires.0, s.requires.2, named c.before.before)
+advance-spot-requires c = let s = start c in (s.requires.0, s.requires.2, named c)
 
 pub loop-next-preserved : goal.loop-next-preserved
 loop-next-preserved c =
-    let fit = c.before.before.before in
+    let fit = c.before in
     let v = (turn fit).loop-next.invariant in
     let l = fit.loop-next-test.true in
     (omega (arith, v.0), omega (arith, l), c.advance-spot.ensures.1, more v.3 l (named fit) c.advance-spot.ensures.0)

@@ -23,7 +23,7 @@ returns-then-start-at c = refused (λ ks. step-early _ _ _ _ _ ks (named c.befor
 -- it does not start where the last one ended
 module _ (c : Else-start-at) where
   abbrev origin : Start
-  origin = c.before.before.before.before.before
+  origin = c.before.before.before
 
   abbrev starts : ℕ
   starts = c.in-Block.start

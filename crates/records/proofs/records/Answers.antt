@@ -81,7 +81,7 @@ module _ (c : After-misfit-taken) where
 
 pub returns-in-Refused : goal.returns-in-Refused
 returns-in-Refused c =
-    let f = c.before.before.before.before in
+    let f = c.before.before in
     sym (walked_here (gone (last f)) (left (stop f)) ∙ taken_refused (rw c.in-Refused.is at f.misfit-taken.ensures) _)
 
 -- a block behind a gap
@@ -99,21 +99,21 @@ module _ (c : In-Behind-2) where
 pub advance-spot-requires : goal.advance-spot-requires
 advance-spot-requires c =
     let t = c.before.before.before in
-    let f = t.before.before in
+    let f = t in
     (table (turn (last f)), (origin (last f)).requires.0, (taken t).2)
 
 pub overflow_add-n : goal.overflow_add-n
 overflow_add-n c =
-    let f = c.before.before.before.before.before.before in
+    let f = c.before.before.before.before in
     omega (arith, left (stop f), (origin (last f)).requires.1)
 
 pub loop-ones-smaller : goal.loop-ones-smaller
 loop-ones-smaller c =
-    let f = c.before.before.before.before.before.before in
+    let f = c.before.before.before.before in
     omega (arith, left (stop f), (last f).along-gone.ensures.onward)
 
 pub loop-ones-preserved : goal.loop-ones-preserved
 loop-ones-preserved c =
     let t = c.before.before.before.before in
-    let f = t.before.before in
+    let f = t in
     (walked_next (gone (last f)) (left (stop f)) (taken t).2 (taken t).1 (rw (taken t).0 (late-never _ _)) c.advance-spot.ensures.0, c.advance-spot.ensures.1)

@@ -29,7 +29,7 @@ module _ (c : Start) where
   abbrev rest : List ℕ
   rest = result_of c.args.m c.args.keys.now c.args.classes.now c.args.window
 
-  room : length all ≤ length c.args.out-1.now
+  room : length all ≤ length c.args.out.now
   room = omega (arith, answer-most c.args.m c.args.keys.now c.args.classes.now c.args.window c.requires.0, c.requires.1)
 
 -- with the first line put: how many bytes it is, and the slice then
@@ -41,11 +41,11 @@ module _ (c : After-put_window-at) where
   at = c.put_window-at.result
 
   abbrev begun : List ℕ
-  begun = c.put_window-at.new.1.0
+  begun = c.put_window-at.new.out
 
-  one : Telling (all start) (rest start) at start.args.out-1.now begun
+  one : Telling (all start) (rest start) at start.args.out.now begun
   unfolding answer_of
-  one = telling-begin (all start) (window_line start.args.window) (rest start) start.args.out-1.now refl (room start) c.put_window-at.ensures
+  one = telling-begin (all start) (window_line start.args.window) (rest start) start.args.out.now refl (room start) c.put_window-at.ensures
 
   short : at ≤ 46
   short = let W = start.args.window in omega (arith, put-most (window_line W) _ c.put_window-at.ensures, window-most W)
@@ -55,7 +55,7 @@ module _ (c : After-put_result) where
   abbrev first : After-put_window-at
   first = c.before.before.before.before
 
-  two : Telling (all (start first)) [] (at first + c.put_result.result) (start first).args.out-1.now (back (at first) (begun first) c.put_result.new.1.1.1.1.0)
+  two : Telling (all (start first)) [] (at first + c.put_result.result) (start first).args.out.now (back (at first) (begun first) c.put_result.new.out)
   two = telling-part (one first) (rest (start first)) [] (sym (append-nil (rest (start first)))) c.put_result.ensures
 
 pub slice_bounds-put_result-count : goal.slice_bounds-put_result-count

@@ -29,7 +29,7 @@ module _ (c : After-open-opened) where
   abbrev border : List ℕ
   border = c.«open».new.1.1.1.1.1.0
 
-  opening : Opening asked.args.m asked.args.keys.now asked.args.classes.now asked.args.window asked.args.border-1.now c.«open».result border cells
+  opening : Opening asked.args.m asked.args.keys.now asked.args.classes.now asked.args.window asked.args.border.now c.«open».result border cells
   opening = record { can = asked.requires.0; is = c.«open».ensures; long = c.«open».auto.1.1.1.1.1.1.0 ∙ length-replicate {A = ℕ} 3000 0 }
 
 -- and where it was not refused

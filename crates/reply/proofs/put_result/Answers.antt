@@ -20,10 +20,10 @@ module _ (c : After-report-reported) where
   asked = c.before.before.before.before.before.before
 
   abbrev border : List ℕ
-  border = c.report-reported.new.1.1.1.1.0
+  border = c.report-reported.new.border
 
   abbrev totals : List ℕ
-  totals = c.report-reported.new.1.1.1.1.1.0
+  totals = c.report-reported.new.out
 
   counting : Counting asked.args.m asked.args.keys.now asked.args.classes.now asked.args.window c.report-reported.result border totals
   counting = record {

@@ -16,7 +16,7 @@ loop-k-smaller c = omega (arith, c.loop-k-test)
 pub loop-k-preserved : goal.loop-k-preserved
 loop-k-preserved c =
     let more : c.loop-k.k < length c.args.totals.now = omega (arith, c.loop-k-test, c.requires) in
-    let room : c.loop-k.k < length c.args.out-1.now = omega (arith, c.loop-k-test, c.requires) in
+    let room : c.loop-k.k < length c.args.out.now = omega (arith, c.loop-k-test, c.requires) in
     (omega (arith, c.loop-k-test), copy-next _ _ c.loop-k.invariant.1 more room)
 
 pub shape_of-out : goal.shape_of-out

@@ -18,7 +18,7 @@ use Rattle.report.proofs.report.Reads as reads
 use Rattle.report.proofs.report.Tie as tie
 
 abbrev In_default : Type 0
-In_default = lts.After-enum_told tie.the-claims reads.Pre reads.Post
+In_default = lts.Past-After-enum_told tie.the-claims reads.Pre reads.Post
 
 abbrev Else-out-lt256 : Type 0
 Else-out-lt256 = lts.Else1 tie.the-claims reads.Pre reads.Post
@@ -32,12 +32,12 @@ returns-in-Refused c = sym (report-refused _ _ _ _ _ _ _ _ (sym c.usable-verdict
 -- where refusals 1 to 7 do not hold
 module _ (c : In_default) where
   abbrev entry : Start
-  entry = c.before.before.before.before.before.before.before
+  entry = c.before.before.before.before.before.before
 
-  passed : verdict (use_refusals entry.args.m entry.args.keys.now (length entry.args.classes.now) entry.args.window (length entry.args.border-1.now)) ≡ Passed
+  passed : verdict (use_refusals entry.args.m entry.args.keys.now (length entry.args.classes.now) entry.args.window (length entry.args.border.now)) ≡ Passed
   passed = sym c.usable-verdict.ensures ∙ c.in_default.is
 
-  known : Usable entry.args.m entry.args.m entry.args.keys.now entry.args.window (length entry.args.border-1.now)
+  known : Usable entry.args.m entry.args.m entry.args.keys.now entry.args.window (length entry.args.border.now)
   known = use-known true _ _ _ _ _ passed
 
 pub overflow_add-window : goal.overflow_add-window
@@ -75,5 +75,5 @@ pub returns : goal.returns
 returns c =
     let counted = c.before.before.before.before.before.before.before.before.before.before in
     let left = roomy counted.before.before in
-    report-done _ _ _ _ _ _ _ _ (passed left.before) counted.count.ensures.1 (omega (arith, left.if-out-lt256.left)) counted.count.ensures.0
+    report-done _ _ _ _ _ _ _ _ (passed left.before) counted.count.ensures.1 (omega (arith, left.if-out-lt256.false)) counted.count.ensures.0
     c.put_totals.ensures

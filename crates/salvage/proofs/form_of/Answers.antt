@@ -25,7 +25,7 @@ module _ (c : After-exponent_at-fit) where
   fits e = told-as c.spot_at-spot.ensures.0 e c.exponent_at-fit.ensures
 
 pub returns-in-Block : goal.returns-in-Block
-returns-in-Block c = sym (fits-block (fits c.before.before.before c.in-Block.is)).is
+returns-in-Block c = sym (fits-block (fits c.before c.in-Block.is)).is
 
 pub returns-in-Other : goal.returns-in-Other
 returns-in-Other c =

@@ -24,7 +24,7 @@ abbrev In-Block-2 : Type 0
 In-Block-2 = lts.After-form tie.the-claims reads.Pre reads.Post
 
 abbrev In_default : Type 0
-In_default = lts.After-enum_told tie.the-claims reads.Pre reads.Post
+In_default = lts.Past-After-enum_told tie.the-claims reads.Pre reads.Post
 
 abbrev Then-start-spot : Type 0
 Then-start-spot = lts.Then1 tie.the-claims reads.Pre reads.Post
@@ -38,7 +38,7 @@ module _ (c : After-form_of-form) where
   start = c.before.before.before.before.before.before
 
   abbrev at : ℕ
-  at = start.args.from.spot-1.place
+  at = start.args.from.spot.place
 
   abbrev key : ℕ
   key = get_or start.args.keys.now start.args.n 0

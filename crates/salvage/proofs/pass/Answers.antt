@@ -51,10 +51,10 @@ module _ (c : After-so_far-1) where
   abbrev turn : At-loop-digits
   turn = kept.before.before.before.before.before
 
-  going : Going (start turn).args.m (start turn).args.keys.now-1 (start turn).args.classes.now-1
-      (sheet 0 0 (start turn).args.mended-1.now-1 (start turn).args.painted-1.now-1 (start turn).args.log-1.now-1)
-      (sheet kept.keep_along-kept.result.now-1.records kept.keep_along-kept.result.now-1.entries kept.keep_along-kept.last.1.1.1.1.1.1.1.0
-      kept.keep_along-kept.last.1.1.1.1.1.1.1.1.0 turn.loop-digits.log-1) kept.keep_along-kept.result.now-1.spot kept.keep_along-kept.result.next
+  going : Going (start turn).args.m (start turn).args.keys.now (start turn).args.classes.now
+      (sheet 0 0 (start turn).args.mended.now (start turn).args.painted.now (start turn).args.log.now)
+      (sheet kept.keep_along-kept.result.now.records kept.keep_along-kept.result.now.entries kept.keep_along-kept.new.mended
+      kept.keep_along-kept.new.painted turn.loop-digits.log) kept.keep_along-kept.result.now.spot kept.keep_along-kept.result.next
   going = kept.keep_along-kept.ensures.goes _ _ turn.loop-digits.invariant
 
 pub pow4-requires : goal.pow4-requires
@@ -89,7 +89,7 @@ pub shape_of-log-then-next-keys : goal.shape_of-log-then-next-keys
 shape_of-log-then-next-keys c = (makes-lengths (returns-then-next-keys c.before)).2
 
 -- one is left that does not
-left : (c : Else-next-keys) → (kept c.before).keep_along-kept.result.next < length (start (turn c.before)).args.keys.now-1
+left : (c : Else-next-keys) → (kept c.before).keep_along-kept.result.next < length (start (turn c.before)).args.keys.now
 left c = omega (arith, c.if-next-keys.false, (kept c.before).keep_along-kept.ensures.within)
 
 pub mend-done-requires : goal.mend-done-requires

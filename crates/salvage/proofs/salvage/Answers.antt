@@ -16,7 +16,7 @@ use Rattle.salvage.proofs.salvage.Reads as reads
 use Rattle.salvage.proofs.salvage.Tie as tie
 
 abbrev In_default : Type 0
-In_default = lts.After-enum_told tie.the-claims reads.Pre reads.Post
+In_default = lts.Past-After-enum_told tie.the-claims reads.Pre reads.Post
 
 abbrev After-pass-counted : Type 0
 After-pass-counted = lts.After-pass tie.the-claims reads.Pre reads.Post
@@ -27,7 +27,7 @@ returns-in-Refused c = salvage-sizes _ _ _ _ _ _ (sym c.sizes-sizes.ensures ∙ 
 -- where the sizes are right
 module _ (c : In_default) where
   abbrev start : Start
-  start = c.before.before.before.before.before.before.before.before
+  start = c.before.before.before.before.before.before.before
 
   passed : verdict (size_refusals_in false start.args.m (length start.args.keys.now) (length start.args.classes.now)) ≡ Passed
   passed = sym c.sizes-sizes.ensures ∙ c.in_default.is

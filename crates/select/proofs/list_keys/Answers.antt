@@ -30,7 +30,7 @@ module _ (entry : Start) where
   chosen = selection entry.args.m entry.args.top entry.args.keys.now entry.args.classes.now entry.args.window entry.args.class
 
   abbrev lent : List ℕ
-  lent = entry.args.out-1.now
+  lent = entry.args.out.now
 
   drawn : Inside 12 entry.args.window
   drawn = inside-12 entry.requires.1.small entry.requires.1.inside
@@ -62,7 +62,7 @@ returns-then-out-needed c =
     keys-short (chosen k) (lent k) (omega (arith, L.count)) (omega (arith, c.if-out-needed.true, ap length same)) same
 
 -- where the keys are written: the slice is as it was, and has room for all
-ready : (c : Joined-out-most_blocks) → let e = start c.before in (c.if-out-most_blocks.out-1 ≡ lent e) × (length (chosen e) ≤ length (lent e))
+ready : (c : Joined-out-most_blocks) → let e = start c.before in (c.if-out-most_blocks.out ≡ lent e) × (length (chosen e) ≤ length (lent e))
 ready c =
     let e = start c.before in
     ⊎_elim

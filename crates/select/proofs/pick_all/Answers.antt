@@ -49,7 +49,7 @@ block_key-key-requires c =
 -- the arm of a block: where the loop is, and which block it is
 module _ (c : After-block_key-key) where
   abbrev turn : At-loop-row
-  turn = c.before.before.before.before.before
+  turn = c.before.before.before
 
   abbrev start : Start
   start = turn.before.before.before.before.before
@@ -58,7 +58,7 @@ module _ (c : After-block_key-key) where
   coming = comes turn.loop-row.invariant c.in-Block.is start.requires.1 c.next_block-next.ensures c.block_key-key.ensures
 
 -- a block in the nearer record
-inside : (c : Then-lies_in) → LiesIn (turn c.before.before).loop-row.seen.near c.block_key-key.result
+inside : (c : Then-lies_in) → LiesIn (turn c.before.before.before).loop-row.seen.near c.block_key-key.result
 inside c = c.lies_in.ensures.0 c.if-lies_in.true
 
 pub pick_around-n-requires : goal.pick_around-n-requires
@@ -67,7 +67,7 @@ pick_around-n-requires c =
     selecting-around (coming b) (turn b).loop-row.invariant.known.0 (inside c.before.before.before) (start b).requires.2
 
 pub loop-row-smaller-then-lies_in : goal.loop-row-smaller-then-lies_in
-loop-row-smaller-then-lies_in c = goes-less (coming c.before.before.before.before.before.before.before.before).goes
+loop-row-smaller-then-lies_in c = goes-less (coming c.before.before.before.before.before.before.before.before.before).goes
 
 pub loop-row-preserved-then-lies_in : goal.loop-row-preserved-then-lies_in
 loop-row-preserved-then-lies_in c =
@@ -79,7 +79,7 @@ loop-row-preserved-then-lies_in c =
 -- in the other
 module _ (c : After-exchanged-seen) where
   abbrev other : After-block_key-key
-  other = c.before.before.before.before.before
+  other = c.before.before.before.before.before.before.before
 
   inside-other : LiesIn c.exchanged-seen.result.near other.block_key-key.result
   inside-other = exchanged-in c.exchanged-seen.ensures (c.lies_in-in-loop-row.ensures.0 c.if-lies_in-2.true)
@@ -111,13 +111,13 @@ look_up-seen-requires c =
 
 pub pick-n-requires : goal.pick-n-requires
 pick-n-requires c =
-    let b = neither c.before.before.before in
+    let b = neither c.before.before.before.before in
     let p = (start b).requires in
     let o = selecting-run (coming b) c.look_up-seen.ensures.is in
     (o, p.1.few, p.2, omega (arith, o.room, p.1.few, selecting-most (coming b)))
 
 pub loop-row-smaller : goal.loop-row-smaller
-loop-row-smaller c = goes-less (coming (neither c.before.before.before.before.before.before)).goes
+loop-row-smaller c = goes-less (coming (neither c.before.before.before.before.before.before.before)).goes
 
 pub loop-row-preserved : goal.loop-row-preserved
 loop-row-preserved c =

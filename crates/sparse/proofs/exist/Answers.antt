@@ -17,7 +17,7 @@ use Rattle.sparse.proofs.exist.Reads as reads
 use Rattle.sparse.proofs.exist.Tie as tie
 
 abbrev In_default : Type 0
-In_default = lts.After-enum_told tie.the-claims reads.Pre reads.Post
+In_default = lts.Past-After-enum_told tie.the-claims reads.Pre reads.Post
 
 pub returns-in-Refused : goal.returns-in-Refused
 returns-in-Refused c = sym (exist-refused _ _ _ _ _ _ _ _ (use-refused _ _ _ _ _ _ (sym c.sound-sound.ensures ∙ c.in-Refused.is)))
@@ -25,7 +25,7 @@ returns-in-Refused c = sym (exist-refused _ _ _ _ _ _ _ _ (use-refused _ _ _ _ _
 -- where they do not hold
 module _ (c : In_default) where
   abbrev entry : Start
-  entry = c.before.before.before.before.before.before
+  entry = c.before.before.before.before.before
 
   passed : verdict (map_refusals_in false entry.args.m entry.args.keys.now (length entry.args.classes.now)) ≡ Passed
   passed = sym c.sound-sound.ensures ∙ c.in_default.is

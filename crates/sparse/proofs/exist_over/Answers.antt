@@ -14,7 +14,7 @@ use Rattle.sparse.proofs.exist_over.Reads as reads
 use Rattle.sparse.proofs.exist_over.Tie as tie
 
 abbrev In_default : Type 0
-In_default = lts.After-enum_told tie.the-claims reads.Pre reads.Post
+In_default = lts.Past-After-enum_told tie.the-claims reads.Pre reads.Post
 
 pub in_view-verdict-requires : goal.in_view-verdict-requires
 in_view-verdict-requires c = c.requires.small
@@ -27,9 +27,9 @@ returns-in-Refused c =
 -- where refusals 6 and 7 do not hold
 module _ (c : In_default) where
   abbrev entry : Start
-  entry = c.before.before.before.before.before.before.before.before
+  entry = c.before.before.before.before.before.before.before
 
-  known : Usable entry.args.m entry.args.m entry.args.keys.now entry.args.window (length entry.args.border-1.now)
+  known : Usable entry.args.m entry.args.m entry.args.keys.now entry.args.window (length entry.args.border.now)
   known = pair-known entry.requires _ _ c.in_view-verdict.ensures c.in_default.is
 
 pub spend-requires : goal.spend-requires

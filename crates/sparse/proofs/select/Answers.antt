@@ -16,7 +16,7 @@ use Rattle.sparse.proofs.select.Reads as reads
 use Rattle.sparse.proofs.select.Tie as tie
 
 abbrev In_default : Type 0
-In_default = lts.After-enum_told tie.the-claims reads.Pre reads.Post
+In_default = lts.Past-After-enum_told tie.the-claims reads.Pre reads.Post
 
 pub returns-in-Refused : goal.returns-in-Refused
 returns-in-Refused c = sym (select-refused _ _ _ _ _ _ _ _ _ (sym c.usable_tiled-verdict.ensures ∙ c.in-Refused.is))
@@ -24,13 +24,13 @@ returns-in-Refused c = sym (select-refused _ _ _ _ _ _ _ _ _ (sym c.usable_tiled
 -- where refusals 1 to 7 and 17 do not hold
 module _ (c : In_default) where
   abbrev entry : Start
-  entry = c.before.before.before.before.before.before.before
+  entry = c.before.before.before.before.before.before
 
   passed : verdict (tiled_refusals false entry.args.m entry.args.top entry.args.keys.now (length entry.args.classes.now)
-      entry.args.window (length entry.args.border-1.now)) ≡ Passed
+      entry.args.window (length entry.args.border.now)) ≡ Passed
   passed = sym c.usable_tiled-verdict.ensures ∙ c.in_default.is
 
-  known : Usable entry.args.m entry.args.top entry.args.keys.now entry.args.window (length entry.args.border-1.now)
+  known : Usable entry.args.m entry.args.top entry.args.keys.now entry.args.window (length entry.args.border.now)
   known = tiled-known false _ _ _ _ _ _ passed
 
 pub spend-requires : goal.spend-requires

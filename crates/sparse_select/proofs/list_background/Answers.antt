@@ -25,7 +25,7 @@ module _ (entry : Start) where
   chosen = sparse_selection entry.args.m entry.args.top entry.args.class entry.args.keys.now entry.args.classes.now entry.args.window entry.args.class
 
   abbrev lent : List ℕ
-  lent = entry.args.out-1.now
+  lent = entry.args.out.now
 
   few : length chosen ≤ entry.args.window.h * entry.args.window.w
   few = let u = entry.requires.1 in sparse-most u.spaced u.inside u.cap entry.args.class entry.args.classes.now entry.requires.2 entry.args.class
@@ -44,7 +44,7 @@ returns-then-out-needed c =
 abbrev start : Joined-out-most → Start
 start c = c.before.before.before.before.before.before.before
 
-ready : (c : Joined-out-most) → (c.if-out-most.out-1 ≡ lent (start c)) × (length (chosen (start c)) ≤ length (lent (start c)))
+ready : (c : Joined-out-most) → (c.if-out-most.out ≡ lent (start c)) × (length (chosen (start c)) ≤ length (lent (start c)))
 ready c =
     let e = start c in
     ⊎_elim

@@ -16,7 +16,7 @@ abbrev At-loop-row : Type 0
 At-loop-row = lts.At-loop tie.the-claims reads.Pre reads.Post goal.the-invariant-loop-row goal.the-decreases-loop-row
 
 abbrev In-Block : Type 0
-In-Block = lts.After-known_told tie.the-claims reads.Pre reads.Post goal.the-invariant-loop-row goal.the-decreases-loop-row
+In-Block = lts.Past-After-known_told tie.the-claims reads.Pre reads.Post goal.the-invariant-loop-row goal.the-decreases-loop-row
 
 pub loop-row-init : goal.loop-row-init
 loop-row-init c = walking-first _ c.requires.2.inside _
@@ -34,7 +34,7 @@ returns-in_default c = walking-last c.loop-row.invariant c.next_block-next.ensur
 -- the arm of a block: where the loop is, and which block it is
 module _ (c : In-Block) where
   abbrev turn : At-loop-row
-  turn = c.before.before.before.before
+  turn = c.before.before
 
   abbrev start : Start
   start = turn.before.before.before.before

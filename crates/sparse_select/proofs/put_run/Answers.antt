@@ -33,13 +33,13 @@ module _ (c : After-span_of-block) where
   start = c.before.before.before.before
 
   -- its records reach no further
-  short : start.args.run.reach ≡ c.Span-of.result.exponent
-  short = (one_block start.requires.2.names c.Span-of.ensures).0
+  short : start.args.run.reach ≡ c.span_of-block.result.exponent
+  short = (one_block start.requires.2.names c.span_of-block.ensures).0
 
   -- it is small
-  span : (c.Span-of.result.exponent ≤ 12) × (c.Span-of.result.start + 4 ^ c.Span-of.result.exponent ≤ 4 ^ 12)
+  span : (c.span_of-block.result.exponent ≤ 12) × (c.span_of-block.result.start + 4 ^ c.span_of-block.result.exponent ≤ 4 ^ 12)
   span =
-      let l = block-lies c.Span-of.ensures in
+      let l = block-lies c.span_of-block.ensures in
       (omega (arith, l.small, start.requires.1.small), omega (arith, l.span, pow-most 3 start.args.m start.requires.1.small))
 
 pub span_of-block-requires : goal.span_of-block-requires
@@ -52,18 +52,18 @@ pub overflow_add-end : goal.overflow_add-end
 overflow_add-end c = let b = c.before.before.before in omega (arith, (span b).1, c.pow4.ensures)
 
 pub begin-spot-requires : goal.begin-spot-requires
-begin-spot-requires c = let b = c.before.before.before in ((start b).requires.0, (start b).requires.1.small, b.Span-of.ensures)
+begin-spot-requires c = let b = c.before.before.before in ((start b).requires.0, (start b).requires.1.small, b.span_of-block.ensures)
 
 pub overflow_add-last : goal.overflow_add-last
 overflow_add-last c =
     let b = c.before.before.before.before.before.before in
-    omega (arith, merging-room (start b).requires.1 b.Span-of.ensures (short b))
+    omega (arith, merging-room (start b).requires.1 b.span_of-block.ensures (short b))
 
 pub loop-i-init : goal.loop-i-init
 loop-i-init c =
     let b = c.before.before.before.before.before.before in
     let g = c.begin-spot.ensures in
-    merging-first (start b).requires.1 b.Span-of.ensures (short b) _ g.0 g.1 (omega (arith, c.pow4.ensures.is)) refl
+    merging-first (start b).requires.1 b.span_of-block.ensures (short b) _ g.0 g.1 (omega (arith, c.pow4.ensures.is)) refl
 
 -- at a turn
 module _ (c : In-loop-i) where
@@ -118,7 +118,7 @@ pub overflow_add-i : goal.overflow_add-i
 overflow_add-i c =
     let t = inside (behind c.before) in
     let b = (turn t).before.before.before.before.before.before in
-    omega (arith, test t, merging-room (start b).requires.1 b.Span-of.ensures (short b))
+    omega (arith, test t, merging-room (start b).requires.1 b.span_of-block.ensures (short b))
 
 pub loop-i-smaller : goal.loop-i-smaller
 loop-i-smaller c = omega (arith, test (inside (behind c.before)))
@@ -136,7 +136,7 @@ put_stretch-requires c =
     let b = c.before.before.before.before.before.before.before.before.before in
     let p = (start b).requires in
     let M = c.loop-i.invariant in
-    let l = (block-lies b.Span-of.ensures).span in
+    let l = (block-lies b.span_of-block.ensures).span in
     let w = c.pow4.ensures.is in
     (p.0, p.1.small, M.stands, omega (arith, l, w), omega (arith, merging-few M (omega (arith, c.loop-i-test)), p.1.room))
 

@@ -53,6 +53,6 @@ overflow_sub-largest c = let e = c.before.before.before in omega (arith, own e.b
 
 pub returns : goal.returns
 returns c =
-    let e = c.before.before.before in
-    let p = (start e.before).requires in
-    (refl, begin-stands {top = top e.before} p.1 p.2 (some e.before) refl refl refl (omega (arith, own e, largest e, room e)))
+    let e = c.before.before.before.before in
+    let p = (start e).requires in
+    (refl, begin-stands {top = top e} p.1 p.2 (some e) refl refl refl (omega (arith, own e, largest e, room e)))

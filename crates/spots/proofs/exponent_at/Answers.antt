@@ -31,7 +31,7 @@ module _ (c : After-wrapping_sub_u32-over) where
 
   less : Less (pixel_at start.args.spot) start.args.key over
   unfolding over
-  less = record { fits = omega arith; from = omega arith; back = c.wrapping_sub_u32-over.ensures ∙ c.pixel_at.ensures }
+  less = record { fits = omega arith; from = omega arith; back = c.wrapping_sub_u32-over.ensures.value ∙ c.pixel_at.ensures }
 
   digits : ℕ
   digits = get_or start.args.digits.now (over % 16) 0
@@ -60,16 +60,16 @@ pub returns-then-ones-exponent : goal.returns-then-ones-exponent
 unfolding over digits
 returns-then-ones-exponent c =
     let e = c.before.before.before.before in
-    fits-unlike (start e.before.before).requires.3 (inside e.before.before) (start e.before.before).requires.2 (tells e) (less e) c.if-ones-exponent.true
+    fits-unlike (start e.before.before).requires.3 (inside e.before.before) (start e.before.before).requires.2 (tells e.before.before) (less e.before.before) c.if-ones-exponent.true
 
 pub returns-then-spot-exponent : goal.returns-then-spot-exponent
 unfolding over digits
 returns-then-spot-exponent c =
     let e = c.before.before.before.before.before.before in
-    fits-large (start e.before.before).requires.3 (inside e.before.before) (start e.before.before).requires.2 (tells e) (less e) c.if-spot-exponent.true
+    fits-large (start e.before.before).requires.3 (inside e.before.before) (start e.before.before).requires.2 (tells e.before.before) (less e.before.before) c.if-spot-exponent.true
 
 pub returns : goal.returns
 unfolding over digits
 returns c =
     let e = c.before.before.before.before.before.before in
-    fits-here (start e.before.before).requires.3 (inside e.before.before) (start e.before.before).requires.2 (tells e) (less e) c.if-ones-exponent.false c.if-spot-exponent.false
+    fits-here (start e.before.before).requires.3 (inside e.before.before) (start e.before.before).requires.2 (tells e.before.before) (less e.before.before) c.if-ones-exponent.false c.if-spot-exponent.false

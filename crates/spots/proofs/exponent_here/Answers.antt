@@ -13,7 +13,7 @@ pub overflow_sub-over : goal.overflow_sub-over
 overflow_sub-over c = let p = c.requires in omega (arith, c.pixel_at.ensures, begins-over p.3 p.4)
 
 pub overflow_cast-result-2 : goal.overflow_cast-result-2
-overflow_cast-result-2 c = let s = c.before.before.before.before.before in omega (arith, s.requires.1.small ((c.pixel_at.result-1 - s.args.key) % 16) (omega arith))
+overflow_cast-result-2 c = let s = c.before.before.before.before.before in omega (arith, s.requires.1.small ((c.pixel_at.result - s.args.key) % 16) (omega arith))
 
 pub returns : goal.returns
 returns c =

@@ -16,17 +16,17 @@ abbrev Joined-else-put-n : Type 0
 Joined-else-put-n = lts.Joined2 tie.the-claims reads.Pre reads.Post goal.the-invariant-loop-rest goal.the-decreases-loop-rest
 
 -- a piece is a part of what is left
-within : (c : After-piece-n) → c.piece-n.result ≤ length c.loop-rest.rest-1.now
-within c = omega (arith, c.piece-n.ensures, piece-within 4096 c.loop-rest.rest-1.now)
+within : (c : After-piece-n) → c.piece-n.result ≤ length c.loop-rest.rest.now
+within c = omega (arith, c.piece-n.ensures, piece-within 4096 c.loop-rest.rest.now)
 
 pub slice_bounds-write-end : goal.slice_bounds-write-end
-slice_bounds-write-end c = sym (length-take-le _ _ (within c.before.before))
+slice_bounds-write-end c = sym (length-take-le _ _ (within c.before))
 
-taken : (c : Joined-else-put-n) → c.write-put.result ≤ length c.loop-rest.rest-1.now
+taken : (c : Joined-else-put-n) → c.write-put.result ≤ length c.loop-rest.rest.now
 taken c =
     let w = c.before.before in
     let n = w.before.before in
-    omega (arith, w.write-put.ensures, length-take-le n.piece-n.result n.loop-rest.rest-1.now (within n), within n)
+    omega (arith, w.write-put.ensures, length-take-le n.piece-n.result n.loop-rest.rest.now (within n), within n)
 
 pub slice_bounds-rest-count : goal.slice_bounds-rest-count
 slice_bounds-rest-count c = taken c.before

@@ -24,13 +24,13 @@ module _ (c : After-read-more) where
   at = c.before.before.before
 
   abbrev bytes : List ℕ
-  bytes = put_mid at.loop-count.count (length at.loop-count.buf-1 - at.loop-count.count) at.loop-count.buf-1 c.read-more.new.1.0
+  bytes = put_mid at.loop-count.count (length at.loop-count.buf - at.loop-count.count) at.loop-count.buf c.read-more.new.buf
 
-  long : length bytes ≡ length at.loop-count.buf-1
-  long = same_len_mid at.loop-count.count (length at.loop-count.buf-1 - at.loop-count.count) at.loop-count.buf-1 c.read-more.new.1.0 c.read-more.auto.1.0
+  long : length bytes ≡ length at.loop-count.buf
+  long = same_len_mid at.loop-count.count (length at.loop-count.buf - at.loop-count.count) at.loop-count.buf c.read-more.new.buf c.read-more.auto.1.0
 
-  more : at.loop-count.count + c.read-more.result.count ≤ length at.loop-count.buf-1
-  more = omega (arith, c.read-more.ensures, c.read-more.auto.1.0, mid_len at.loop-count.count (length at.loop-count.buf-1) at.loop-count.buf-1 (omega arith), at.loop-count.invariant.1)
+  more : at.loop-count.count + c.read-more.result.count ≤ length at.loop-count.buf
+  more = omega (arith, c.read-more.ensures, c.read-more.auto.1.0, mid_len at.loop-count.count (length at.loop-count.buf) at.loop-count.buf (omega arith), at.loop-count.invariant.1)
 
 counted : (n : ℕ) (xs : List ℕ) → n ≤ length xs → IsPrefixLen n xs
 counted n xs l = (l, sym (length-take-le n xs l))
@@ -48,4 +48,4 @@ pub loop-count-preserved : goal.loop-count-preserved
 loop-count-preserved c = let call = c.before.before.before.before.before.before in (long call ∙ (at call).loop-count.invariant.0, omega (arith, long call, more call))
 
 pub returns : goal.returns
-returns c = counted _ c.loop-count.buf-1 c.loop-count.invariant.1
+returns c = counted _ c.loop-count.buf c.loop-count.invariant.1

@@ -18,10 +18,10 @@ abbrev After-next_opening-found : Type 0
 After-next_opening-found = lts.After-next_opening tie.the-claims reads.Pre reads.Post goal.the-invariant-loop-row goal.the-decreases-loop-row
 
 abbrev In-Opening : Type 0
-In-Opening = lts.After-known_told tie.the-claims reads.Pre reads.Post goal.the-invariant-loop-row goal.the-decreases-loop-row
+In-Opening = lts.Past-After-known_told tie.the-claims reads.Pre reads.Post goal.the-invariant-loop-row goal.the-decreases-loop-row
 
 abbrev In_default : Type 0
-In_default = lts.After-enum_told tie.the-claims reads.Pre reads.Post goal.the-invariant-loop-row goal.the-decreases-loop-row
+In_default = lts.Past-After-enum_told tie.the-claims reads.Pre reads.Post goal.the-invariant-loop-row goal.the-decreases-loop-row
 
 pub fill-requires : goal.fill-requires
 fill-requires c = (omega arith, omega (arith, c.requires.3.wide))
@@ -47,7 +47,7 @@ next_opening-found-requires c =
 -- where nothing is left to be found
 module _ (c : In_default) where
   abbrev asked : After-next_opening-found
-  asked = c.before.before.before.before
+  asked = c.before.before.before
 
   abbrev last : At-loop-row
   last = asked.before.before
@@ -69,12 +69,12 @@ returns-in_default c =
 -- the arm of an opening
 module _ (c : In-Opening) where
   abbrev answered : After-next_opening-found
-  answered = c.before.before.before.before.before
+  answered = c.before.before.before
 
   abbrev turn : At-loop-row
   turn = answered.before.before
 
-  opens : Opens turn.loop-row.invariant.finding c.in-Opening.is answered.next_opening-found.last.1.1.1.1.1.1.0
+  opens : Opens turn.loop-row.invariant.finding c.in-Opening.is answered.next_opening-found.new.border
   opens = finds-opens (first turn).requires.3 turn.loop-row.invariant.finding c.in-Opening.is answered.next_opening-found.ensures
 
 pub gather-requires : goal.gather-requires

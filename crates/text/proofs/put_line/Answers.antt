@@ -32,7 +32,7 @@ module _ (c : Else-span-most) where
   numbers = start.args.numbers.now
 
   abbrev out : List ℕ
-  out = start.args.out-1.now
+  out = start.args.out.now
 
   abbrev line : List ℕ
   line = line_of letter numbers
@@ -49,7 +49,7 @@ module _ (c : After-put_numbers-at) where
   abbrev fits : Else-span-most
   fits = c.before.before
 
-  numbered : Telling (line fits) (10 ∷ []) (1 + c.put_numbers-at.result) (out fits) (back 1 (set (out fits) 0 (letter fits)) c.put_numbers-at.new.1.0)
+  numbered : Telling (line fits) (10 ∷ []) (1 + c.put_numbers-at.result) (out fits) (back 1 (set (out fits) 0 (letter fits)) c.put_numbers-at.new.out)
   numbered = telling-part (lettered fits) (spaced (numbers fits)) (10 ∷ []) refl c.put_numbers-at.ensures
 
 pub returns-then-out-lt2 : goal.returns-then-out-lt2

@@ -22,7 +22,7 @@ module _ (c : In-loop-i) where
   abbrev i : ℕ
   i = c.loop-i.i
 
-  room : c.loop-i.at + 1 + length (digits_of (get_or numbers i 0)) ≤ length c.loop-i.out-1
+  room : c.loop-i.at + 1 + length (digits_of (get_or numbers i 0)) ≤ length c.loop-i.out
   room = omega (arith, telling-room c.loop-i.invariant, span-next numbers i c.loop-i-test.true)
 
 pub loop-i-init : goal.loop-i-init
@@ -45,7 +45,7 @@ loop-i-preserved c =
     telling-part space (digits_of (get_or (numbers turn) (i turn) 0)) _ refl called.put_number-at.ensures
 
 pub overflow_add-at-in-loop-i : goal.overflow_add-at-in-loop-i
-overflow_add-at-in-loop-i c = omega (arith, telling-length (loop-i-preserved c.before), (loop-i-preserved c.before).room)
+overflow_add-at-in-loop-i c = omega (arith, telling-length (loop-i-preserved c), (loop-i-preserved c).room)
 
 pub returns : goal.returns
 returns c = telling-last c.loop-i.invariant (spaced-none _ c.loop-i.i c.loop-i-test.false)

@@ -12,7 +12,7 @@ use Rattle.used.proofs.usable.Reads as reads
 use Rattle.used.proofs.usable.Tie as tie
 
 abbrev In_default : Type 0
-In_default = lts.After-enum_told tie.the-claims reads.Pre reads.Post
+In_default = lts.Past-After-enum_told tie.the-claims reads.Pre reads.Post
 
 pub returns-in-Refused : goal.returns-in-Refused
 returns-in-Refused c = sym (use-refused _ _ _ _ _ _ (sym c.sound-sound.ensures ∙ c.in-Refused.is))

@@ -24,10 +24,10 @@ abbrev After-next_opening-found : Type 0
 After-next_opening-found = lts.After-next_opening tie.the-claims reads.Pre reads.Post goal.the-invariant-loop-key goal.the-decreases-loop-key
 
 abbrev In-Opening : Type 0
-In-Opening = lts.After-known_told tie.the-claims reads.Pre reads.Post goal.the-invariant-loop-key goal.the-decreases-loop-key
+In-Opening = lts.Past-After-known_told tie.the-claims reads.Pre reads.Post goal.the-invariant-loop-key goal.the-decreases-loop-key
 
 abbrev In_default : Type 0
-In_default = lts.After-enum_told tie.the-claims reads.Pre reads.Post goal.the-invariant-loop-key goal.the-decreases-loop-key
+In_default = lts.Past-After-enum_told tie.the-claims reads.Pre reads.Post goal.the-invariant-loop-key goal.the-decreases-loop-key
 
 abbrev After-slice_known-then-first-index-1 : Type 0
 After-slice_known-then-first-index-1 = lts.After-slice_known4 tie.the-claims reads.Pre reads.Post goal.the-invariant-loop-key goal.the-decreases-loop-key
@@ -48,7 +48,7 @@ module _ (c : At-loop-key) where
   abbrev fresh : After-fill
   fresh = c.before.before.before.before
 
-  usable : Usable first.args.m first.args.m first.args.keys.now first.args.window (length fresh.fill.last.0)
+  usable : Usable first.args.m first.args.m first.args.keys.now first.args.window (length fresh.fill.new.cells)
   usable = fresh-usable _ first.requires.1 fresh.fill.ensures
 
 pub next_opening-found-requires : goal.next_opening-found-requires
@@ -57,14 +57,14 @@ next_opening-found-requires c = let at = c.before.before in ((first at).requires
 -- where nothing is left to be found
 module _ (c : In_default) where
   abbrev asked : After-next_opening-found
-  asked = c.before.before.before.before
+  asked = c.before.before.before
 
   abbrev last : At-loop-key
   last = asked.before.before
 
   end : let a = (first last).args in
-      (length asked.next_opening-found.last.1.1.1.1.1.1.0 ≡ length a.border-1.now)
-      × (asked.next_opening-found.last.1.1.1.1.1.1.0 ≡ spent a.window a.border-1.now)
+      (length asked.next_opening-found.new.border ≡ length a.border.now)
+      × (asked.next_opening-found.new.border ≡ spent a.window a.border.now)
   end =
       let p = (first last).requires.1 in
       let t = finding-last last.loop-key.invariant.finding asked.next_opening-found.ensures c.in_default.is in
@@ -79,12 +79,12 @@ returns-in_default c = (bringing-last _ (last c.before).loop-key.invariant (aske
 -- the arm of an opening
 module _ (c : In-Opening) where
   abbrev answered : After-next_opening-found
-  answered = c.before.before.before.before.before
+  answered = c.before.before.before
 
   abbrev turn : At-loop-key
   turn = answered.before.before
 
-  opens : Opens turn.loop-key.invariant.finding c.in-Opening.is answered.next_opening-found.last.1.1.1.1.1.1.0
+  opens : Opens turn.loop-key.invariant.finding c.in-Opening.is answered.next_opening-found.new.border
   opens = finds-opens (first turn).requires.1 turn.loop-key.invariant.finding c.in-Opening.is answered.next_opening-found.ensures
 
 pub overflow_add-first : goal.overflow_add-first
@@ -102,9 +102,9 @@ module _ (c : After-slice_known-then-first-index-1) where
   of = c.before.before.before.before.before.before
 
   abbrev filled : List ℕ
-  filled = c.fill-then-first-index.new.0
+  filled = c.fill-then-first-index.new.cells
 
-  spent-now : (filled ≡ spent (first (turn of)).args.window (fresh (turn of)).fill.last.0) × (length filled ≡ length (fresh (turn of)).fill.last.0)
+  spent-now : (filled ≡ spent (first (turn of)).args.window (fresh (turn of)).fill.new.cells) × (length filled ≡ length (fresh (turn of)).fill.new.cells)
   spent-now = finding-spent (opens of).next (usable (turn of)) c.fill-then-first-index.ensures
 
 pub shape_of-border-then-first-index : goal.shape_of-border-then-first-index

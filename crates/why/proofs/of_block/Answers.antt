@@ -26,7 +26,7 @@ use Rattle.why.proofs.of_block.Reads as reads
 use Rattle.why.proofs.of_block.Tie as tie
 
 abbrev In_default : Type 0
-In_default = lts.After-enum_told tie.the-claims reads.Pre reads.Post
+In_default = lts.Past-After-enum_told tie.the-claims reads.Pre reads.Post
 
 abbrev After-square_of-square : Type 0
 After-square_of-square = lts.After-square_of tie.the-claims reads.Pre reads.Post
@@ -52,12 +52,12 @@ returns-in-Refused c = sym (why-refused _ _ _ _ _ _ _ (sym c.usable-verdict.ensu
 -- where refusals 1 to 7 do not hold
 module _ (c : In_default) where
   abbrev first : Start
-  first = c.before.before.before.before.before.before
+  first = c.before.before.before.before.before
 
-  passed : let a = first.args in verdict (use_refusals a.m a.keys.now (length a.classes.now) a.window (length a.border-1.now)) ≡ Passed
+  passed : let a = first.args in verdict (use_refusals a.m a.keys.now (length a.classes.now) a.window (length a.border.now)) ≡ Passed
   passed = sym c.usable-verdict.ensures ∙ c.in_default.is
 
-  known : let a = first.args in Usable a.m a.m a.keys.now a.window (length a.border-1.now)
+  known : let a = first.args in Usable a.m a.m a.keys.now a.window (length a.border.now)
   known = use-known true _ _ _ _ _ passed
 
 pub square_of-square-requires : goal.square_of-square-requires
@@ -120,7 +120,7 @@ module _ (c : After-struct_known-1) where
 
   answers : {s : Why} → let a = (first (told of)).args in
       block_said a.m a.keys.now a.window a.key ≡ s
-      → after s brought.bring-brought.last.1.1.1.1.1.0 ≡ why_block_of a.m a.keys.now (length a.classes.now) a.window a.key a.border-1.now
+      → after s brought.bring-brought.new.border ≡ why_block_of a.m a.keys.now (length a.classes.now) a.window a.key a.border.now
   answers e = why-done _ _ _ _ _ _ _ (passed (told of)) ((key-passed _ _ _).1 (listed of)) e brought.bring-brought.ensures.1
 
   first-is : let a = (first (told of)).args in found.record_at-index.result ≡ (run_of a.m a.keys.now a.key).first

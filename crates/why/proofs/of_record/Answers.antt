@@ -18,7 +18,7 @@ use Rattle.why.proofs.of_record.Reads as reads
 use Rattle.why.proofs.of_record.Tie as tie
 
 abbrev In_default : Type 0
-In_default = lts.After-enum_told tie.the-claims reads.Pre reads.Post
+In_default = lts.Past-After-enum_told tie.the-claims reads.Pre reads.Post
 
 pub returns-in-Refused : goal.returns-in-Refused
 returns-in-Refused c = sym (why-refused _ _ _ _ _ _ _ (sym c.usable-verdict.ensures ∙ c.in-Refused.is))
@@ -26,12 +26,12 @@ returns-in-Refused c = sym (why-refused _ _ _ _ _ _ _ (sym c.usable-verdict.ensu
 -- where refusals 1 to 7 do not hold
 module _ (c : In_default) where
   abbrev first : Start
-  first = c.before.before.before.before.before.before
+  first = c.before.before.before.before.before
 
-  passed : let a = first.args in verdict (use_refusals a.m a.keys.now (length a.classes.now) a.window (length a.border-1.now)) ≡ Passed
+  passed : let a = first.args in verdict (use_refusals a.m a.keys.now (length a.classes.now) a.window (length a.border.now)) ≡ Passed
   passed = sym c.usable-verdict.ensures ∙ c.in_default.is
 
-  known : let a = first.args in Usable a.m a.m a.keys.now a.window (length a.border-1.now)
+  known : let a = first.args in Usable a.m a.m a.keys.now a.window (length a.border.now)
   known = use-known true _ _ _ _ _ passed
 
 pub returns-then-keys-index : goal.returns-then-keys-index
@@ -42,12 +42,12 @@ record_lies-lies-requires c = let U = known c.before.before in (U.small, U.space
 
 pub overflow_add-window : goal.overflow_add-window
 overflow_add-window c =
-    let U = known c.before.before.before.before.before.before.before.before.before in
+    let U = known c.before.before.before.before.before.before.before in
     let i = inside-12 U.small U.inside in
     omega (arith, i)
 
 pub fill-requires : goal.fill-requires
-fill-requires c = (omega arith, (known c.before.before.before.before.before.before.before.before.before).wide)
+fill-requires c = (omega arith, (known c.before.before.before.before.before.before.before).wide)
 
 pub returns-in-Outside : goal.returns-in-Outside
 returns-in-Outside c =
@@ -58,7 +58,7 @@ returns-in-Outside c =
     (c.fill.ensures ∙ filled-spent _ _ (known at).wide)
 
 pub bring-brought-requires : goal.bring-brought-requires
-bring-brought-requires c = (c.spread_table-table.ensures, known c.before.before.before.before.before.before.before.before)
+bring-brought-requires c = (c.spread_table-table.ensures, known c.before.before.before.before.before.before.before)
 
 pub returns : goal.returns
 returns c =

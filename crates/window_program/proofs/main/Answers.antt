@@ -12,11 +12,11 @@ abbrev start : After-line-2-1 → After-put_received-begun
 start c = c.before.before.before
 
 -- what was put, and what was read, fits in the arrays
-put : (c : After-put_received-begun) → c.put_received-begun.result.said ≤ length c.put_received-begun.new.1.1.1.1.0
+put : (c : After-put_received-begun) → c.put_received-begun.result.said ≤ length c.put_received-begun.new.out
 put c = put-within _ _ c.put_received-begun.ensures.text
 
 room : (c : After-put_received-begun)
-    → (c.put_received-begun.result.count ≤ 1000) × (length c.put_received-begun.new.1.1.0 ≡ 1000) × (length c.put_received-begun.new.1.1.1.0 ≡ 1000)
+    → (c.put_received-begun.result.count ≤ 1000) × (length c.put_received-begun.new.keys ≡ 1000) × (length c.put_received-begun.new.classes ≡ 1000)
 room c = let n = length-replicate {A = ℕ} 1000 0 in (c.put_received-begun.ensures.few, c.put_received-begun.auto.1.1.0 ∙ n, c.put_received-begun.auto.1.1.1.0 ∙ n)
 
 pub slice_bounds-line-end : goal.slice_bounds-line-end

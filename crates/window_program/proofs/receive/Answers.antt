@@ -16,10 +16,10 @@ pub slice_bounds-take-end-2 : goal.slice_bounds-take-end-2
 slice_bounds-take-end-2 c = simp length-take (omega arith)
 
 -- of the first four bytes no more than four came, and there is room for them
-came : (c : After-take-first) → (c.take-first.result.count ≤ 4) × (4 ≤ length (c.take-first.new.1.0 ++ drop 4 c.args.file-1.now))
+came : (c : After-take-first) → (c.take-first.result.count ≤ 4) × (4 ≤ length (c.take-first.new.buf ++ drop 4 c.args.file.now))
 came c =
     let s = c.before.before.before in
-    let four : length (take 4 s.args.file-1.now) ≡ 4 = length-take-le 4 s.args.file-1.now s.requires in
+    let four : length (take 4 s.args.file.now) ≡ 4 = length-take-le 4 s.args.file.now s.requires in
     let same = c.take-first.auto.1.0 in
     (omega (arith, c.take-first.ensures.0, same, four), simp length-append (omega (arith, same, four)))
 
@@ -27,11 +27,11 @@ pub returns-then-first-lt4 : goal.returns-then-first-lt4
 returns-then-first-lt4 c = let r = came c.before.before.before.before.before in received-few _ r.0 r.1
 
 pub returns-then-size-eq0 : goal.returns-then-size-eq0
-returns-then-size-eq0 c = let r = came c.before.before.before.before.before.before.before in received-few _ r.0 r.1
+returns-then-size-eq0 c = let r = came c.before.before.before.before.before.before in received-few _ r.0 r.1
 
 -- the bytes when the first four were read
 abbrev first : After-announced-size → List ℕ
-first c = let r = c.before.before.before.before.before.before in r.take-first.new.1.0 ++ drop 4 r.args.file-1.now
+first c = let r = c.before.before.before.before.before.before in r.take-first.new.buf ++ drop 4 r.args.file.now
 
 bounds : (c : Else-size-eq0) → (let n = c.announced-size.result in (4 ≤ n) × (n ≤ length (first c.before)))
 bounds c = announced-bounds _ c.announced-size.ensures c.if-size-eq0.false
@@ -50,8 +50,8 @@ module _ (c : After-take-more) where
   abbrev told : Else-size-eq0
   told = c.before.before
 
-  whole : Received (4 + c.take-more.result.count) (put_mid 4 (told.announced-size.result - 4) (first told.before) c.take-more.new.1.0)
-  whole = received (first told.before) told.announced-size.ensures told.if-size-eq0.left c.take-more.new.1.0 c.take-more.auto.1.0 c.take-more.ensures.0
+  whole : Received (4 + c.take-more.result.count) (put_mid 4 (told.announced-size.result - 4) (first told.before) c.take-more.new.buf)
+  whole = received (first told.before) told.announced-size.ensures told.if-size-eq0.false c.take-more.new.buf c.take-more.auto.1.0 c.take-more.ensures.0
 
 pub returns : goal.returns
 returns c = whole c.before.before.before.before
