@@ -110,6 +110,15 @@ def turn(names, crate, path, folder):
         old = raw[new]
         if old in arm_of and not any(parent[q] == old and q in arm_of and arm_of[q][0] == arm_of[old][0] and arm_of[q][1] == arm_of[old][1] + 1 for q in parent):
             raw[new] = "Past-" + old
+    # what was said of the middle of an arm is said of its end
+    for key_, new in list(places.items()):
+        old = next(x[0] for x, n in zip(d["places"], d["places_by_name"]) if n == new)
+        while old in arm_of:
+            more = [q for q in parent if parent[q] == old and q in arm_of and arm_of[q][0] == arm_of[old][0] and arm_of[q][1] == arm_of[old][1] + 1]
+            if not more:
+                break
+            old = more[0]
+        places[key_] = next(n for x, n in zip(d["places"], d["places_by_name"]) if x[0] == old)
     old_of = {new: x[0] for x, new in zip(d["places"], d["places_by_name"])}
 
     def shown(old):

@@ -5,4 +5,4 @@ pub returns : goal.returns
 returns c =
     let p = c.before.before.before.before.before.before.before in
     let w = p.before.before.before.before.before in
-    rw (← w.whole-size.ensures.0) p.put_start.ensures
+    rw (← w.whole-size.ensures.value) p.put_start.ensures

@@ -13,8 +13,8 @@ use Rattle.beginning.proofs.put_start.Tie as tie
 abbrev After-read-reading : Type 0
 After-read-reading = lts.After-read tie.the-claims reads.Pre reads.Post
 
-abbrev In-Read-2 : Type 0
-In-Read-2 = lts.After-reading2 tie.the-claims reads.Pre reads.Post
+abbrev In-Read : Type 0
+In-Read = lts.Past-After-known_told2 tie.the-claims reads.Pre reads.Post
 
 -- with the file read: what was asked, and what reading answers
 module _ (c : After-read-reading) where
@@ -25,9 +25,9 @@ module _ (c : After-read-reading) where
   got = record { is = c.read-reading.ensures; keys = asked.requires.0; classes = asked.requires.1 }
 
 -- and where it was not refused: the records fit in the two slices
-module _ (c : In-Read-2) where
+module _ (c : In-Read) where
   abbrev read : After-read-reading
-  read = c.before.before.before.before.before.before
+  read = c.before.before.before.before.before
 
   abbrev count : ℕ
   count = c.in-Read.count
@@ -36,16 +36,16 @@ module _ (c : In-Read-2) where
   room = (start-room (got read) c.in-Read.is, read.read-reading.kept.1.0 ∙ (asked read).requires.0, read.read-reading.kept.1.1.0 ∙ (asked read).requires.1)
 
 pub slice_bounds-put_map-end : goal.slice_bounds-put_map-end
-slice_bounds-put_map-end c = omega (arith, room c.before.before)
+slice_bounds-put_map-end c = omega (arith, room c.before)
 
 pub slice_bounds-put_map-end-in-Read : goal.slice_bounds-put_map-end-in-Read
-slice_bounds-put_map-end-in-Read c = simp length-take (omega (arith, room c.before.before.before))
+slice_bounds-put_map-end-in-Read c = simp length-take (omega (arith, room c.before))
 
 pub slice_bounds-put_map-end-in-Read-2 : goal.slice_bounds-put_map-end-in-Read-2
-slice_bounds-put_map-end-in-Read-2 c = omega (arith, room c.before.before.before)
+slice_bounds-put_map-end-in-Read-2 c = omega (arith, room c.before)
 
 pub slice_bounds-put_map-end-in-Read-3 : goal.slice_bounds-put_map-end-in-Read-3
-slice_bounds-put_map-end-in-Read-3 c = simp length-take (omega (arith, room c.before.before.before.before))
+slice_bounds-put_map-end-in-Read-3 c = simp length-take (omega (arith, room c.before))
 
 pub returns-in-Refused : goal.returns-in-Refused
 returns-in-Refused c =

@@ -13,16 +13,16 @@ use Rattle.overlay.proofs.part.Lts as lts
 use Rattle.overlay.proofs.part.Reads as reads
 use Rattle.overlay.proofs.part.Tie as tie
 
-abbrev In-Today-2 : Type 0
-In-Today-2 = lts.After-viewed tie.the-claims reads.Pre reads.Post
+abbrev In-Today : Type 0
+In-Today = lts.Past-After-known_told tie.the-claims reads.Pre reads.Post
 
-abbrev In-Baseline-2 : Type 0
-In-Baseline-2 = lts.After-viewed2 tie.the-claims reads.Pre reads.Post
+abbrev In-Baseline : Type 0
+In-Baseline = lts.Past-After-known_told2 tie.the-claims reads.Pre reads.Post
 
 -- today's part
-module _ (c : In-Today-2) where
+module _ (c : In-Today) where
   abbrev own : Start
-  own = c.before.before.before.before.before.before.before
+  own = c.before.before.before.before.before.before
 
   own_is : view_of own.args.m own.args.keys.now (length own.args.classes.now) own.args.depth own.args.base.now (length own.args.beneath.now) own.args.key
       ≡ Today c.in-Today.first c.in-Today.count
@@ -32,10 +32,10 @@ module _ (c : In-Today-2) where
   own_room = view-within _ _ _ _ _ _ _ own_is
 
 pub overflow_add-end : goal.overflow_add-end
-overflow_add-end c = omega (arith, own_room c.before.before)
+overflow_add-end c = omega (arith, own_room c.before)
 
 pub slice_bounds-result-end : goal.slice_bounds-result-end
-slice_bounds-result-end c = own_room c.before.before
+slice_bounds-result-end c = own_room c.before
 
 pub returns-in-Today : goal.returns-in-Today
 unfolding part_in
@@ -44,9 +44,9 @@ returns-in-Today c =
     rw (own_is v) (ap (λ (n : ℕ). take n (drop v.in-Today.first (own v).args.classes.now)) (add-sub_cancel_left v.in-Today.first v.in-Today.count))
 
 -- the baseline's part
-module _ (c : In-Baseline-2) where
+module _ (c : In-Baseline) where
   abbrev under : Start
-  under = c.before.before.before.before.before.before.before
+  under = c.before.before.before.before.before.before
 
   under-is : view_of under.args.m under.args.keys.now (length under.args.classes.now) under.args.depth under.args.base.now (length under.args.beneath.now) under.args.key
       ≡ Baseline c.in-Baseline.first c.in-Baseline.count
@@ -56,10 +56,10 @@ module _ (c : In-Baseline-2) where
   under-room = view-under _ _ _ _ _ _ _ under-is
 
 pub overflow_add-end-in-Baseline : goal.overflow_add-end-in-Baseline
-overflow_add-end-in-Baseline c = omega (arith, under-room c.before.before)
+overflow_add-end-in-Baseline c = omega (arith, under-room c.before)
 
 pub slice_bounds-result-end-in-Baseline : goal.slice_bounds-result-end-in-Baseline
-slice_bounds-result-end-in-Baseline c = under-room c.before.before
+slice_bounds-result-end-in-Baseline c = under-room c.before
 
 pub returns-in-Baseline : goal.returns-in-Baseline
 unfolding part_in

@@ -24,7 +24,7 @@ abbrev entry : At-loop-stand → Start
 entry c = c.before.before.before.before.before.before.before
 
 pub next_piece-piece-requires : goal.next_piece-piece-requires
-next_piece-piece-requires c = let at = c.before.before.before in let p = (entry at).requires.0 in (p.1, at.loop-stand.invariant.stands, c.loop-stand-test.true, p.4)
+next_piece-piece-requires c = let at = c.before.before.before in let p = (entry at).requires.ones_value in (p.1, at.loop-stand.invariant.stands, c.loop-stand-test.true, p.4)
 
 -- behind the next piece
 abbrev turn : After-next_piece-piece → At-loop-stand
@@ -33,9 +33,9 @@ turn c = c.before.before.before
 pub go_on-stand-requires : goal.go_on-stand-requires
 go_on-stand-requires c =
     let at = turn c.before in
-    let p = (entry at).requires.0.1 in
+    let p = (entry at).requires.ones_value.1 in
     let e = c.next_piece-piece.ensures in
-    (p.small, p.few, p.under_few, p.today, p.under, at.loop-stand.invariant.stands, omega (arith, e.0.more), omega (arith, e.0.most, (entry at).requires.0.4), e.1, e.2)
+    (p.small, p.few, p.under_few, p.today, p.under, at.loop-stand.invariant.stands, omega (arith, e.0.more), omega (arith, e.0.most, (entry at).requires.ones_value.4), e.1, e.2)
 
 -- where the piece is of another class
 abbrev piece : Then-piece-class → After-next_piece-piece

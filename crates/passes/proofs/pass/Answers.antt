@@ -18,8 +18,8 @@ At-loop-key = lts.At-loop tie.the-claims reads.Pre reads.Post goal.the-invariant
 abbrev After-next_opening-found : Type 0
 After-next_opening-found = lts.After-next_opening tie.the-claims reads.Pre reads.Post goal.the-invariant-loop-key goal.the-decreases-loop-key
 
-abbrev In-Opening-2 : Type 0
-In-Opening-2 = lts.After-found tie.the-claims reads.Pre reads.Post goal.the-invariant-loop-key goal.the-decreases-loop-key
+abbrev In-Opening : Type 0
+In-Opening = lts.Past-After-known_told tie.the-claims reads.Pre reads.Post goal.the-invariant-loop-key goal.the-decreases-loop-key
 
 abbrev In_default : Type 0
 In_default = lts.Past-After-enum_told tie.the-claims reads.Pre reads.Post goal.the-invariant-loop-key goal.the-decreases-loop-key
@@ -70,8 +70,8 @@ returns-in_default c =
 
 -- the arm of an opening
 module _ (c : After-slice_known-in-loop-key-2-1) where
-  abbrev of : In-Opening-2
-  of = c.before.before.before.before.before
+  abbrev of : In-Opening
+  of = c.before.before.before.before
 
   abbrev answered : After-next_opening-found
   answered = of.before.before.before.before

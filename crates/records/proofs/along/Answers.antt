@@ -13,8 +13,8 @@ use Rattle.records.proofs.along.Tie as tie
 abbrev At-loop-next : Type 0
 At-loop-next = lts.At-loop tie.the-claims reads.Pre reads.Post goal.the-invariant-loop-next goal.the-decreases-loop-next
 
-abbrev In-Block-2 : Type 0
-In-Block-2 = lts.After-fit tie.the-claims reads.Pre reads.Post goal.the-invariant-loop-next goal.the-decreases-loop-next
+abbrev In-Block : Type 0
+In-Block = lts.Past-After-known_told tie.the-claims reads.Pre reads.Post goal.the-invariant-loop-next goal.the-decreases-loop-next
 
 pub loop-next-init : goal.loop-next-init
 loop-next-init c = (omega arith, c.requires.4, c.requires.3, none)
@@ -28,9 +28,9 @@ returns-in_default c =
     record { onward = v.0; within = v.1; stands = v.2; row = v.3; ends = λ l. rw c.in_default.is at c.exponent_at-fit.ensures }
 
 -- the arm of a block: what the record is
-module _ (c : In-Block-2) where
+module _ (c : In-Block) where
   abbrev turn : At-loop-next
-  turn = c.before.before.before.before.before
+  turn = c.before.before.before.before
 
   abbrev start : Start
   start = turn.before.before
@@ -39,11 +39,11 @@ module _ (c : In-Block-2) where
   named = fits-block (rw c.in-Block.is at c.exponent_at-fit.ensures)
 
 pub advance-spot-requires : goal.advance-spot-requires
-advance-spot-requires c = let s = start c in (s.requires.0, s.requires.2, named c)
+advance-spot-requires c = let s = start c.before in (s.requires.0, s.requires.2, named c.before)
 
 pub loop-next-preserved : goal.loop-next-preserved
 loop-next-preserved c =
-    let fit = c.before in
+    let fit = c.before.before in
     let v = (turn fit).loop-next.invariant in
     let l = fit.loop-next-test.true in
     (omega (arith, v.0), omega (arith, l), c.advance-spot.ensures.1, more v.3 l (named fit) c.advance-spot.ensures.0)

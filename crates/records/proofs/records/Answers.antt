@@ -25,8 +25,8 @@ Else-next-keys = lts.Else1 tie.the-claims reads.Pre reads.Post goal.the-invarian
 abbrev After-misfit-taken : Type 0
 After-misfit-taken = lts.After-misfit tie.the-claims reads.Pre reads.Post goal.the-invariant-loop-ones goal.the-decreases-loop-ones
 
-abbrev In-Behind-2 : Type 0
-In-Behind-2 = lts.After-taken2 tie.the-claims reads.Pre reads.Post goal.the-invariant-loop-ones goal.the-decreases-loop-ones
+abbrev In-Behind : Type 0
+In-Behind = lts.Past-After-known_told2 tie.the-claims reads.Pre reads.Post goal.the-invariant-loop-ones goal.the-decreases-loop-ones
 
 pub loop-ones-init : goal.loop-ones-init
 loop-ones-init c = (rw c.first_spot-spot.ensures.0 (walked-first _ _ _), c.first_spot-spot.ensures.1)
@@ -85,12 +85,12 @@ returns-in-Refused c =
     sym (walked_here (gone (last f)) (left (stop f)) ∙ taken_refused (rw c.in-Refused.is at f.misfit-taken.ensures) _)
 
 -- a block behind a gap
-module _ (c : In-Behind-2) where
+module _ (c : In-Behind) where
   abbrev begun : Start
-  begun = origin (last c.before.before)
+  begun = origin (last c.before)
 
   abbrev reached : Gone
-  reached = (last c.before.before).along-gone.result
+  reached = (last c.before).along-gone.result
 
   taken : (begun.args.whole ≡ false) × (reached.spot.place ≤ c.in-Behind.start)
       × Names begun.args.m (get_or begun.args.keys.now reached.next 0) c.in-Behind.exponent c.in-Behind.start
@@ -98,9 +98,9 @@ module _ (c : In-Behind-2) where
 
 pub advance-spot-requires : goal.advance-spot-requires
 advance-spot-requires c =
-    let t = c.before.before.before in
+    let t = c.before.before in
     let f = t in
-    (table (turn (last f)), (origin (last f)).requires.0, (taken t).2)
+    (table (turn (last f.before)), (origin (last f.before)).requires.0, (taken t).2)
 
 pub overflow_add-n : goal.overflow_add-n
 overflow_add-n c =
@@ -109,11 +109,11 @@ overflow_add-n c =
 
 pub loop-ones-smaller : goal.loop-ones-smaller
 loop-ones-smaller c =
-    let f = c.before.before.before.before in
+    let f = c.before.before.before.before.before in
     omega (arith, left (stop f), (last f).along-gone.ensures.onward)
 
 pub loop-ones-preserved : goal.loop-ones-preserved
 loop-ones-preserved c =
-    let t = c.before.before.before.before in
+    let t = c.before.before.before in
     let f = t in
     (walked_next (gone (last f)) (left (stop f)) (taken t).2 (taken t).1 (rw (taken t).0 (late-never _ _)) c.advance-spot.ensures.0, c.advance-spot.ensures.1)

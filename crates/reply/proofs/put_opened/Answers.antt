@@ -15,8 +15,8 @@ use Rattle.reply.proofs.put_opened.Tie as tie
 abbrev After-open-opened : Type 0
 After-open-opened = lts.After-open tie.the-claims reads.Pre reads.Post
 
-abbrev In-Done-2 : Type 0
-In-Done-2 = lts.After-opened2 tie.the-claims reads.Pre reads.Post
+abbrev In-Done : Type 0
+In-Done = lts.Past-After-known_told2 tie.the-claims reads.Pre reads.Post
 
 -- with the window opened: what was asked, and what the call left in the cells and in the border
 module _ (c : After-open-opened) where
@@ -33,9 +33,9 @@ module _ (c : After-open-opened) where
   opening = record { can = asked.requires.0; is = c.«open».ensures; long = c.«open».auto.1.1.1.1.1.1.0 ∙ length-replicate {A = ℕ} 3000 0 }
 
 -- and where it was not refused
-module _ (c : In-Done-2) where
+module _ (c : In-Done) where
   abbrev done : After-open-opened
-  done = c.before.before.before.before.before
+  done = c.before.before.before.before
 
   abbrev count : ℕ
   count = c.in-Done.openings
@@ -44,10 +44,10 @@ module _ (c : In-Done-2) where
   fits = open-fits (opening done) c.in-Done.is
 
 pub slice_bounds-cells-end : goal.slice_bounds-cells-end
-slice_bounds-cells-end c = omega (arith, fits c.before.before, (opening (done c.before.before)).long)
+slice_bounds-cells-end c = omega (arith, fits c.before, (opening (done c.before)).long)
 
 pub slice_bounds-put_found-end : goal.slice_bounds-put_found-end
-slice_bounds-put_found-end c = simp length-take (omega (arith, fits c.before.before.before, (opening (done c.before.before.before)).long))
+slice_bounds-put_found-end c = simp length-take (omega (arith, fits c.before.before, (opening (done c.before.before)).long))
 
 pub put_found-requires : goal.put_found-requires
 put_found-requires c =

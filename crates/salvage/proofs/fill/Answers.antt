@@ -40,7 +40,7 @@ loop-spot-preserved c =
     let entered = c.before.before.before.before in
     let written = entered.before.before.before.before.before.before in
     let b = written.before.before.before in
-    filling-next (turn b).loop-spot.invariant b.next_block-next.ensures written.put_record.ensures.0 written.put_record.ensures.1 entered.put_entry.ensures
+    filling-next (turn b).loop-spot.invariant b.next_block-next.ensures written.put_record.ensures.mended_after written.put_record.ensures.painted_after entered.put_entry.ensures
 
 -- the slices stay as long as they were
 pub shape_of-mended : goal.shape_of-mended

@@ -20,8 +20,8 @@ use Rattle.salvage.proofs.mend.Tie as tie
 abbrev After-form_of-form : Type 0
 After-form_of-form = lts.After-form_of tie.the-claims reads.Pre reads.Post
 
-abbrev In-Block-2 : Type 0
-In-Block-2 = lts.After-form tie.the-claims reads.Pre reads.Post
+abbrev In-Block : Type 0
+In-Block = lts.Past-After-known_told tie.the-claims reads.Pre reads.Post
 
 abbrev In_default : Type 0
 In_default = lts.Past-After-enum_told tie.the-claims reads.Pre reads.Post
@@ -59,20 +59,20 @@ returns-in_default c =
     let out = c.before.before.before in
     let g = out.before.before in
     let e = out.leave_out.ensures in
-    drops {number = 3} (start g.before.before).requires.0.3 (garbled g) e.0 e.1
+    drops {number = 3} (start g.before.before).requires.ones_value.3 (garbled g) e.0 e.1
 
 -- a block
-module _ (c : In-Block-2) where
+module _ (c : In-Block) where
   abbrev here : After-form_of-form
-  here = c.before.before
+  here = c.before
 
   named : Names (start here).args.m (key here) c.in-Block.exponent c.in-Block.start
   named = record { is = read here c.in-Block.is }
 
 -- that starts before the place reached
-early : (c : Then-start-spot) → let h = here c.before.before.before.before in
+early : (c : Then-start-spot) → let h = here c.before.before.before in
     (mends_of (start h).args.m (start h).args.n (at h) (key h) ≡ dropped (start h).args.n 4 ∷ []) × (reached (start h).args.m (at h) (key h) ≡ at h)
-early c = step-early _ _ _ _ (named c.before.before.before.before) c.if-start-spot.true
+early c = step-early _ _ _ _ (named c.before.before.before) c.if-start-spot.true
 
 pub leave_out-requires-then-start-spot : goal.leave_out-requires-then-start-spot
 leave_out-requires-then-start-spot c = let g = c.before.before in let p = (start (here g.before.before.before.before)).requires in (p.0.4, take-entry (early g).0 p.1.1)
@@ -82,15 +82,15 @@ returns-then-start-spot c =
     let out = c.before.before.before in
     let g = out.before.before in
     let e = out.leave_out-then-start-spot.ensures in
-    drops {number = 4} (start (here g.before.before.before.before)).requires.0.3 (early g) e.0 e.1
+    drops {number = 4} (start (here g.before.before.before.before)).requires.ones_value.3 (early g) e.0 e.1
 
 -- or behind it
 module _ (c : Else-start-spot) where
-  abbrev block : In-Block-2
-  block = c.before.before.before.before
+  abbrev block : In-Block
+  block = c.before.before.before
 
   later : at (here block) < block.in-Block.start
-  later = other-later (start (here block)).requires.1.0 (named block) c.if-start-spot.false
+  later = other-later (start (here block)).requires.told_fit.0 (named block) c.if-start-spot.false
 
 pub fill-now-requires : goal.fill-now-requires
 fill-now-requires c =
@@ -109,5 +109,5 @@ returns c =
     record {
       forward = omega (arith, l, w.0.0);
       less = omega (arith, l, w.0.0);
-      goes = λ classes a G. going-filled G (start (here (block e))).requires.0.3 (named (block e)) (omega (arith, l)) w.0 w.1;
+      goes = λ classes a G. going-filled G (start (here (block e))).requires.ones_value.3 (named (block e)) (omega (arith, l)) w.0 w.1;
     }

@@ -76,7 +76,7 @@ returns-then-next-keys c =
     let filled = c.before.before.before.before.before.before.before in
     let power = filled.before.before.before.before in
     let end = power.before.before in
-    going-last (going end.before) (omega (arith, end.if-next-keys.true)) (rw power.pow4.ensures.is at filled.fill.ensures.1)
+    going-last (going end.before) (omega (arith, end.if-next-keys.true)) (rw power.pow4.ensures.is at filled.fill.ensures.makes_any)
 
 -- the slices stay as long as they were
 pub shape_of-mended-then-next-keys : goal.shape_of-mended-then-next-keys
