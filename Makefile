@@ -1,14 +1,14 @@
 # What a user does, a target each; install.mk has 'install' and 'uninstall'.
 .PHONY: lib demo test bench check format statement dist clean
 
-archive := target/staticlib/liblutniorad.a
+archive := crates/lutniorad/out/liblutniorad.a
 
 # The library for C, proved. Its header is include/lutniorad.h.
 lib:
-	@. tests/tools.sh && proving staticlib lutniorad
+	@. tests/tools.sh && proving lib lutniorad || { rm -f $(archive); exit 1; } # else an older one stays
 	@echo '$(archive) is the library, proved'
 
-# The window program, target/bin/window_program, and what it prints on a map of 4 by 4 pixels.
+# The window program, crates/window_program/out/window_program, and what it prints on a map of 4 by 4 pixels.
 demo:
 	@. tests/tools.sh && need $$to_run && build_window_program
 	@echo 'On its standard input the window program gets a map of 4 by 4 pixels and a window, row 0, column 1, 3 by 3.'
@@ -25,11 +25,11 @@ bench:
 
 # The proofs alone, and only of what has changed.
 check:
-	rt check
+	rt all check
 
 # Lays out every Rattle and antt file as the gate wants it.
 format:
-	rt fmt
+	@for crate in crates/*/; do (cd "$$crate" && rt fmt) || exit; done
 
 # docs/STATEMENT.md, the page of all that the calls promise, anew from the crates.
 statement:
@@ -67,4 +67,4 @@ dist: $(kit)
 
 # Removes all that is made here, by the tests too.
 clean:
-	rm -rf target
+	rm -rf target crates/*/out

@@ -24,10 +24,12 @@ PROMISES = 'Promises.antt'  # how the name of a file ends that has the words in 
 DIFF_SHOWN = 40  # lines
 
 # Of antt and of contracts, what needs no `use` line: signs that name nothing, and names.
-SIGNS = ('→', ':', '=', ',', ';', '_', '.', '⌜', '⌝', 'record', 'where')
+SIGNS = ('→', ':', '=', ',', ';', '_', '.', 'record', 'where')
 OPENING = ('(', '{')
 CLOSING = (')', '}')
-OPEN_NAMES = ('Type', 'now', '×', '¬', '⊥', 'tt')
+HOLE = '◌'  # in the name of an operator, where an argument stands
+OPEN_NAMES = ('Type', '×', '¬', '⊥', 'tt')
+OF_CONTRACTS = ('self', 'result')  # what a clause may name beside the parameters
 
 
 class Failure(Exception):
@@ -62,12 +64,15 @@ class Definition:
 
 
 class DeclaredType:
-    """An enum or a struct of the code. `lines` has its comment and its attributes too."""
+    """An enum or a struct of the code. `lines` has its comment and its attributes too, and `clauses` what its ghost
+    fields state of the others."""
 
-    def __init__(self, file, name, lines):
+    def __init__(self, file, name, lines, fields, clauses):
         self.file = file
         self.name = name
         self.lines = lines
+        self.fields = fields
+        self.clauses = clauses
         self.rests_on = ()
 
 
@@ -80,7 +85,8 @@ class Function:
         self.lines = lines
         self.parameters = parameters
         self.clauses = clauses
-        self.is_exported = '#[no_mangle]' in lines and any(line.startswith('pub extern "C" fn ') for line in lines)
+        is_of_c = any(line.startswith('pub extern "C" fn ') for line in lines)
+        self.is_exported = is_of_c and '#[unsafe(no_mangle)]' in lines
         self.rests_on = ()
 
 
@@ -195,6 +201,11 @@ def is_name(token):
     return not (token in SIGNS + OPENING + CLOSING or token.startswith('.') or token.isdigit())
 
 
+def is_bound(token, names):
+    """Is it one of these names, or a part of one, as `x.part`?"""
+    return token in names or token.partition('.')[0] in names
+
+
 def names_before(tokens, start, ends):
     """The names up to the first token outside brackets that is one of the ends, and the place of that one."""
     end, depth = start, 0
@@ -252,7 +263,7 @@ def free_names(text, bound):
             scopes[-1].update(names)
         elif opened and opened[-1][0] == '{' and tokens[i:i + 1] == ['=']:
             pass  # a field of `record { field = e }`
-        elif is_name(token) and not any(token in scope for scope in scopes):
+        elif is_name(token) and not any(is_bound(token, scope) for scope in scopes):
             free.append(token)
     return free, set().union(*scopes)
 
@@ -291,7 +302,8 @@ def definition_names(item, is_constructor):
 TYPE = re.compile(r'^(?:pub )?(?:enum|struct) (\w+)', re.MULTILINE)
 FIELD = re.compile(r': *([^,\n]+)|\(([^)]*)\)')  # the type of a named field, or those of unnamed ones
 FUNCTION = re.compile(r'\bfn (\w+)')
-CLAUSES = ('requires', 'ensures')
+CLAUSE = re.compile(r'\b(?:(?:requires|ensures)\*?(?: \w+)?|ghost \w+:)\s*$')  # some have names
+GHOST_FIELD = re.compile(r'\bghost \w+ *: *\{')
 
 
 def blank_comments(text):
@@ -322,10 +334,14 @@ def lines_with_comment(file, text, start, end):
 def read_types(file, text):
     code = blank_comments(text)
     for match in TYPE.finditer(code):
-        end = re.compile(r'[{(;]').search(code, match.end()).start()
+        begin = end = re.compile(r'[{(;]').search(code, match.end()).start()
         if code[end] != ';':
             end = closing(code, end)
-        yield DeclaredType(file, match.group(1), lines_with_comment(file, text, match.start(), end))
+        inside = code[begin:end]
+        fields = set(re.findall(r'(\w+) *:', inside))
+        braces = [ghost.end() - 1 for ghost in GHOST_FIELD.finditer(inside)]
+        clauses = [inside[brace + 1:closing(inside, brace)] for brace in braces]
+        yield DeclaredType(file, match.group(1), lines_with_comment(file, text, match.start(), end), fields, clauses)
 
 
 def read_functions(file, text):
@@ -346,15 +362,20 @@ def read_clauses(code, start):
     clauses = []
     while True:
         brace = code.index('{', start)
-        if not code[start:brace].rstrip().endswith(CLAUSES):
+        if not CLAUSE.search(code, start, brace):
             return clauses, brace
         start = closing(code, brace) + 1
         clauses.append(code[brace + 1:start - 1])
 
 
+def clause_names(clauses, bound):
+    """The free names of clauses that may name these besides."""
+    return [name for clause in clauses for name in free_names(clause, bound.union(OF_CONTRACTS))[0]]
+
+
 # ---- What a name stands for
 
-INNER_PATH = re.compile(r'Rattle·([^.·]+)(?:·specs)?\.specs\.(.+)')
+INNER_PATH = re.compile(r'Rattle\.([^.]+)\.specs\.(.+)')
 
 
 class Project:
@@ -370,10 +391,10 @@ class Project:
         for item in self.definitions():
             item.rests_on = self.things(item.file, definition_names(item, self.constructor_test(item.file)))
         for (crate, _), declared in self.types.items():
-            declared.rests_on = self.types_inside(crate, declared)
+            cited = self.things(declared.file, clause_names(declared.clauses, declared.fields))
+            declared.rests_on = list(dict.fromkeys(self.types_inside(crate, declared) + cited))
         for function in self.functions:
-            names = [name for clause in function.clauses for name in free_names(clause, function.parameters)[0]]
-            function.rests_on = self.things(function.file, names)
+            function.rests_on = self.things(function.file, clause_names(function.clauses, function.parameters))
 
     def read_crate(self, crate):
         folder = ROOT / 'crates' / crate
@@ -410,8 +431,8 @@ class Project:
         return list(dict.fromkeys(self.look_up(file, name).thing for name in names))
 
     def look_up(self, file, token):
-        """A name is written as it is or, if it is an operator, without the underscores of its arguments."""
-        for name in (token, '_%s_' % token, token + '_', '_' + token):
+        """A name is written as it is or, if it is an operator, in parts between its arguments."""
+        for name in [token] + [name for name in (*file.own, *file.brought) if token in name.split(HOLE)]:
             if name in file.own:
                 return file.own[name]
             if name in file.brought:
@@ -422,7 +443,7 @@ class Project:
         if token in OPEN_NAMES:
             return Found(Symbol('', token), False)
         if module:
-            return self.look_up(file, module)  # a constructor behind its data type
+            return self.look_up(file, module)  # a constructor behind its data type, or a part of a definition
         raise Failure('%s: no telling what %s is' % (file.path, token))
 
     def member(self, user, path, name):

@@ -99,12 +99,6 @@
  * `overlay_` in their names take both maps, today's first. Where today's has no record, all is as in the baseline;
  * where it is complete itself, nothing of the baseline is seen.
  *
- * An EDIT corrects a map where it stands: lutniorad_repaint, lutniorad_split and lutniorad_merge. The map has q records
- * in the first q cells of two slices, which may be longer and differ in length, so that there is room for more. Beside
- * it are its TOTALS: 256 cells, for each class the number of the picture's pixels that have it, as lutniorad_report
- * gives them for the whole picture. Each edit checks the map and the totals, and leaves a sound map and its totals: so
- * edit may follow edit, by the answer's number of records, and nothing has to be counted anew.
- *
  * WHAT THE CALLER KEEPS. A slice is a pointer and its length in cells (elements of 8, 16, 32 or 64 bits, not bytes).
  * For each slice of a call:
  *   - the pointer is valid for that many cells, and aligned for their type;
@@ -122,8 +116,7 @@
  * lutniorad_select with a tile or without, or from one of these on a sparse map or an overlay, leaves the border as an
  * answer would.
  * A call that answers writes the cells named with it below, and all others keep their content. What stands at entry in
- * a slice that is written never matters, but for the table of a month, to which lutniorad_month_add adds, and for the
- * map and the totals of an edit.
+ * a slice that is written never matters, but for the table of a month, to which lutniorad_month_add adds.
  *
  * THREADS AND SIGNALS. Calls on different memory may run at the same time, in any number of threads, and in a signal
  * handler. No call takes a lock, sets errno or waits. The archive asks for memset and memcpy, and for nothing else.
@@ -137,10 +130,9 @@
  * it first, whatever was checked before: some 21 instructions for each record, 1.4 million for the longest map, which
  * take a fraction of a millisecond. On a sparse map each record behind a gap takes some 180 more. Behind that it goes
  * by the records and blocks of the window and not by its pixels; but with tiles of one pixel each of these is a block.
- * lutniorad_windows checks the map once for up to 256 windows. Calls on an overlay check both maps. An edit adds up the
- * totals while it checks, and a split or a merge moves the records behind it. lutniorad_salvage goes through the
- * records twice, with some 60 instructions for each in all, and some 500 more for each that does not start where the
- * last one ended.
+ * lutniorad_windows checks the map once for up to 256 windows. Calls on an overlay check both maps. lutniorad_salvage
+ * goes through the records twice, with some 60 instructions for each in all, and some 500 more for each that does not
+ * start where the last one ended.
  *
  * CLASSES are numbers of the caller's own. Which of them is scum the library does not know; 255 alone has a meaning.
  *
@@ -154,9 +146,9 @@
 
 /* The version of this header and of the library that belongs to it, as numbers and as text. */
 #define LUTNIORAD_VERSION_MAJOR 1 /* rises when a program made for the last one may have to be changed */
-#define LUTNIORAD_VERSION_MINOR 7 /* rises when there are more calls */
+#define LUTNIORAD_VERSION_MINOR 6 /* rises when there are more calls */
 #define LUTNIORAD_VERSION_PATCH 0
-#define LUTNIORAD_VERSION "1.7.0"
+#define LUTNIORAD_VERSION "1.6.0"
 
 /* The limits. */
 #define LUTNIORAD_MOST_M 12
@@ -236,16 +228,13 @@ typedef struct {
     REFUSAL(LUTNIORAD_GAP, 5, "a record starts after the last one ended, or the list ends early") /* index, or Q */ \
     REFUSAL(LUTNIORAD_BAD_WINDOW, 6, "the window is empty or not inside the picture") \
     REFUSAL(LUTNIORAD_SHORT_BORDER, 7, "the border has fewer cells than the window has columns") /* w, the widest */ \
-    REFUSAL(LUTNIORAD_SHORT_ROOM, 8, "a slice is too short") /* cells needed */ \
+    REFUSAL(LUTNIORAD_SHORT_ROOM, 8, "a slice that would be written is too short") /* cells needed */ \
     REFUSAL(LUTNIORAD_BAD_LAYOUT, 9, "the layout of the file is wrong") /* offset of the header field */ \
     REFUSAL(LUTNIORAD_LEFT_OVER, 10, "bytes are left over behind the last window") /* how many */ \
     REFUSAL(LUTNIORAD_OTHER_M, 15, "the m of the map is not that of the table or of the baseline") \
     REFUSAL(LUTNIORAD_MONTH_FULL, 16, "the table has 1,000 maps already") \
     REFUSAL(LUTNIORAD_BAD_TILE, 17, "the tile is larger than the picture") \
-    REFUSAL(LUTNIORAD_UNTRUE_TOTALS, 18, "the totals are not those of the map") \
     REFUSAL(LUTNIORAD_NO_RECORD, 19, "the map has no record of this index") \
-    REFUSAL(LUTNIORAD_PIXEL_SPLIT, 20, "the record is a pixel, and cannot be split") \
-    REFUSAL(LUTNIORAD_NOT_SIBLINGS, 21, "no four siblings of one class start at this record") \
     REFUSAL(LUTNIORAD_NOT_MAXIMAL, 22, "the key is that of no maximal block of the window") \
     REFUSAL(LUTNIORAD_BAD_WINDOW_LIST, 25, "the list of windows is not in fours, or has more than 256 windows") \
     REFUSAL(LUTNIORAD_BAD_TABLE, 26, "the table is no month's: its window, count of maps or a class cannot be") \
@@ -878,76 +867,6 @@ lutniorad_part lutniorad_overlay_part(uint32_t m,
                                       const uint32_t *base_keys, size_t n_base_keys,
                                       const uint8_t *base_classes, size_t n_base_classes,
                                       uint32_t key);
-
-/*
- * Gives a record of a map another class.
- *
- * The map has q records in the first q cells of `keys` and of `classes`, and its totals in the first 256 of `totals`.
- * Answers `first` = q, `second` = 0. The class of the record with this index, from 0, is then `of_class`, and as many
- * pixels as its block has are taken from the total of its old class and added to that of the new one. So the map is
- * sound, its totals are true, and no pixel outside the record has another class. It may have that class already.
- *
- * On the map of the keys 5, 11, 12, 13, 14, 15, 20 and the classes 1, 2, 2, 3, 1, 1, 2 at m = 2, with the totals 9 of
- * class 1, 6 of class 2 and 1 of class 3, record 5 repainted to class 2 makes the classes 1, 2, 2, 3, 1, 2, 2, and the
- * totals 5 of class 1, 10 of class 2 and 1 of class 3.
- *
- * Refuses by 1; 2 when q is 0, over 65,536, or over `n_keys` or `n_classes`; then record by record 3, 4, 5, and 5 at q,
- * as lutniorad_check does of slices of q cells; 8, with place 256, when `totals` has fewer cells than that; 18 when one
- * of them is not the number of the picture's pixels of its class; and 19 when `record` is q or more. A refusal writes
- * nothing.
- */
-lutniorad_answer lutniorad_repaint(uint32_t m,
-                                   const uint32_t *keys, size_t n_keys,
-                                   uint8_t *classes, size_t n_classes,
-                                   uint32_t q,
-                                   uint32_t *totals, size_t n_totals,
-                                   uint32_t record, uint8_t of_class);
-
-/*
- * Splits a record of a map into its four quadrants, which have its class.
- *
- * The map and its totals stand as for lutniorad_repaint. Answers `first` = q + 3, `second` = 0. The first q + 3 cells
- * of `keys` and of `classes` are then the map: in place of the record its quadrants, north-west, north-east,
- * south-west, south-east; the records before it as they were, and those behind it three cells further on. So the map is
- * sound, and no pixel has another class: the totals stay as they are, and stay true. Merged again, by the same index,
- * the map is as it was.
- *
- * On the map of lutniorad_repaint's example, in slices of ten cells, record 0 split makes the keys 6, 7, 8, 9, 11, 12,
- * 13, 14, 15, 20 and the classes 1, 1, 1, 1, 2, 2, 3, 1, 1, 2.
- *
- * Refuses by 1; 2; 3; 4; 5; 8 with place 256; 18; and 19, as lutniorad_repaint does; 20 when the record is a single
- * pixel; 2 when q + 3 is over 65,536; and 8, with place q + 3, when `keys` or `classes` has fewer cells than that. A
- * refusal writes nothing.
- */
-lutniorad_answer lutniorad_split(uint32_t m,
-                                 uint32_t *keys, size_t n_keys,
-                                 uint8_t *classes, size_t n_classes,
-                                 uint32_t q,
-                                 const uint32_t *totals, size_t n_totals,
-                                 uint32_t record);
-
-/*
- * Merges four records of a map into the block that they make up.
- *
- * They are the one with this index and the three behind it: the quadrants north-west, north-east, south-west and
- * south-east of one block, all of one class. The map and its totals stand as for lutniorad_repaint. Answers `first` =
- * q - 3, `second` = 0. The first q - 3 cells of `keys` and of `classes` are then the map: in place of the four the
- * block, of their class; the records before them as they were, and those behind them three cells further to the front.
- * The three cells behind keep their content. So the map is sound, and no pixel has another class: the totals stay as
- * they are, and stay true. Split again, by the same index, the map is as it was.
- *
- * With the keys 5, 11, 12, 13, 14, 15, 20, the classes 1, 2, 2, 2, 2, 1, 2 and the totals 8 of class 1 and 8 of class 2
- * at m = 2, record 1 merged makes the keys 5, 10, 15, 20 and the classes 1, 2, 1, 2.
- *
- * Refuses by 1; 2; 3; 4; 5; 8 with place 256; 18; and 19, as lutniorad_repaint does; and 21 when no four siblings of
- * one class start at the record. A refusal writes nothing.
- */
-lutniorad_answer lutniorad_merge(uint32_t m,
-                                 uint32_t *keys, size_t n_keys,
-                                 uint8_t *classes, size_t n_classes,
-                                 uint32_t q,
-                                 const uint32_t *totals, size_t n_totals,
-                                 uint32_t record);
 
 #ifdef __cplusplus
 }

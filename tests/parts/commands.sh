@@ -62,7 +62,7 @@ take_commands() {
         line ~ /^\$ / { enter(line); next }
         inside && !left_out { print line >(begun ".screen") }
         !inside && line ~ /^(make|gcc|g\+\+|cc|rt|sh|bash|if|for|cd|printf|echo|cat|head|sudo|git|pkg-config) [^(]/ ||
-            !inside && line ~ /^(\.\/|(target|tests|bench)\/[a-z])/ { print "a command without $: " line }
+            !inside && line ~ /^(\.\/|(target|tests|bench|crates\/[a-z_]+\/out)\/[a-z])/ { print "a command without $: " line }
 
         END {
             leave()
@@ -80,7 +80,7 @@ block_holds() { # NUMBER
     block=$files/$1
     {
         cat "$files/before"
-        sed -E '/^\$ /!s#(^|[(|;&] *|(if|then|do) )target/#\1$emulator target/#g' "$block.commands"
+        sed -E '/^\$ /!s#(^|[(|;&] *|(if|then|do) )(target|crates/[a-z_]+/out)/#\1$emulator \3/#g' "$block.commands"
     } >"$block.sh"
     rm -f "$files/made"
     cc=$cc emulator=$emulator made=$files/made sh "$block.sh" </dev/null >"$block.shown" 2>&1

@@ -743,7 +743,7 @@ step 'acquire knows a window that sticks out as its own fault' \
 step 'acquire knows a short border as its own fault' wrong_program \
     'refused 7 at 14: the border has fewer cells than the window has columns' LUTNIORAD_MOST_SIDE 13
 step 'acquire knows short totals as its own fault' wrong_program \
-    'refused 8 at 256: a slice is too short' 'totals, LUTNIORAD_CLASSES' 'totals, 255'
+    'refused 8 at 256: a slice that would be written is too short' 'totals, LUTNIORAD_CLASSES' 'totals, 255'
 step 'acquire sees that no file is named' example_says '' 'usage: acquire FILE..., house files' 2 acquire
 step 'acquire sees that it cannot write' sees_failed_output acquire lake lake
 
