@@ -69,7 +69,7 @@ stretches-next m r rs = refl
 -- the fewest blocks of a set are those of its runs, one after another
 pub runs-fewest : (m : ℕ) {P : ℕ → Bool} {end at : ℕ} {rs : List (ℕ × ℕ)} → Runs P end at rs → Cut P at → Cut P end → fewest m P at (end - at) ≡ stretches m rs
 unfolding stretches
-runs-fewest m {P} {at} {end} (last h) C D = fewest-empty m P at (end - at) (λ q l k. not_start m P (h q l (omega arith)))
+runs-fewest m {P} {end} {at} (last h) C D = fewest-empty m P at (end - at) (λ q l k. not_start m P (h q l (omega arith)))
 runs-fewest m (next {y = y} R N) C D = run-next m R C D ∙ rw (runs-fewest m N (run_end m R C D) D)
 
 -- ---- the runs, as they are computed

@@ -20,10 +20,10 @@ is : (c : After-sound-sound) {v : Verdict} → c.sound-sound.result ≡ v
 is c d = sym c.sound-sound.ensures ∙ d
 
 pub returns-in_default : goal.returns-in_default
-returns-in_default c = rw (map-passed _ _ _ (is c.before.before.before c.in_default.is)) (sym (put-empty _))
+returns-in_default c = rw (map-passed _ _ _ (is c.before.before c.in_default.is)) (sym (put-empty _))
 
 pub returns : goal.returns
 returns c =
     let p = c.before.before.before in
     let d = p.before.before.before in
-    rw (map-refused _ _ _ (is d.before.before d.in-Refused.is)) p.put_refusal.ensures
+    rw (map-refused _ _ _ (is d d.in-Refused.is)) p.put_refusal.ensures

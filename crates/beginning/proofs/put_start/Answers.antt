@@ -51,14 +51,14 @@ pub returns-in-Refused : goal.returns-in-Refused
 returns-in-Refused c =
     let p = c.before.before.before in
     let d = p.before.before.before in
-    let g = got d.before.before.before.before.before.before in
+    let g = got d.before.before.before.before in
     let told = d.in-Refused.is in
     record { text = rw (← start-refused g told) p.put_refusal.ensures; few = omega arith; map = λ e. start-some g told e }
 
 pub returns-in-Read : goal.returns-in-Read
 returns-in-Read c =
     let p = c.before.before.before in
-    let d = p.before.before.before.before.before in
+    let d = p.before.before in
     let g = got (read d) in
     let told = d.in-Read.is in
     record { text = rw (← start-read g told) p.put_map-said.ensures; few = (room d).0; map = λ e. start-holds g told }

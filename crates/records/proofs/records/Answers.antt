@@ -109,11 +109,11 @@ overflow_add-n c =
 
 pub loop-ones-smaller : goal.loop-ones-smaller
 loop-ones-smaller c =
-    let f = c.before.before.before.before.before in
+    let f = c.before.before.before.before in
     omega (arith, left (stop f), (last f).along-gone.ensures.onward)
 
 pub loop-ones-preserved : goal.loop-ones-preserved
 loop-ones-preserved c =
     let t = c.before.before.before in
-    let f = t in
+    let f = t.before in
     (walked_next (gone (last f)) (left (stop f)) (taken t).2 (taken t).1 (rw (taken t).0 (late-never _ _)) c.advance-spot.ensures.0, c.advance-spot.ensures.1)

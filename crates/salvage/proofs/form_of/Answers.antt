@@ -29,6 +29,6 @@ returns-in-Block c = sym (fits-block (fits c.before c.in-Block.is)).is
 
 pub returns-in-Other : goal.returns-in-Other
 returns-in-Other c =
-    let x = c.before.before in
+    let x = c.before in
     let s = told x in
     sym (other-malformed _ s.requires.2 s.start_of-start.ensures (fits x c.in-Other.is))

@@ -18,19 +18,19 @@ use Rattle.salvage.proofs.mend.Reads as reads
 use Rattle.salvage.proofs.mend.Tie as tie
 
 abbrev After-form_of-form : Type 0
-After-form_of-form = lts.After-form_of tie.the-claims reads.Pre reads.Post
+After-form_of-form = lts.After-form_of tie.the-claims reads.Pre reads.Post tie.handed_clauses
 
 abbrev In-Block : Type 0
-In-Block = lts.Past-After-known_told tie.the-claims reads.Pre reads.Post
+In-Block = lts.Past-After-known_told tie.the-claims reads.Pre reads.Post tie.handed_clauses
 
 abbrev In_default : Type 0
-In_default = lts.Past-After-enum_told tie.the-claims reads.Pre reads.Post
+In_default = lts.Past-After-enum_told tie.the-claims reads.Pre reads.Post tie.handed_clauses
 
 abbrev Then-start-spot : Type 0
-Then-start-spot = lts.Then1 tie.the-claims reads.Pre reads.Post
+Then-start-spot = lts.Then1 tie.the-claims reads.Pre reads.Post tie.handed_clauses
 
 abbrev Else-start-spot : Type 0
-Else-start-spot = lts.Else1 tie.the-claims reads.Pre reads.Post
+Else-start-spot = lts.Else1 tie.the-claims reads.Pre reads.Post tie.handed_clauses
 
 -- what was there before, and what the key was read as
 module _ (c : After-form_of-form) where
@@ -47,19 +47,19 @@ module _ (c : After-form_of-form) where
   read e = sym c.form_of-form.ensures ∙ e
 
 -- a malformed key
-garbled : (c : In_default) → let h = c.before.before in
+garbled : (c : In_default) → let h = c.before in
     (mends_of (start h).args.m (start h).args.n (at h) (key h) ≡ dropped (start h).args.n 3 ∷ []) × (reached (start h).args.m (at h) (key h) ≡ at h)
-garbled c = let h = c.before.before in step-garbled _ _ _ _ (read h c.in_default.is)
+garbled c = let h = c.before in step-garbled _ _ _ _ (read h c.in_default.is)
 
 pub leave_out-requires : goal.leave_out-requires
-leave_out-requires c = let g = c.before.before in let p = (start g.before.before).requires in (p.0.4, take-entry (garbled g).0 p.1.1)
+leave_out-requires c = let g = c.before.before in let p = (start g.before).requires in (p.0.4, take-entry (garbled g).0 p.1.1)
 
 pub returns-in_default : goal.returns-in_default
 returns-in_default c =
     let out = c.before.before.before in
     let g = out.before.before in
     let e = out.leave_out.ensures in
-    drops {number = 3} (start g.before.before).requires.ones_value.3 (garbled g) e.0 e.1
+    drops {number = 3} (start g.before).requires.ones_value.3 (garbled g) e.0 e.1
 
 -- a block
 module _ (c : In-Block) where
@@ -75,14 +75,14 @@ early : (c : Then-start-spot) → let h = here c.before.before.before in
 early c = step-early _ _ _ _ (named c.before.before.before) c.if-start-spot.true
 
 pub leave_out-requires-then-start-spot : goal.leave_out-requires-then-start-spot
-leave_out-requires-then-start-spot c = let g = c.before.before in let p = (start (here g.before.before.before.before)).requires in (p.0.4, take-entry (early g).0 p.1.1)
+leave_out-requires-then-start-spot c = let g = c.before.before in let p = (start (here g.before.before.before)).requires in (p.0.4, take-entry (early g).0 p.1.1)
 
 pub returns-then-start-spot : goal.returns-then-start-spot
 returns-then-start-spot c =
     let out = c.before.before.before in
     let g = out.before.before in
     let e = out.leave_out-then-start-spot.ensures in
-    drops {number = 4} (start (here g.before.before.before.before)).requires.ones_value.3 (early g) e.0 e.1
+    drops {number = 4} (start (here g.before.before.before)).requires.ones_value.3 (early g) e.0 e.1
 
 -- or behind it
 module _ (c : Else-start-spot) where

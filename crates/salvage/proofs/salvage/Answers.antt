@@ -54,13 +54,13 @@ room-verdict-requires c =
 pub returns-in-Refused-verdict : goal.returns-in-Refused-verdict
 returns-in-Refused-verdict c =
     let v = c.before.before.before.before in
-    let p = v.before.before.before.before.before.before.before in
+    let p = v.before.before.before.before.before in
     let t = told p in
     salvage-short _ _ _ _ _ _ (passed t) (all-counted (start t).args.m p.pass-counted.ensures) (makes-nothing p.pass-counted.ensures _ _ _) (sym v.room-verdict.ensures ∙ c.in-Refused-verdict.is)
 
 pub pass-requires : goal.pass-requires
 pass-requires c =
-    let p = c.before.before.before.before.before.before.before.before.before.before.before.before.before in
+    let p = c.before.before.before.before.before.before.before.before.before.before.before.before in
     let r = right (told p) in
     (r.small, r.same, r.most)
 
@@ -69,7 +69,7 @@ returns c =
     let w = c.before.before.before.before.before.before.before in
     let e = w.before.before.before.before in
     let v = e.before.before in
-    let p = v.before.before.before.before.before.before.before in
+    let p = v.before.before.before.before.before.before in
     let t = told p in
     salvage-done _ _ _ _ _ _ (passed t) (all-counted (start t).args.m p.pass-counted.ensures) (makes-nothing p.pass-counted.ensures _ _ _) (sym v.room-verdict.ensures ∙ e.in_default-verdict.is)
     w.pass.ensures

@@ -19,7 +19,7 @@ returns-in-Refused c = sym (use-refused _ _ _ _ _ _ (sym c.sound-sound.ensures �
 
 -- where the map is sound
 passed : (c : In_default)
-    → let k = c.before.before.before.before.before in
+    → let k = c.before.before.before.before in
     verdict (map_refusals_in k.args.whole k.args.m k.args.keys.now (length k.args.classes.now)) ≡ Passed
 passed c = sym c.sound-sound.ensures ∙ c.in_default.is
 
