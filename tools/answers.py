@@ -161,6 +161,17 @@ def turn(names, crate, path, folder):
         want = raw[to]
         return var + ".before" * (c.index(want) + extra) if want in c else None
 
+    def inlined(s, var):
+        """Chains of `before` that have a name stand for themselves."""
+        while True:
+            m = re.search(r"(?m)(^ *)?let (" + TOKEN + r") = (" + re.escape(var) + r"(?:\.before)*) in(?: |\n)?", s)
+            if not m:
+                return s
+            rest = re.sub(r"(?<![\w'.₀-₉-])" + re.escape(m.group(2)) + r"(?![\w'₀-₉-])(?! =)", lambda _: m.group(3), s[m.end():])
+            if m.group(1) is not None and s[m.end() - 1] != "\n":
+                rest = m.group(1) + rest
+            s = s[:m.start()] + rest
+
     def settle(s, var, at, extra):
         """Chains of `before` that are handed to what takes a place."""
         def one(m):
@@ -219,7 +230,8 @@ def turn(names, crate, path, folder):
             break
         return "." + ".".join(parts)
 
-    def body(s):
+    def body(s, var="c"):
+        s = inlined(s, var)
         s = re.sub(r"tie\.(" + TOKEN + r")((?: invariant-" + TOKEN + r"| decreases-" + TOKEN + r")*)", place, s)
         s = re.sub(r"\.pre(?![\w'-])", ".requires", s)
         s = re.sub(r"\.inv(?![\w'-])", ".invariant", s)
@@ -296,7 +308,7 @@ def turn(names, crate, path, folder):
                 b = settle(b, "c", asked[new], 1 if asked[new] in typed else 0)
             ans.append("\n".join(it["comment"] + [f"pub {new} : goal.{new}", b]))
             continue
-        b = body("\n".join(it["lines"]))
+        b = body("\n".join(it["lines"]), it["var"][0] if "var" in it else "c")
         if "var" in it:
             b = settle(b, it["var"][0], it["var"][1], 0)
         ans.append("\n".join(it["comment"] + [b]))

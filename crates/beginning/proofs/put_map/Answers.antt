@@ -24,6 +24,4 @@ returns-in_default c = rw (map-passed _ _ _ (is c.before.before c.in_default.is)
 
 pub returns : goal.returns
 returns c =
-    let p = c.before.before.before in
-    let d = p.before.before.before in
-    rw (map-refused _ _ _ (is d d.in-Refused.is)) p.put_refusal.ensures
+    rw (map-refused _ _ _ (is c.before.before.before.before.before.before c.in-Refused.is)) c.put_refusal.ensures

@@ -3,6 +3,4 @@ use Rattle.beginning.proofs.put_received.Goals as goal
 
 pub returns : goal.returns
 returns c =
-    let p = c.before.before.before.before.before.before.before in
-    let w = p.before.before.before.before.before in
-    rw (← w.whole-size.ensures.value) p.put_start.ensures
+    rw (← c.whole-size.ensures.value) c.put_start.ensures

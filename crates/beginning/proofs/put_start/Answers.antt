@@ -33,7 +33,7 @@ module _ (c : In-Read) where
   count = c.in-Read.count
 
   room : (count ≤ 1000) × (length read.read-reading.new.keys ≡ 1000) × (length read.read-reading.new.classes ≡ 1000)
-  room = (start-room (got read) c.in-Read.is, read.read-reading.kept.1.0 ∙ (asked read).requires.0, read.read-reading.kept.1.1.0 ∙ (asked read).requires.1)
+  room = (start-room (got read) c.in-Read.is, read.read-reading.auto.keys ∙ (asked read).requires.0, read.read-reading.auto.classes ∙ (asked read).requires.1)
 
 pub slice_bounds-put_map-end : goal.slice_bounds-put_map-end
 slice_bounds-put_map-end c = omega (arith, room c.before)
@@ -49,16 +49,12 @@ slice_bounds-put_map-end-in-Read-3 c = simp length-take (omega (arith, room c.be
 
 pub returns-in-Refused : goal.returns-in-Refused
 returns-in-Refused c =
-    let p = c.before.before.before in
-    let d = p.before.before.before in
-    let g = got d.before.before.before.before in
-    let told = d.in-Refused.is in
-    record { text = rw (← start-refused g told) p.put_refusal.ensures; few = omega arith; map = λ e. start-some g told e }
+    let g = got c.before.before.before.before.before.before.before.before.before.before in
+    let told = c.in-Refused.is in
+    record { text = rw (← start-refused g told) c.put_refusal.ensures; few = omega arith; map = λ e. start-some g told e }
 
 pub returns-in-Read : goal.returns-in-Read
 returns-in-Read c =
-    let p = c.before.before.before in
-    let d = p.before.before in
-    let g = got (read d) in
-    let told = d.in-Read.is in
-    record { text = rw (← start-read g told) p.put_map-said.ensures; few = (room d).0; map = λ e. start-holds g told }
+    let g = got (read c.before.before.before.before.before) in
+    let told = c.in-Read.is in
+    record { text = rw (← start-read g told) c.put_map-said.ensures; few = (room c.before.before.before.before.before).0; map = λ e. start-holds g told }

@@ -59,7 +59,7 @@ module _ (c : At-loop-first) where
   usable = fresh-usable _ first.requires.1 fresh.fill.ensures
 
 pub next_opening-found-requires : goal.next_opening-found-requires
-next_opening-found-requires c = let at = c.before.before in ((first at).requires.0, finding-usable at.loop-first.invariant.finding (usable at), at.loop-first.invariant.finding.reached)
+next_opening-found-requires c = ((first c.before.before).requires.0, finding-usable c.loop-first.invariant.finding (usable c.before.before), c.loop-first.invariant.finding.reached)
 
 -- where nothing is left to be found
 module _ (c : In_default) where
@@ -115,7 +115,7 @@ pub overflow_add-window : goal.overflow_add-window
 overflow_add-window c = let u = (first (turn c.before.before.before.before.before)).requires.1 in let i = inside-12 u.small u.inside in omega (arith, i)
 
 pub fill-requires-then-looked : goal.fill-requires-then-looked
-fill-requires-then-looked c = let of = c.before.before.before.before.before in (omega arith, (finding-usable (opens of).next (usable (turn of))).wide)
+fill-requires-then-looked c = (omega arith, (finding-usable (opens c.before.before.before.before.before).next (usable (turn c.before.before.before.before.before))).wide)
 
 -- the border, where a record has the class
 module _ (c : After-slice_known-then-looked-1) where
@@ -146,8 +146,7 @@ loop-first-smaller c = (opens c.before.before.before.before).fewer
 
 pub loop-first-preserved : goal.loop-first-preserved
 loop-first-preserved c =
-    let looked = c.before.before.before in
-    let at = turn looked.before in
-    seeking-next _ _ (first at).requires.1 (first at).requires.3 at.loop-first.invariant (opens looked.before)
-    (sym looked.look-looked.ensures.0 ∙ c.if-looked.false)
-    looked.look-looked.ensures.1
+    let at = turn c.before.before.before.before in
+    seeking-next _ _ (first at).requires.1 (first at).requires.3 at.loop-first.invariant (opens c.before.before.before.before)
+    (sym c.look-looked.ensures.0 ∙ c.if-looked.false)
+    c.look-looked.ensures.1

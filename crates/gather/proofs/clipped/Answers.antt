@@ -13,13 +13,11 @@ use Rattle.gather.proofs.clipped.Goals.{After-shared-cols, After-side-side, Star
 
 pub shared-rows-requires : goal.shared-rows-requires
 shared-rows-requires c =
-    let start = c.before.before in
-    omega (arith, c.floor.ensures, floor-le start.args.e start.args.row, c.side-side.ensures, start.requires)
+    omega (arith, c.floor.ensures, floor-le c.args.e c.args.row, c.side-side.ensures, c.requires)
 
 pub shared-cols-requires : goal.shared-cols-requires
 shared-cols-requires c =
-    let start = c.before.before.before.before in
-    omega (arith, c.floor-2.ensures, floor-le start.args.e start.args.col, c.side-side.ensures, start.requires)
+    omega (arith, c.floor-2.ensures, floor-le c.args.e c.args.col, c.side-side.ensures, c.requires)
 
 -- where both numbers are known
 module _ (c : After-shared-cols) where

@@ -59,18 +59,17 @@ overflow_sub-inner c = omega (arith, fills-key (start c.before.before).requires.
 
 pub exponent_here-e-requires : goal.exponent_here-e-requires
 exponent_here-e-requires c =
-    let t = c.before.before in
-    ((start t).requires.0, (start t).requires.1, small (start t), (turn t).loop-n.invariant.1, fills-begins (start t).requires.2 (among t) (turn t).loop-n.invariant.2)
+    ((start c.before.before).requires.0, (start c.before.before).requires.1, small (start c.before.before), (turn c.before.before).loop-n.invariant.1, fills-begins (start c.before.before).requires.2 (among c.before.before) (turn c.before.before).loop-n.invariant.2)
 
 pub pow4-requires : goal.pow4-requires
 pow4-requires c = omega (arith, (block-lies c.exponent_here-e.ensures).small, small (start c.before.before.before))
 
 pub bounds-classes-at : goal.bounds-classes-at
-bounds-classes-at c = let t = c.before.before.before.before.before in omega (arith, among t, (start t).requires.2.hands.room)
+bounds-classes-at c = omega (arith, among c.before.before.before.before.before, (start c.before.before.before.before.before).requires.2.hands.room)
 
 -- a class is a byte
 byte : (c : After-shared_slice_known-in-loop-n-2-1)
-    → let t = c.before.before.before.before in get_or (start t).args.classes.now (turn t).loop-n.n 0 < 256
+    → get_or (start c.before.before.before.before).args.classes.now (turn c.before.before.before.before).loop-n.n 0 < 256
 byte c = let g = c.shared_slice_known-in-loop-n-2-1.given c.loop-n.n in omega (arith, g)
 
 pub overflow_cast-totals : goal.overflow_cast-totals
@@ -80,39 +79,38 @@ pub offset_bounds-totals-classes : goal.offset_bounds-totals-classes
 offset_bounds-totals-classes c = omega (arith, byte c.before)
 
 pub bounds-totals-classes : goal.bounds-totals-classes
-bounds-totals-classes c = byte c.before
+bounds-totals-classes c = byte c.before.before
 
 -- what is added: the record's part in the window, whatever window its block lies in
-added : (c : After-pow4) {W : Window} → let t = c.before.before.before in let s = start t in
+added : (c : After-pow4) {W : Window} → let s = start c.before.before.before in
     Fills s.args.m s.args.keys.now (length s.args.classes.now) W s.args.key s.args.exponent s.args.first s.args.count
-    → c.pow4.result ≡ area s.args.m s.args.keys.now W (turn t).loop-n.n
-added c L = let t = c.before.before.before in fills-area L (among t) (turn t).loop-n.invariant.2 c.exponent_here-e.ensures c.pow4.ensures.is
+    → c.pow4.result ≡ area s.args.m s.args.keys.now W (turn c.before.before.before).loop-n.n
+added c L = fills-area L (among c.before.before.before) (turn c.before.before.before).loop-n.invariant.2 c.exponent_here-e.ensures c.pow4.ensures.is
 
 pub overflow_add-totals : goal.overflow_add-totals
 overflow_add-totals c =
-    let t = c.before.before.before.before.before.before in
-    let g = (start t).requires.2.hands.given in
-    omega (arith, adding-most (adding t) (among t).most (inside-12 g.small g.inside) (byte c.before.before), added c.before.before.before (start t).requires.2)
+    let g = (start c.before.before.before.before.before.before.before).requires.2.hands.given in
+    omega (arith, adding-most (adding c.before.before.before.before.before.before.before) (among c.before.before.before.before.before.before.before).most (inside-12 g.small g.inside) (byte c.before.before.before), added c.before.before.before (start c.before.before.before.before.before.before.before).requires.2)
 
 pub bounds-totals-classes-in-loop-n : goal.bounds-totals-classes-in-loop-n
-bounds-totals-classes-in-loop-n c = byte c.before.before
+bounds-totals-classes-in-loop-n c = byte c.before.before.before
 
 pub advance-spot-requires : goal.advance-spot-requires
-advance-spot-requires c = let t = c.before.before.before.before.before.before in ((start t).requires.0, small (start t), c.exponent_here-e.ensures)
+advance-spot-requires c = ((start c.before.before.before.before.before.before.before).requires.0, small (start c.before.before.before.before.before.before.before), c.exponent_here-e.ensures)
 
 pub overflow_add-n : goal.overflow_add-n
-overflow_add-n c = let t = c.before.before.before.before.before.before.before in let h = (start t).requires.2.hands in omega (arith, among t, h.room, h.few)
+overflow_add-n c = let h = (start c.before.before.before.before.before.before.before.before).requires.2.hands in omega (arith, among c.before.before.before.before.before.before.before.before, h.room, h.few)
 
 pub loop-n-smaller : goal.loop-n-smaller
-loop-n-smaller c = let t = c.before.before.before.before.before.before.before in omega (arith, among t)
+loop-n-smaller c = omega (arith, among c.before.before.before.before.before.before.before.before)
 
 pub loop-n-preserved : goal.loop-n-preserved
 loop-n-preserved c =
-    let t = c.before.before.before.before.before.before.before in (
-      λ W L G. adding-next ((turn t).loop-n.invariant.0 W L G) (among t).most (added c.before.before.before.before L),
+    (
+      λ W L G. adding-next ((turn c.before.before.before.before.before.before.before.before).loop-n.invariant.0 W L G) (among c.before.before.before.before.before.before.before.before).most (added c.before.before.before.before.before L),
       c.advance-spot.ensures.1,
-      fills-next (start t).requires.2 (among t) (turn t).loop-n.invariant.2 c.exponent_here-e.ensures c.advance-spot.ensures.0,
+      fills-next (start c.before.before.before.before.before.before.before.before).requires.2 (among c.before.before.before.before.before.before.before.before) (turn c.before.before.before.before.before.before.before.before).loop-n.invariant.2 c.exponent_here-e.ensures c.advance-spot.ensures.0,
     )
 
 pub returns : goal.returns
-returns c = let s = c.before.before.before.before.before.before in adding-last _ (c.loop-n.invariant.0 s.args.window s.requires.2 s.requires.3) (omega (arith, c.loop-n-test))
+returns c = adding-last _ (c.loop-n.invariant.0 c.args.window c.requires.2 c.requires.3) (omega (arith, c.loop-n-test))

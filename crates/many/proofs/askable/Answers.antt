@@ -63,9 +63,7 @@ border c = sym (rw c.widest.ensures at c.wide_enough-wide.ensures)
 
 pub returns-in-Refused-wide : goal.returns-in-Refused-wide
 returns-in-Refused-wide c =
-    let w = c.before.before.before.before in
-    let k = w.before.before in
-    sym (many-narrow _ _ _ _ _ _ (passed (told k)) (fours k) (border w ∙ c.in-Refused-wide.is))
+    sym (many-narrow _ _ _ _ _ _ (passed (told c.before.before.before.before)) (fours c.before.before.before.before) (border c.before.before.before.before ∙ c.in-Refused-wide.is))
 
 -- where it is wide enough
 module _ (c : In_default-wide) where

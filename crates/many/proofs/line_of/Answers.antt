@@ -57,6 +57,5 @@ overflow_mul-result c = let k = passed c.before.before.before.before.before.befo
 
 pub returns : goal.returns
 returns c =
-    let p = c.before.before.before.before.before.before in
-    let k = passed p in
-    (rw (p.pass-totals.ensures.many, p.pass-totals.ensures.records) (sym (line-inside _ _ _ (lies k))), p.pass-totals.ensures.ends ∙ sym (left-inside _ _ _ (lies k)))
+    let k = passed c.before.before.before.before.before.before in
+    (rw (c.pass-totals.ensures.many, c.pass-totals.ensures.records) (sym (line-inside _ _ _ (lies k))), c.pass-totals.ensures.ends ∙ sym (left-inside _ _ _ (lies k)))

@@ -44,23 +44,21 @@ line_of-line-requires c =
 
 pub put_line-requires : goal.put_line-requires
 put_line-requires c =
-    let table = c.before.before.before.before.before.before.before in
-    let at = turn table in
-    telling-room _ _ _ _ _ (start at).requires.1 (start at).requires.2 at.loop-i.invariant table.loop-i-test.true
+    let at = turn c.before.before.before.before.before.before.before in
+    telling-room _ _ _ _ _ (start at).requires.1 (start at).requires.2 at.loop-i.invariant c.loop-i-test.true
 
 pub loop-i-smaller : goal.loop-i-smaller
 loop-i-smaller c = omega (arith, (told c.before).loop-i-test.true)
 
 pub loop-i-preserved : goal.loop-i-preserved
 loop-i-preserved c =
-    let line = c.before.before.before.before.before.before.before in
     let at = turn (told c.before) in
-    let same = line.window_at.ensures in
+    let same = c.window_at.ensures in
     telling-next
     _ _ _ _ _ (start at).requires.1 (start at).requires.2 at.loop-i.invariant (told c.before).loop-i-test.true
-    (rw (← same) line.line_of-line.ensures.0)
-    (rw (← same) line.line_of-line.ensures.1)
-    line.line_of-line.auto.1.1.1.1.0
+    (rw (← same) c.line_of-line.ensures.0)
+    (rw (← same) c.line_of-line.ensures.1)
+    c.line_of-line.auto.1.1.1.1.0
     c.put_line.ensures
 
 pub shape_of-border : goal.shape_of-border

@@ -23,11 +23,9 @@ columns-needed-requires c = c.requires
 
 -- behind the test: the greater of the two
 greater : (c : Joined-widest-needed)
-    → let at = c.before.before.before.before in
-    c.if-widest-needed.widest ≡ max at.loop-i.widest (columns at.args.m (window_at at.args.windows.now at.loop-i.i))
+    →     c.if-widest-needed.widest ≡ max c.loop-i.widest (columns c.args.m (window_at c.args.windows.now c.loop-i.i))
 greater c =
-    let at = c.before.before.before.before in
-    let e = c.columns-needed.ensures ∙ ap (columns at.args.m) c.window_at.ensures in
+    let e = c.columns-needed.ensures ∙ ap (columns c.args.m) c.window_at.ensures in
     ⊎_elim (λ t. t.1 ∙ omega (arith, e, t.0.taken)) (λ t. t.1 ∙ omega (arith, e, t.0.left)) c.if-widest-needed.branch
 
 pub loop-i-smaller : goal.loop-i-smaller

@@ -68,9 +68,8 @@ module _ (c : After-window_in) where
 
 pub count-requires : goal.count-requires
 count-requires c =
-    let at = c.before.before.before in
-    let ok = used (told at) in
-    (rw (exact at) (use-known true _ _ _ _ _ ok), use-same true _ _ _ _ _ ok, refl, use-whole _ _ _ _ _ ok)
+    let ok = used (told c.before.before.before) in
+    (rw (exact c.before.before.before) (use-known true _ _ _ _ _ ok), use-same true _ _ _ _ _ ok, refl, use-whole _ _ _ _ _ ok)
 
 -- the pixels are counted, and the border is spent
 module _ (c : After-count) where
@@ -103,8 +102,7 @@ bounds-table-5-2 c = omega (arith, (goes_on c.before.before.before.before).long)
 
 pub add_rows-requires : goal.add_rows-requires
 add_rows-requires c =
-    let at = c.before.before.before.before.before.before in
-    stored-fits _ (start at).args.keys.now (start at).args.classes.now _ (goes_on at).long (goes_on at).same (small (told (drawn at))) (goes_on at).sane (counted at)
+    stored-fits _ (start c.before.before.before.before.before.before).args.keys.now (start c.before.before.before.before.before.before).args.classes.now _ (goes_on c.before.before.before.before.before.before).long (goes_on c.before.before.before.before.before.before).same (small (told (drawn c.before.before.before.before.before.before))) (goes_on c.before.before.before.before.before.before).sane (counted c.before.before.before.before.before.before)
 
 pub overflow_add-result : goal.overflow_add-result
 overflow_add-result c = omega (arith, (goes_on c.before.before.before.before.before.before.before.before.before).fewer)
@@ -117,6 +115,5 @@ shape_of-table c = c.add_rows.auto.0 ∙ simp length-set refl
 
 pub returns : goal.returns
 returns c =
-    let at = c.before.before.before.before.before.before.before.before.before in
-    let grown = c.add_rows.ensures ∙ grown-stored _ _ _ _ (goes_on at).long (goes_on at).same (counted at) in
-    rw (spends at, grown) (sym (add_is _ _ _ _ _ ∙ on-passed _ _ _ (passed (told (drawn at)))))
+    let grown = c.add_rows.ensures ∙ grown-stored _ _ _ _ (goes_on c.before.before.before.before.before.before.before.before.before).long (goes_on c.before.before.before.before.before.before.before.before.before).same (counted c.before.before.before.before.before.before.before.before.before) in
+    rw (spends c.before.before.before.before.before.before.before.before.before, grown) (sym (add_is _ _ _ _ _ ∙ on-passed _ _ _ (passed (told (drawn c.before.before.before.before.before.before.before.before.before)))))

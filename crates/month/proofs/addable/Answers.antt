@@ -69,5 +69,4 @@ exact c = c.window_in.ensures ∙ narrowed-inside (inside-12 (small (told c.befo
 
 pub returns : goal.returns
 returns c =
-    let at = c.before.before.before in
-    c.wide_enough.ensures ∙ rw (exact c.before.before) (sym (add_fit _ _ _ _ _ (passed (told at)) (fit at)))
+    c.wide_enough.ensures ∙ rw (exact c.before.before) (sym (add_fit _ _ _ _ _ (passed (told c.before.before.before)) (fit c.before.before.before)))

@@ -55,6 +55,4 @@ shape_of-table c = c.wipe.auto.0 ∙ simp length-set refl
 
 pub returns : goal.returns
 returns c =
-    let roomy = c.before.before.before.before.before.before.before.before.before in
-    let told = roomy.before in
-    sym (clear-done _ _ _ (small told) (passed told) roomy.if-table-lt1030.false refl c.wipe.ensures)
+    sym (clear-done _ _ _ (small c.before.before.before.before.before.before.before.before.before.before) (passed c.before.before.before.before.before.before.before.before.before.before) c.if-table-lt1030.false refl c.wipe.ensures)

@@ -75,7 +75,7 @@ pub overflow_mul-most_blocks : goal.overflow_mul-most_blocks
 overflow_mul-most_blocks c = omega (arith, c.most_blocks.ensures, small (clear c.before))
 
 pub pass-counted-requires : goal.pass-counted-requires
-pass-counted-requires c = let k = c.before.before.before.before.before in (k.spread_table-table.ensures, known (clear k))
+pass-counted-requires c = (c.spread_table-table.ensures, known (clear c.before.before.before.before.before))
 
 -- how many cells the pass that counts says are needed
 module _ (c : After-struct_known-1) where
@@ -93,10 +93,9 @@ overflow_mul-needed c = omega (arith, needed c.before, few (of c.before), small 
 
 pub returns-then-out-needed : goal.returns-then-out-needed
 returns-then-out-needed c =
-    let k = c.before.before in
-    let p = (counted k).pass-counted.ensures in
-    let none = passed-nothing (asked (of k)).args.out.now p in
-    open-short _ _ _ _ _ _ _ _ (passed (of k)) (needed k) (omega (arith, c.if-out-needed.true, ap length none)) p.ends none
+    let p = (counted c.before.before).pass-counted.ensures in
+    let none = passed-nothing (asked (of c.before.before)).args.out.now p in
+    open-short _ _ _ _ _ _ _ _ (passed (of c.before.before)) (needed c.before.before) (omega (arith, c.if-out-needed.true, ap length none)) p.ends none
 
 -- where the openings are written
 module _ (c : Joined-out-most_blocks) where
@@ -115,20 +114,16 @@ module _ (c : Joined-out-most_blocks) where
 
 pub pass-totals-requires : goal.pass-totals-requires
 pass-totals-requires c =
-    let k = c.before.before.before.before in
-    (k.spread_table-table.ensures, rw (ready k).long (known (told k)))
+    (c.spread_table-table.ensures, rw (ready c.before.before.before.before).long (known (told c.before.before.before.before)))
 
 pub shape_of-border : goal.shape_of-border
 shape_of-border c =
-    let k = c.before.before.before.before.before.before.before.before.before in
-    (written_same (ready k) c.pass-totals.ensures (known (told k)).wide).0
+    (written_same (ready c.before.before.before.before.before.before.before.before.before) c.pass-totals.ensures (known (told c.before.before.before.before.before.before.before.before.before)).wide).0
 
 pub shape_of-out : goal.shape_of-out
 shape_of-out c =
-    let k = c.before.before.before.before.before.before.before.before.before in
-    (written_same (ready k) c.pass-totals.ensures (known (told k)).wide).1
+    (written_same (ready c.before.before.before.before.before.before.before.before.before) c.pass-totals.ensures (known (told c.before.before.before.before.before.before.before.before.before)).wide).1
 
 pub returns : goal.returns
 returns c =
-    let k = c.before.before.before.before.before.before.before.before.before in
-    written_all (ready k) c.pass-totals.ensures _ _ (passed (told k))
+    written_all (ready c.before.before.before.before.before.before.before.before.before) c.pass-totals.ensures _ _ (passed (told c.before.before.before.before.before.before.before.before.before))

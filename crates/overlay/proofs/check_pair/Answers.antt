@@ -31,8 +31,7 @@ module _ (c : In_default) where
 
 pub returns-in-Refused-under : goal.returns-in-Refused-under
 returns-in-Refused-under c =
-    let s = c.before.before.before.before in
-    sym (base-refused _ _ _ _ _ _ (first s.before) (sym s.sound-under.ensures ∙ c.in-Refused-under.is))
+    sym (base-refused _ _ _ _ _ _ (first c.before.before.before) (sym c.sound-under.ensures ∙ c.in-Refused-under.is))
 
 -- and so is the baseline
 module _ (c : In_default-under) where

@@ -31,14 +31,12 @@ entry c = c.before.before
 
 pub seek-from-requires : goal.seek-from-requires
 seek-from-requires c =
-    let b = c.before.before in
-    let p = (entry b).requires in
-    (p.0, p.2, record { exponent = b.span_of-block.result.exponent; names = b.span_of-block.ensures })
+    let p = (entry c.before.before).requires in
+    (p.0, p.2, record { exponent = c.span_of-block.result.exponent; names = c.span_of-block.ensures })
 
 pub pow5-requires : goal.pow5-requires
 pow5-requires c =
-    let b = c.before.before.before.before in
-    (c.spread_table-table.ensures, omega (arith, (block-lies b.span_of-block.ensures).small, (entry b).requires.0))
+    (c.spread_table-table.ensures, omega (arith, (block-lies c.span_of-block.ensures).small, (entry c.before.before.before.before).requires.0))
 
 -- and behind the first record
 module _ (c : After-pow5) where

@@ -40,8 +40,7 @@ slice_bounds-result-end c = own_room c.before
 pub returns-in-Today : goal.returns-in-Today
 unfolding part_in
 returns-in-Today c =
-    let v = c.before.before.before in
-    rw (own_is v) (ap (λ (n : ℕ). take n (drop v.in-Today.first (own v).args.classes.now)) (add-sub_cancel_left v.in-Today.first v.in-Today.count))
+    rw (own_is c.before.before) (ap (λ (n : ℕ). take n (drop c.in-Today.first (own c.before.before).args.classes.now)) (add-sub_cancel_left c.in-Today.first c.in-Today.count))
 
 -- the baseline's part
 module _ (c : In-Baseline) where
@@ -64,8 +63,7 @@ slice_bounds-result-end-in-Baseline c = under-room c.before
 pub returns-in-Baseline : goal.returns-in-Baseline
 unfolding part_in
 returns-in-Baseline c =
-    let v = c.before.before.before in
-    rw (under-is v) (ap (λ (n : ℕ). take n (drop v.in-Baseline.first (under v).args.beneath.now)) (add-sub_cancel_left v.in-Baseline.first v.in-Baseline.count))
+    rw (under-is c.before.before) (ap (λ (n : ℕ). take n (drop c.in-Baseline.first (under c.before.before).args.beneath.now)) (add-sub_cancel_left c.in-Baseline.first c.in-Baseline.count))
 
 pub returns-in-Refused : goal.returns-in-Refused
 unfolding part_in

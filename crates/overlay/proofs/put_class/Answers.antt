@@ -24,7 +24,7 @@ abbrev entry : At-loop-stand → Start
 entry c = c.before.before.before.before.before.before.before
 
 pub next_piece-piece-requires : goal.next_piece-piece-requires
-next_piece-piece-requires c = let at = c.before.before.before in let p = (entry at).requires.ones_value in (p.1, at.loop-stand.invariant.stands, c.loop-stand-test.true, p.4)
+next_piece-piece-requires c = let p = (entry c.before.before.before).requires.ones_value in (p.1, c.loop-stand.invariant.stands, c.loop-stand-test.true, p.4)
 
 -- behind the next piece
 abbrev turn : After-next_piece-piece → At-loop-stand
@@ -43,47 +43,38 @@ piece c = c.before.before.before
 
 pub put_between-k-requires : goal.put_between-k-requires
 put_between-k-requires c =
-    let t = c.before.before in
-    let at = turn (piece t) in
+    let at = turn (piece c.before.before) in
     let p = (entry at).requires in
-    let room = joining-room at.loop-stand.invariant (piece t).next_piece-piece.ensures.0 t.if-piece-class.true in
+    let room = joining-room at.loop-stand.invariant (piece c.before.before).next_piece-piece.ensures.0 c.if-piece-class.true in
     (p.0.0, p.0.1.small, omega (arith, p.0.4, at.loop-stand.invariant.high), omega (arith, p.1, room))
 
 pub loop-stand-smaller-then-piece-class : goal.loop-stand-smaller-then-piece-class
 loop-stand-smaller-then-piece-class c =
-    let g = c.before.before.before.before.before.before.before in
-    omega (arith, g.next_piece-piece.ensures.0.more, g.next_piece-piece.ensures.0.most, g.go_on-stand.ensures.0)
+    omega (arith, c.next_piece-piece.ensures.0.more, c.next_piece-piece.ensures.0.most, c.go_on-stand.ensures.0)
 
 pub loop-stand-preserved-then-piece-class : goal.loop-stand-preserved-then-piece-class
 loop-stand-preserved-then-piece-class c =
-    let t = c.before.before.before.before.before in
-    let g = t.before.before in
-    let at = turn (piece t) in
-    joining-other at.loop-stand.invariant (piece t).next_piece-piece.ensures.0 t.if-piece-class.true g.go_on-stand.ensures.0 g.go_on-stand.ensures.1 c.put_between-k.ensures
+    let at = turn (piece c.before.before.before.before.before) in
+    joining-other at.loop-stand.invariant (piece c.before.before.before.before.before).next_piece-piece.ensures.0 c.if-piece-class.true c.go_on-stand.ensures.0 c.go_on-stand.ensures.1 c.put_between-k.ensures
 
 pub loop-stand-smaller : goal.loop-stand-smaller
 loop-stand-smaller c =
-    let g = c.before.before.before in
-    omega (arith, g.next_piece-piece.ensures.0.more, g.next_piece-piece.ensures.0.most, g.go_on-stand.ensures.0)
+    omega (arith, c.next_piece-piece.ensures.0.more, c.next_piece-piece.ensures.0.most, c.go_on-stand.ensures.0)
 
 pub loop-stand-preserved : goal.loop-stand-preserved
 loop-stand-preserved c =
-    let g = c.before.before.before in
-    joining-same (turn g.before).loop-stand.invariant g.next_piece-piece.ensures.0 g.go_on-stand.ensures.0 g.go_on-stand.ensures.1 c.if-piece-class.false
+    joining-same (turn c.before.before.before.before).loop-stand.invariant c.next_piece-piece.ensures.0 c.go_on-stand.ensures.0 c.go_on-stand.ensures.1 c.if-piece-class.false
 
 -- where no place is left
 pub put_between-requires : goal.put_between-requires
 put_between-requires c =
-    let at = c.before.before.before.before in
-    let p = (entry at).requires in
-    (p.0.0, p.0.1.small, p.0.4, omega (arith, p.1, joining-rest at.loop-stand.invariant (omega (arith, c.loop-stand-test.false))))
+    let p = (entry c.before.before.before.before).requires in
+    (p.0.0, p.0.1.small, p.0.4, omega (arith, p.1, joining-rest c.loop-stand.invariant (omega (arith, c.loop-stand-test.false))))
 
 pub shape_of-out : goal.shape_of-out
 shape_of-out c =
-    let e = c.before.before.before.before.before in
-    listed_same (joining-last e.loop-stand.invariant (omega (arith, e.loop-stand-test.false)) c.put_between.ensures)
+    listed_same (joining-last c.loop-stand.invariant (omega (arith, c.loop-stand-test.false)) c.put_between.ensures)
 
 pub returns : goal.returns
 returns c =
-    let e = c.before.before.before.before.before in
-    joining-last e.loop-stand.invariant (omega (arith, e.loop-stand-test.false)) c.put_between.ensures
+    joining-last c.loop-stand.invariant (omega (arith, c.loop-stand-test.false)) c.put_between.ensures

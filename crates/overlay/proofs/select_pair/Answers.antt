@@ -19,8 +19,7 @@ in_view-verdict-requires c = c.requires.small
 
 pub returns-in-Refused : goal.returns-in-Refused
 returns-in-Refused c =
-    let e = c.before.before.before.before in
-    sym (select-refused _ _ _ _ _ _ _ _ _ (pair-tiled e.requires _ _ e.in_view-verdict.ensures c.in-Refused.is))
+    sym (select-refused _ _ _ _ _ _ _ _ _ (pair-tiled c.requires _ _ c.in_view-verdict.ensures c.in-Refused.is))
 
 -- where they do not hold
 module _ (c : In_default) where
@@ -34,11 +33,9 @@ pub spend-requires : goal.spend-requires
 spend-requires c = let u = known c.before.before in (inside-12 u.small u.inside, u.wide)
 
 pub list_class-requires : goal.list_class-requires
-list_class-requires c = let told = c.before.before.before.before.before.before in ((entry told).requires, (known told).inside)
+list_class-requires c = ((entry c.before.before.before.before.before.before).requires, (known c.before.before.before.before.before.before).inside)
 
 pub returns : goal.returns
 returns c =
-    let spends = c.before.before.before.before.before.before.before in
-    let told = spends.before.before in
-    select-listed _ _ _ _ _ _ _ _ _ (pair-tiled (entry told).requires _ _ told.in_view-verdict.ensures told.in_default.is) spends.spend.ensures
+    select-listed _ _ _ _ _ _ _ _ _ (pair-tiled (entry c.before.before.before.before.before.before.before.before.before).requires _ _ c.in_view-verdict.ensures c.in_default.is) c.spend.ensures
     c.list_class.ensures

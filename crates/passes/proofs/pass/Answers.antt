@@ -43,8 +43,7 @@ module _ (c : At-loop-key) where
 
 pub next_opening-found-requires : goal.next_opening-found-requires
 next_opening-found-requires c =
-    let at = c.before.before in
-    ((first at).requires.0, finding-usable at.loop-key.invariant.finding (fresh-usable _ (first at).requires.1 (fresh at).fill.ensures), at.loop-key.invariant.finding.reached)
+    ((first c.before.before).requires.0, finding-usable c.loop-key.invariant.finding (fresh-usable _ (first c.before.before).requires.1 (fresh c.before.before).fill.ensures), c.loop-key.invariant.finding.reached)
 
 -- where nothing is left to be found
 module _ (c : In_default) where

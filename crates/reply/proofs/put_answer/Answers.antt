@@ -66,9 +66,8 @@ slice_bounds-put_result-start c = omega (arith, telling-room (one c.before.befor
 
 pub put_result-requires : goal.put_result-requires
 put_result-requires c =
-    let o = c.before.before.before.before in
-    let pre = (start o).requires in
-    (pre.0, rw (lent_is (at o) (begun o), length-drop) (omega (arith, short o, (one o).filled.same, pre.1)))
+    let pre = (start c.before.before.before.before).requires in
+    (pre.0, rw (lent_is (at c.before.before.before.before) (begun c.before.before.before.before), length-drop) (omega (arith, short c.before.before.before.before, (one c.before.before.before.before).filled.same, pre.1)))
 
 pub overflow_add-result : goal.overflow_add-result
 overflow_add-result c = omega (arith, telling-length (two c.before.before.before), (two c.before.before.before).room)

@@ -51,20 +51,15 @@ slice_bounds-put_found-end c = simp length-take (omega (arith, fits c.before.bef
 
 pub put_found-requires : goal.put_found-requires
 put_found-requires c =
-    let d = c.before.before.before.before in
-    let s = asked (done d) in
-    let most = found-most (take (3 * count d) (cells (done d))) s.args.totals.now (count d) d.in-Done.records s.args.pixels in
-    (s.requires.1, omega (arith, fits d, length-take (3 * count d) (cells (done d)), most))
+    let s = asked (done c.before.before.before) in
+    let most = found-most (take (3 * count c.before.before.before) (cells (done c.before.before.before))) s.args.totals.now (count c.before.before.before) c.in-Done.records s.args.pixels in
+    (s.requires.1, omega (arith, fits c.before.before.before, length-take (3 * count c.before.before.before) (cells (done c.before.before.before)), most))
 
 pub returns-in-Refused : goal.returns-in-Refused
 returns-in-Refused c =
-    let d = c.before.before.before.before.before.before in
-    let o = d.before.before.before.before.before in
-    open-never (opening o) d.in-Refused.is
+    open-never (opening c.before.before.before.before.before.before.before.before.before) c.in-Refused.is
 
 pub returns-in-Done : goal.returns-in-Done
 returns-in-Done c =
-    let put = c.before.before.before in
-    let d = put.before.before.before.before in
-    let s = asked (done d) in
-    rw (← open-found (opening (done d)) d.in-Done.is s.args.totals.now s.args.pixels) put.put_found.ensures
+    let s = asked (done c.before.before.before.before.before.before) in
+    rw (← open-found (opening (done c.before.before.before.before.before.before)) c.in-Done.is s.args.totals.now s.args.pixels) c.put_found.ensures

@@ -34,21 +34,13 @@ module _ (c : After-report-reported) where
 
 pub put_opened-requires : goal.put_opened-requires
 put_opened-requires c =
-    let d = c.before.before.before.before.before in
-    let q = d.before.before.before.before in
-    let pre = (asked q).requires in
-    (report-passed (counting q) d.in-Done.is pre.0, omega (arith, (counting q).long), pre.1)
+    let pre = (asked c.before.before.before.before.before.before.before).requires in
+    (report-passed (counting c.before.before.before.before.before.before.before) c.in-Done.is pre.0, omega (arith, (counting c.before.before.before.before.before.before.before).long), pre.1)
 
 pub returns-in-Refused : goal.returns-in-Refused
 returns-in-Refused c =
-    let said = c.before.before.before in
-    let d = said.before.before.before in
-    let q = d.before.before.before.before in
-    rw (← report-refused (counting q) d.in-Refused.is) said.put_refusal.ensures
+    rw (← report-refused (counting c.before.before.before.before.before.before.before.before) c.in-Refused.is) c.put_refusal.ensures
 
 pub returns-in-Done : goal.returns-in-Done
 returns-in-Done c =
-    let said = c.before.before.before.before in
-    let d = said.before.before.before.before.before in
-    let q = d.before.before.before.before in
-    rw (← report-counted (counting q) d.in-Done.is) said.put_opened.ensures
+    rw (← report-counted (counting c.before.before.before.before.before.before.before.before.before.before.before) c.in-Done.is) c.put_opened.ensures

@@ -48,8 +48,7 @@ fill-requires c = (omega arith, (known c.before.before.before.before.before).wid
 
 pub returns-then-out-lt256 : goal.returns-then-out-lt256
 returns-then-out-lt256 c =
-    let told = c.before.before.before.before.before.before.before.before in
-    report-short _ _ _ _ _ _ _ _ (passed told) (c.fill.ensures ∙ filled-spent _ _ (known told).wide) (omega (arith, c.if-out-lt256.true))
+    report-short _ _ _ _ _ _ _ _ (passed c.before.before.before.before.before.before.before.before) (c.fill.ensures ∙ filled-spent _ _ (known c.before.before.before.before.before.before.before.before).wide) (omega (arith, c.if-out-lt256.true))
 
 -- where there is room for the totals
 abbrev roomy : After-count-arg-1 → Else-out-lt256
@@ -73,7 +72,6 @@ overflow_mul-result c =
 
 pub returns : goal.returns
 returns c =
-    let counted = c.before.before.before.before.before.before.before.before.before.before in
-    let left = roomy counted.before.before in
-    report-done _ _ _ _ _ _ _ _ (passed left.before) counted.count.ensures.1 (omega (arith, left.if-out-lt256.false)) counted.count.ensures.0
+    let left = roomy c.before.before.before.before.before.before.before.before.before.before.before.before in
+    report-done _ _ _ _ _ _ _ _ (passed left.before) c.count.ensures.1 (omega (arith, left.if-out-lt256.false)) c.count.ensures.0
     c.put_totals.ensures

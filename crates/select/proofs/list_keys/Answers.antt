@@ -42,7 +42,7 @@ module _ (entry : Start) where
       omega (arith, most, blocks-most entry.args.window entry.args.top u.inside)
 
 pub most_blocks-requires : goal.most_blocks-requires
-most_blocks-requires c = let e = c.before.before.before.before in (omega (arith, e.requires.1.cap, e.requires.1.small), drawn e)
+most_blocks-requires c = (omega (arith, c.requires.1.cap, c.requires.1.small), drawn c.before.before.before.before)
 
 -- behind the number of keys that there can be
 abbrev start : After-most_blocks → Start
@@ -78,6 +78,5 @@ shape_of-out c = listed_same c.pick_all-count.ensures ∙ ap length (ready c.bef
 
 pub returns : goal.returns
 returns c =
-    let j = c.before.before.before.before.before in
-    let r = ready j in
-    keys-done (chosen (start j.before)) _ (rw r.0 at c.pick_all-count.ensures) r.1
+    let r = ready c.before.before.before.before.before in
+    keys-done (chosen (start c.before.before.before.before.before.before)) _ (rw r.0 at c.pick_all-count.ensures) r.1

@@ -63,18 +63,15 @@ inside c = c.lies_in.ensures.0 c.if-lies_in.true
 
 pub pick_around-n-requires : goal.pick_around-n-requires
 pick_around-n-requires c =
-    let b = c.before.before.before.before.before in
-    selecting-around (coming b) (turn b).loop-row.invariant.known.0 (inside c.before.before.before) (start b).requires.2
+    selecting-around (coming c.before.before.before.before.before.before) (turn c.before.before.before.before.before.before).loop-row.invariant.known.0 (inside c.before.before.before) (start c.before.before.before.before.before.before).requires.2
 
 pub loop-row-smaller-then-lies_in : goal.loop-row-smaller-then-lies_in
 loop-row-smaller-then-lies_in c = goes-less (coming c.before.before.before.before.before.before.before.before.before).goes
 
 pub loop-row-preserved-then-lies_in : goal.loop-row-preserved-then-lies_in
 loop-row-preserved-then-lies_in c =
-    let t = c.before.before.before.before.before.before in
-    let b = t.before.before in
-    let k = (turn b).loop-row.invariant.known in
-    selecting-near (coming b) k.0 (inside t) c.pick_around-n.ensures k
+    let k = (turn c.before.before.before.before.before.before.before.before.before).loop-row.invariant.known in
+    selecting-near (coming c.before.before.before.before.before.before.before.before.before) k.0 (inside c.before.before.before.before.before.before) c.pick_around-n.ensures k
 
 -- in the other
 module _ (c : After-exchanged-seen) where
@@ -86,18 +83,16 @@ module _ (c : After-exchanged-seen) where
 
 pub pick_around-n-requires-then-lies_in-2 : goal.pick_around-n-requires-then-lies_in-2
 pick_around-n-requires-then-lies_in-2 c =
-    let x = c.before.before.before in
-    let k = exchanged-known x.exchanged-seen.ensures (turn (other x)).loop-row.invariant.known in
-    selecting-around (coming (other x)) k.0 (inside-other x) (start (other x)).requires.2
+    let k = exchanged-known c.exchanged-seen.ensures (turn (other c.before.before.before)).loop-row.invariant.known in
+    selecting-around (coming (other c.before.before.before)) k.0 (inside-other c.before.before.before) (start (other c.before.before.before)).requires.2
 
 pub loop-row-smaller-then-lies_in-2 : goal.loop-row-smaller-then-lies_in-2
 loop-row-smaller-then-lies_in-2 c = goes-less (coming (other c.before.before.before.before.before.before)).goes
 
 pub loop-row-preserved-then-lies_in-2 : goal.loop-row-preserved-then-lies_in-2
 loop-row-preserved-then-lies_in-2 c =
-    let x = c.before.before.before.before.before.before in
-    let k = exchanged-known x.exchanged-seen.ensures (turn (other x)).loop-row.invariant.known in
-    selecting-near (coming (other x)) k.0 (inside-other x) c.pick_around-n-then-lies_in-2.ensures k
+    let k = exchanged-known c.exchanged-seen.ensures (turn (other c.before.before.before.before.before.before)).loop-row.invariant.known in
+    selecting-near (coming (other c.before.before.before.before.before.before)) k.0 (inside-other c.before.before.before.before.before.before) c.pick_around-n-then-lies_in-2.ensures k
 
 -- in neither
 abbrev neither : Else-lies_in-2 → After-block_key-key
@@ -121,6 +116,5 @@ loop-row-smaller c = goes-less (coming (neither c.before.before.before.before.be
 
 pub loop-row-preserved : goal.loop-row-preserved
 loop-row-preserved c =
-    let n = c.before.before.before.before.before in
-    let s = n.look_up-seen.ensures in
-    selecting-next (coming (neither n.before)) s.is c.pick-n.ensures (s.near-known, s.other-known)
+    let s = c.look_up-seen.ensures in
+    selecting-next (coming (neither c.before.before.before.before.before.before.before)) s.is c.pick-n.ensures (s.near-known, s.other-known)

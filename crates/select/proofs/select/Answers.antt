@@ -42,15 +42,12 @@ fill-requires c = (omega arith, (known c.before.before.before.before).wide)
 
 pub list_keys-requires : goal.list_keys-requires
 list_keys-requires c =
-    let told = c.before.before.before.before.before.before.before.before.before.before in
-    let u = known told in (
+    let u = known c.before.before.before.before.before.before.before.before.before.before in (
       c.spread_table-table.ensures,
       record { small = u.small; cap = u.cap; few = u.few; spaced = u.spaced; inside = u.inside; wide = omega arith },
-      use-same true _ _ _ _ _ (tiled-usable true _ _ _ _ _ _ (passed told)),
+      use-same true _ _ _ _ _ (tiled-usable true _ _ _ _ _ _ (passed c.before.before.before.before.before.before.before.before.before.before)),
     )
 
 pub returns : goal.returns
 returns c =
-    let filled = c.before.before.before.before.before.before.before.before.before in
-    let told = filled.before.before.before.before in
-    select-listed _ _ _ _ _ _ _ _ _ (passed told) (filled.fill.ensures ∙ filled-spent _ _ (known told).wide) c.list_keys.ensures
+    select-listed _ _ _ _ _ _ _ _ _ (passed c.before.before.before.before.before.before.before.before.before.before.before.before.before) (c.fill.ensures ∙ filled-spent _ _ (known c.before.before.before.before.before.before.before.before.before.before.before.before.before).wide) c.list_keys.ensures

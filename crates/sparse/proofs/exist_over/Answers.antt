@@ -21,8 +21,7 @@ in_view-verdict-requires c = c.requires.small
 
 pub returns-in-Refused : goal.returns-in-Refused
 returns-in-Refused c =
-    let e = c.before.before.before.before in
-    sym (exist-refused _ _ _ _ _ _ _ _ (pair-view e.requires _ _ e.in_view-verdict.ensures c.in-Refused.is))
+    sym (exist-refused _ _ _ _ _ _ _ _ (pair-view c.requires _ _ c.in_view-verdict.ensures c.in-Refused.is))
 
 -- where refusals 6 and 7 do not hold
 module _ (c : In_default) where
@@ -37,13 +36,10 @@ spend-requires c = let u = known c.before.before in (inside-12 u.small u.inside,
 
 pub find-requires : goal.find-requires
 find-requires c =
-    let told = c.before.before.before.before.before.before.before in
-    (c.spread_table-table.ensures, (entry told).requires, (known told).inside)
+    (c.spread_table-table.ensures, (entry c.before.before.before.before.before.before.before).requires, (known c.before.before.before.before.before.before.before).inside)
 
 pub returns : goal.returns
 returns c =
-    let spent-now = c.before.before.before.before.before.before.before in
-    let told = spent-now.before.before in
-    ap₂ after (c.say.ensures ∙ found-presence _ _ _ c.find.ensures) spent-now.spend.ensures
+    ap₂ after (c.say.ensures ∙ found-presence _ _ _ c.find.ensures) c.spend.ensures
     ∙ sym (existing-is _ _ _ _)
-    ∙ sym (exist-done _ _ _ _ _ _ _ _ (pair-view (entry told).requires _ _ told.in_view-verdict.ensures told.in_default.is))
+    ∙ sym (exist-done _ _ _ _ _ _ _ _ (pair-view (entry c.before.before.before.before.before.before.before.before.before).requires _ _ c.in_view-verdict.ensures c.in_default.is))

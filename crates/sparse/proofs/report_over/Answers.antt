@@ -23,8 +23,7 @@ in_view-verdict-requires c = c.requires.small
 
 pub returns-in-Refused : goal.returns-in-Refused
 returns-in-Refused c =
-    let e = c.before.before.before.before in
-    sym (report-refused _ _ _ _ _ _ _ _ (pair-view e.requires _ _ e.in_view-verdict.ensures c.in-Refused.is))
+    sym (report-refused _ _ _ _ _ _ _ _ (pair-view c.requires _ _ c.in_view-verdict.ensures c.in-Refused.is))
 
 -- where refusals 6 and 7 do not hold
 module _ (c : In_default) where
@@ -42,14 +41,12 @@ spend-requires c = let u = known c.before.before in (inside-12 u.small u.inside,
 
 pub returns-then-out-lt256 : goal.returns-then-out-lt256
 returns-then-out-lt256 c =
-    let spends = c.before.before.before.before in
-    report-short _ _ _ _ _ _ _ _ (passed spends.before.before) spends.spend.ensures
+    report-short _ _ _ _ _ _ _ _ (passed c.before.before.before.before.before.before) c.spend.ensures
     (omega (arith, c.if-out-lt256.true))
 
 pub add_up-requires : goal.add_up-requires
 add_up-requires c =
-    let told = c.before.before.before.before.before.before.before.before.before in
-    (c.spread_table-table.ensures, (entry told).requires, (known told).inside, refl)
+    (c.spread_table-table.ensures, (entry c.before.before.before.before.before.before.before.before.before).requires, (known c.before.before.before.before.before.before.before.before.before).inside, refl)
 
 pub put_totals-requires : goal.put_totals-requires
 put_totals-requires c =
@@ -57,14 +54,12 @@ put_totals-requires c =
 
 pub overflow_mul-result : goal.overflow_mul-result
 overflow_mul-result c =
-    let told = c.before.before.before.before.before.before.before.before.before.before.before.before.before.before.before.before.before in
-    let u = known told in
-    omega (arith, pixels-most (entry told).args.window (inside-12 u.small u.inside))
+    let u = known c.before.before.before.before.before.before.before.before.before.before.before.before.before.before.before.before.before in
+    omega (arith, pixels-most (entry c.before.before.before.before.before.before.before.before.before.before.before.before.before.before.before.before.before).args.window (inside-12 u.small u.inside))
 
 pub returns : goal.returns
 returns c =
-    let spends = c.before.before.before.before.before.before.before.before.before.before.before.before.before.before.before in
-    report-done _ _ _ _ _ _ _ _ (passed spends.before.before) spends.spend.ensures
+    report-done _ _ _ _ _ _ _ _ (passed c.before.before.before.before.before.before.before.before.before.before.before.before.before.before.before.before.before) c.spend.ensures
     (omega (arith, c.if-out-lt256.false))
     c.add_up.ensures
     c.put_totals.ensures

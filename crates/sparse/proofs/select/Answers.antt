@@ -38,14 +38,12 @@ spend-requires c = let u = known c.before.before in (inside-12 u.small u.inside,
 
 pub list_sparse-requires : goal.list_sparse-requires
 list_sparse-requires c =
-    let told = c.before.before.before.before.before.before.before.before in
-    let u = known told in (
+    let u = known c.before.before.before.before.before.before.before.before in (
       c.spread_table-table.ensures,
       record { small = u.small; cap = u.cap; few = u.few; spaced = u.spaced; inside = u.inside; wide = omega arith },
-      use-same false _ _ _ _ _ (tiled-usable false _ _ _ _ _ _ (passed told)),
+      use-same false _ _ _ _ _ (tiled-usable false _ _ _ _ _ _ (passed c.before.before.before.before.before.before.before.before)),
     )
 
 pub returns : goal.returns
 returns c =
-    let spends = c.before.before.before.before.before.before.before.before.before in
-    select-listed _ _ _ _ _ _ _ _ _ (passed spends.before.before) spends.spend.ensures c.list_sparse.ensures
+    select-listed _ _ _ _ _ _ _ _ _ (passed c.before.before.before.before.before.before.before.before.before.before.before) c.spend.ensures c.list_sparse.ensures

@@ -54,13 +54,12 @@ block_key-key-requires c =
 
 pub put_block-n-requires : goal.put_block-n-requires
 put_block-n-requires c =
-    let b = c.before.before.before in
-    let p = (start b).requires in
+    let p = (start c.before.before.before).requires in
     let named = c.block_key-key.ensures in (
       p.0,
       p.1,
-      asking (start b).args.classes.now p.2 p.3 (turn b).loop-row.invariant (on b) b.in-Block.is named,
-      asking-block p.2 (goes b) (walking-name (turn b).loop-row.invariant (on b) b.in-Block.is named),
+      asking (start c.before.before.before).args.classes.now p.2 p.3 (turn c.before.before.before).loop-row.invariant (on c.before.before.before) c.in-Block.is named,
+      asking-block p.2 (goes c.before.before.before) (walking-name (turn c.before.before.before).loop-row.invariant (on c.before.before.before) c.in-Block.is named),
     )
 
 pub loop-row-smaller : goal.loop-row-smaller
@@ -68,5 +67,4 @@ loop-row-smaller c = goes-less (goes c.before.before.before.before.before.before
 
 pub loop-row-preserved : goal.loop-row-preserved
 loop-row-preserved c =
-    let b = c.before.before.before.before.before.before in
-    walking-next (turn b).loop-row.invariant (on b) b.in-Block.is c.block_key-key.ensures c.put_block-n.ensures
+    walking-next (turn c.before.before.before.before.before.before).loop-row.invariant (on c.before.before.before.before.before.before) c.in-Block.is c.block_key-key.ensures c.put_block-n.ensures

@@ -43,27 +43,25 @@ module _ (c : After-span_of-block) where
       (omega (arith, l.small, start.requires.1.small), omega (arith, l.span, pow-most 3 start.args.m start.requires.1.small))
 
 pub span_of-block-requires : goal.span_of-block-requires
-span_of-block-requires c = let s = c.before.before.before.before in let b = s.requires.2 in (s.requires.1.small, record { exponent = s.args.run.reach; start = b.start; names = b.names })
+span_of-block-requires c = let b = c.requires.2 in (c.requires.1.small, record { exponent = c.args.run.reach; start = b.start; names = b.names })
 
 pub pow4-requires : goal.pow4-requires
 pow4-requires c = (span c.before).0
 
 pub overflow_add-end : goal.overflow_add-end
-overflow_add-end c = let b = c.before.before.before in omega (arith, (span b).1, c.pow4.ensures)
+overflow_add-end c = omega (arith, (span c.before.before.before).1, c.pow4.ensures)
 
 pub begin-spot-requires : goal.begin-spot-requires
-begin-spot-requires c = let b = c.before.before.before in ((start b).requires.0, (start b).requires.1.small, b.span_of-block.ensures)
+begin-spot-requires c = ((start c.before.before.before).requires.0, (start c.before.before.before).requires.1.small, c.span_of-block.ensures)
 
 pub overflow_add-last : goal.overflow_add-last
 overflow_add-last c =
-    let b = c.before.before.before.before.before.before in
-    omega (arith, merging-room (start b).requires.1 b.span_of-block.ensures (short b))
+    omega (arith, merging-room (start c.before.before.before.before.before.before).requires.1 c.span_of-block.ensures (short c.before.before.before.before.before.before))
 
 pub loop-i-init : goal.loop-i-init
 loop-i-init c =
-    let b = c.before.before.before.before.before.before in
     let g = c.begin-spot.ensures in
-    merging-first (start b).requires.1 b.span_of-block.ensures (short b) _ g.0 g.1 (omega (arith, c.pow4.ensures.is)) refl
+    merging-first (start c.before.before.before.before.before.before).requires.1 c.span_of-block.ensures (short c.before.before.before.before.before.before) _ g.0 g.1 (omega (arith, c.pow4.ensures.is)) refl
 
 -- at a turn
 module _ (c : In-loop-i) where
@@ -80,7 +78,7 @@ pub bounds-keys-i : goal.bounds-keys-i
 bounds-keys-i c = (merging-record (turn c.before.before).loop-i.invariant (test c.before.before)).0
 
 pub span_of-at-requires : goal.span_of-at-requires
-span_of-at-requires c = let t = c.before.before in ((entry t).requires.1.small, (merging-record (turn t).loop-i.invariant (test t)).1)
+span_of-at-requires c = ((entry c.before.before).requires.1.small, (merging-record (turn c.before.before).loop-i.invariant (test c.before.before)).1)
 
 -- with the record that comes next, as it is read
 module _ (c : After-span_of-at) where
@@ -93,21 +91,18 @@ module _ (c : After-span_of-at) where
 
 pub put_stretch-k-requires : goal.put_stretch-k-requires
 put_stretch-k-requires c =
-    let a = c.before.before in
-    let e = entry (inside a) in
-    (e.requires.0, e.requires.1.small, (turn (inside a)).loop-i.invariant.stands, omega (arith, (block-lies a.span_of-at.ensures).span), omega (arith, room a))
+    let e = entry (inside c.before.before) in
+    (e.requires.0, e.requires.1.small, (turn (inside c.before.before)).loop-i.invariant.stands, omega (arith, (block-lies c.span_of-at.ensures).span), omega (arith, room c.before.before))
 
 pub pick_around-k-requires : goal.pick_around-k-requires
 pick_around-k-requires c =
-    let a = c.before.before.before.before.before.before in
-    let t = inside a in
-    (rw (← (entry t).requires.1.same) (merging-record (turn t).loop-i.invariant (test t)).0, omega (arith, room a, c.put_stretch-k.ensures.count))
+    let t = inside c.before.before.before.before.before.before in
+    (rw (← (entry t).requires.1.same) (merging-record (turn t).loop-i.invariant (test t)).0, omega (arith, room c.before.before.before.before.before.before, c.put_stretch-k.ensures.count))
 
 pub advance-spot-requires : goal.advance-spot-requires
 advance-spot-requires c =
-    let a = c.before.before.before.before.before.before.before.before.before in
-    let e = entry (inside a) in
-    (e.requires.0, e.requires.1.small, a.span_of-at.ensures)
+    let e = entry (inside c.before.before.before.before.before.before.before.before.before) in
+    (e.requires.0, e.requires.1.small, c.span_of-at.ensures)
 
 -- behind the record
 module _ (c : After-advance-spot) where
@@ -133,10 +128,9 @@ loop-i-preserved c =
 
 pub put_stretch-requires : goal.put_stretch-requires
 put_stretch-requires c =
-    let b = c.before.before.before.before.before.before.before.before.before in
-    let p = (start b).requires in
+    let p = (start c.before.before.before.before.before.before.before.before.before).requires in
     let M = c.loop-i.invariant in
-    let l = (block-lies b.span_of-block.ensures).span in
+    let l = (block-lies c.span_of-block.ensures).span in
     let w = c.pow4.ensures.is in
     (p.0, p.1.small, M.stands, omega (arith, l, w), omega (arith, merging-few M (omega (arith, c.loop-i-test)), p.1.room))
 

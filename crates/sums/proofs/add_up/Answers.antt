@@ -41,8 +41,7 @@ module _ (c : At-loop-row) where
 
 pub next_opening-found-requires : goal.next_opening-found-requires
 next_opening-found-requires c =
-    let at = c.before.before in
-    ((first at).requires.0, finding-usable at.loop-row.invariant.finding (fresh-usable _ (first at).requires.3 (fresh at).fill.ensures), at.loop-row.invariant.finding.reached)
+    ((first c.before.before).requires.0, finding-usable c.loop-row.invariant.finding (fresh-usable _ (first c.before.before).requires.3 (fresh c.before.before).fill.ensures), c.loop-row.invariant.finding.reached)
 
 -- where nothing is left to be found
 module _ (c : In_default) where
@@ -79,10 +78,9 @@ module _ (c : In-Opening) where
 
 pub gather-requires : goal.gather-requires
 gather-requires c =
-    let of = c.before.before in
-    let p = (first (turn of)).requires in
-    let T = (turn of).loop-row.invariant in
-    (p.1, p.2, totalling-hands _ p.3 p.6 T (opens of) p.4, totalling-once _ p.3 p.6 T (opens of))
+    let p = (first (turn c.before.before)).requires in
+    let T = (turn c.before.before).loop-row.invariant in
+    (p.1, p.2, totalling-hands _ p.3 p.6 T (opens c.before.before) p.4, totalling-once _ p.3 p.6 T (opens c.before.before))
 
 pub loop-row-smaller : goal.loop-row-smaller
 loop-row-smaller c = (opens c.before.before.before).fewer

@@ -52,7 +52,7 @@ module _ (c : At-loop-key) where
   usable = fresh-usable _ first.requires.1 fresh.fill.ensures
 
 pub next_opening-found-requires : goal.next_opening-found-requires
-next_opening-found-requires c = let at = c.before.before in ((first at).requires.0, finding-usable at.loop-key.invariant.finding (usable at), at.loop-key.invariant.finding.reached)
+next_opening-found-requires c = ((first c.before.before).requires.0, finding-usable c.loop-key.invariant.finding (usable c.before.before), c.loop-key.invariant.finding.reached)
 
 -- where nothing is left to be found
 module _ (c : In_default) where
@@ -94,7 +94,7 @@ pub overflow_add-window : goal.overflow_add-window
 overflow_add-window c = let u = (first (turn c.before.before.before.before)).requires.1 in let i = inside-12 u.small u.inside in omega (arith, i)
 
 pub fill-requires-then-first-index : goal.fill-requires-then-first-index
-fill-requires-then-first-index c = let of = c.before.before.before.before in (omega arith, (finding-usable (opens of).next (usable (turn of))).wide)
+fill-requires-then-first-index c = (omega arith, (finding-usable (opens c.before.before.before.before).next (usable (turn c.before.before.before.before))).wide)
 
 -- the border, where the record is handed out
 module _ (c : After-slice_known-then-first-index-1) where

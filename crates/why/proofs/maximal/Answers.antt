@@ -18,24 +18,21 @@ next_block-next-requires c =
 
 pub block_key-requires : goal.block_key-requires
 block_key-requires c =
-    let walked = c.before.before.before in
-    let p = walked.requires in
-    let g = rw c.in-Block.is at walked.next_block-next.ensures in
+    let p = c.requires in
+    let g = rw c.in-Block.is at c.next_block-next.ensures in
     (p.0, p.1, omega (arith, next_small g, p.3.small), pixel-in p.2 (goes_in g))
 
 pub returns-in-Block : goal.returns-in-Block
 returns-in-Block c =
-    let walked = c.before.before.before.before in
-    let p = walked.requires in
-    let t = listed_next p.2 p.3 walked.next_block-next.ensures c.in-Block.is in
+    let p = c.requires in
+    let t = listed_next p.2 p.3 c.next_block-next.ensures c.in-Block.is in
     let key = c.block_key.ensures in
     (λ e. t.0 (sym key ∙ eqb-true _ _ e), λ n. eq-eqb _ _ (key ∙ t.1 n))
 
 pub returns-in_default : goal.returns-in_default
 returns-in_default c =
-    let walked = c.before.before in
-    let p = walked.requires in
-    (λ e. never (sym e), λ n. absurd (unlisted-ended p.2 p.3 walked.next_block-next.ensures c.in_default.is n))
+    let p = c.requires in
+    (λ e. never (sym e), λ n. absurd (unlisted-ended p.2 p.3 c.next_block-next.ensures c.in_default.is n))
 
 pub returns-else-has_pixel : goal.returns-else-has_pixel
 returns-else-has_pixel c =

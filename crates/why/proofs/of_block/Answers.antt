@@ -73,17 +73,15 @@ module _ (c : After-maximal) where
 
 pub maximal-requires : goal.maximal-requires
 maximal-requires c =
-    let squared = c.before.before in
-    let U = known squared.before.before in
-    (squared.spread_table-table.ensures, U.small, U.inside, squared.square_of-square.ensures)
+    let U = known c.before.before.before.before in
+    (c.spread_table-table.ensures, U.small, U.inside, c.square_of-square.ensures)
 
 turned : {b t : Bool} → not b ≡ t → b ≡ not t
 turned {b} e = sym (not-not b) ∙ ap not e
 
 pub returns-then-not-maximal : goal.returns-then-not-maximal
 returns-then-not-maximal c =
-    let asked = c.before.before in
-    sym (why-more _ _ _ _ _ _ _ (passed (at asked)) (key-refused _ _ _ (λ n. never (sym (asked.maximal.ensures.1 n) ∙ turned c.if-not-maximal.true))))
+    sym (why-more _ _ _ _ _ _ _ (passed (at c.before.before)) (key-refused _ _ _ (λ n. never (sym (c.maximal.ensures.1 n) ∙ turned c.if-not-maximal.true))))
 
 -- the arm of a maximal block
 module _ (c : Else-not-maximal) where
@@ -98,14 +96,12 @@ module _ (c : Else-not-maximal) where
 
 pub record_at-index-requires : goal.record_at-index-requires
 record_at-index-requires c =
-    let of = c.before.before in
-    let U = known (told of) in
-    ((squared of.before).spread_table-table.ensures, U.small, U.few, whole of, (squared of.before).square_of-square.ensures.pixel)
+    let U = known (told c.before.before) in
+    ((squared c.before.before.before).spread_table-table.ensures, U.small, U.few, whole c.before.before, (squared c.before.before.before).square_of-square.ensures.pixel)
 
 pub bring-brought-requires : goal.bring-brought-requires
 bring-brought-requires c =
-    let of = c.before.before.before.before.before in
-    ((squared of.before).spread_table-table.ensures, known (told of))
+    ((squared c.before.before.before.before.before.before).spread_table-table.ensures, known (told c.before.before.before.before.before))
 
 -- what is said, by the opening that brings the record of the block's corner
 module _ (c : After-struct_known-1) where
@@ -130,10 +126,8 @@ module _ (c : After-struct_known-1) where
 
 pub returns-then-brought-key : goal.returns-then-brought-key
 returns-then-brought-key c =
-    let s = c.before.before in
-    answers s (said-opened (whole (of s)) (known (told (of s))).inside (listed (of s)) (first-is s) (brought s).bring-brought.ensures.0 c.if-brought-key.true)
+    answers c.before.before (said-opened (whole (of c.before.before)) (known (told (of c.before.before))).inside (listed (of c.before.before)) (first-is c.before.before) (brought c.before.before).bring-brought.ensures.0 c.if-brought-key.true)
 
 pub returns : goal.returns
 returns c =
-    let s = c.before.before in
-    answers s (said-skipped (whole (of s)) (known (told (of s))).inside (listed (of s)) (first-is s) (brought s).bring-brought.ensures.0 c.if-brought-key.false)
+    answers c.before.before (said-skipped (whole (of c.before.before)) (known (told (of c.before.before))).inside (listed (of c.before.before)) (first-is c.before.before) (brought c.before.before).bring-brought.ensures.0 c.if-brought-key.false)

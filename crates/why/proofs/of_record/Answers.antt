@@ -51,19 +51,15 @@ fill-requires c = (omega arith, (known c.before.before.before.before.before.befo
 
 pub returns-in-Outside : goal.returns-in-Outside
 returns-in-Outside c =
-    let told = c.before.before.before.before.before.before.before.before.before.before in
-    let at = told.before.before in
-    why-done _ _ _ _ _ _ _ (passed at) ((index-passed _ _).1 told.if-keys-index.false)
-    (said-outside _ _ _ _ (sym told.record_lies-lies.ensures ∙ c.in-Outside.is))
-    (c.fill.ensures ∙ filled-spent _ _ (known at).wide)
+    why-done _ _ _ _ _ _ _ (passed c.before.before.before.before.before.before.before.before.before.before) ((index-passed _ _).1 c.if-keys-index.false)
+    (said-outside _ _ _ _ (sym c.record_lies-lies.ensures ∙ c.in-Outside.is))
+    (c.fill.ensures ∙ filled-spent _ _ (known c.before.before.before.before.before.before.before.before.before.before).wide)
 
 pub bring-brought-requires : goal.bring-brought-requires
 bring-brought-requires c = (c.spread_table-table.ensures, known c.before.before.before.before.before.before.before)
 
 pub returns : goal.returns
 returns c =
-    let brought = c.before.before.before in
-    let told = brought.before.before.before.before.before.before in
-    why-done _ _ _ _ _ _ _ (passed told.before.before) ((index-passed _ _).1 told.if-keys-index.false)
-    (said-handed _ _ _ _ (sym told.record_lies-lies.ensures ∙ brought.in_default-lies.is) brought.bring-brought.ensures.0.number)
-    brought.bring-brought.ensures.1
+    why-done _ _ _ _ _ _ _ (passed c.before.before.before.before.before.before.before.before.before.before) ((index-passed _ _).1 c.if-keys-index.false)
+    (said-handed _ _ _ _ (sym c.record_lies-lies.ensures ∙ c.in_default-lies.is) c.bring-brought.ensures.0.number)
+    c.bring-brought.ensures.1
