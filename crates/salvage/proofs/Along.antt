@@ -75,11 +75,11 @@ module _ (keys classes : List ℕ) (n records : ℕ) (K P : List ℕ) where
 
 -- ---- a row of records
 
-pub row-onward : {m n at next end : ℕ} {keys : List ℕ} → Row m keys n at next end → (n ≤ next) × (at ≤ end)
+pub row-onward : {m n at : ℕ} {keys : List ℕ} {next end : ℕ} → Row m keys n at next end → (n ≤ next) × (at ≤ end)
 row-onward none = (omega arith, omega arith)
 row-onward (more {i = i} R h b e) = let l = row-onward R in (omega (arith, l.0), omega (arith, l.1))
 
-row-mends : {m n at next end : ℕ} {keys : List ℕ} → Row m keys n at next end
+row-mends : {m n at : ℕ} {keys : List ℕ} {next end : ℕ} → Row m keys n at next end
     → mends_from m n at (drop n keys) ≡ map kept (up_from n (next - n)) ++ mends_from m next end (drop next keys)
 row-mends {n = n} none = rw (run-empty n)
 row-mends {m} {n} {at} {keys = keys} (more {next = next} {end = end} {to = to} R h b e) =

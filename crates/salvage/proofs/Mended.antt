@@ -71,9 +71,9 @@ fills-few : (m a b : ℕ) → m ≤ 12 → b ≤ 4 ^ m → length (fills m a b) 
 unfolding fills
 fills-few m a b small h = rw (length-map _ filled) (omega (arith, stretch-few m a b m (omega arith) (omega arith)))
 
-pub mends-few : {m n at : ℕ} {keys : List ℕ} {es : List Mend} → m ≤ 12 → n ≤ length keys → Mends m keys n at es → length es + 74 * n ≤ 74 * length keys + 73
-mends-few {m} {n} {at} small h (ends e) = omega (arith, fills-few m at (4 ^ m) small (omega arith))
+pub mends-few : {m : ℕ} {keys : List ℕ} {n at : ℕ} {es : List Mend} → m ≤ 12 → n ≤ length keys → Mends m keys n at es → length es + 74 * n ≤ 74 * length keys + 73
+mends-few {m} {n = n} {at = at} small h (ends e) = omega (arith, fills-few m at (4 ^ m) small (omega arith))
 mends-few small h (garbled l e M) = omega (arith, mends-few small l M)
 mends-few small h (early l b s M) = omega (arith, mends-few small l M)
-mends-few {m} {n} {at} small h (keeps {i = i} {s = s} {es = es} l b g e M) =
+mends-few {m} {n = n} {at = at} small h (keeps {i = i} {s = s} {es = es} l b g e M) =
     omega (arith, length-append (fills m at s) (kept n ∷ es), fills-few m at s small (omega (arith, (block-lies b).span, pow-least 3 i)), mends-few small l M)

@@ -1,5 +1,5 @@
 use mathlib.Core.List.{[]}
-use Prim.Native.Nat.{◌-◌, ◌<◌}
+use Prim.Native.Nat.{◌<◌}
 use native.Mathlib.Omega.{arith}
 use Rattle.salvage.proofs.Making.{makes-lengths}
 use Rattle.salvage.proofs.Filling.{filling-first, filling-room, filling-next, filling-last}
@@ -53,4 +53,4 @@ pub shape_of-log : goal.shape_of-log
 shape_of-log c = (makes-lengths (c.loop-spot.invariant.makes [] [])).2
 
 pub returns : goal.returns
-returns c = filling-last c.loop-spot.invariant c.loop-spot-test.false
+returns c = let f = filling-last c.loop-spot.invariant c.loop-spot-test.false in record { place_value = f.0; makes_any = f.1 }

@@ -1,5 +1,4 @@
 use mathlib.Core.List.{[]}
-use Prim.Native.Nat.{◌-◌}
 use native.Mathlib.Omega.{arith}
 use borrow.Author.Tests.{leb-true}
 use Rattle.lists.proofs.Laws.{both}
@@ -42,7 +41,8 @@ loop-i-preserved c =
     let w = c.before.before.before.before.before in
     let t = w.before.before.before.before.before in
     let v = t.loop-i.invariant in
-    (omega (arith, v.0), omega (arith, t.loop-i-test.true), omega (arith, v.0, v.2), run-next _ _ _ _ _ _ v.0 v.3 (rw v.2 at w.put_record.ensures))
+    let e = w.put_record.ensures in
+    (omega (arith, v.0), omega (arith, t.loop-i-test.true), omega (arith, v.0, v.2), run-next _ _ _ _ _ _ v.0 v.3 (rw v.2 at e.mended_after, rw v.2 at e.painted_after))
 
 -- the slices stay as long as they were
 pub shape_of-mended : goal.shape_of-mended

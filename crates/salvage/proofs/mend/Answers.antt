@@ -52,14 +52,14 @@ garbled : (c : In_default) → let h = c.before in
 garbled c = let h = c.before in step-garbled _ _ _ _ (read h c.in_default.is)
 
 pub leave_out-requires : goal.leave_out-requires
-leave_out-requires c = let g = c.before.before in let p = (start g.before).requires in (p.0.4, take-entry (garbled g).0 p.1.1)
+leave_out-requires c = let g = c.before.before in let p = (start g.before).requires in (p.ones_value.4, take-entry (garbled g).0 p.told_fit.1)
 
 pub returns-in_default : goal.returns-in_default
 returns-in_default c =
     let out = c.before.before.before in
     let g = out.before.before in
     let e = out.leave_out.ensures in
-    drops {number = 3} (start g.before).requires.ones_value.3 (garbled g) e.0 e.1
+    drops {number = 3} (start g.before).requires.ones_value.3 (garbled g) e.spot_value e.log_after
 
 -- a block
 module _ (c : In-Block) where
@@ -75,14 +75,14 @@ early : (c : Then-start-spot) → let h = here c.before.before.before in
 early c = step-early _ _ _ _ (named c.before.before.before) c.if-start-spot.true
 
 pub leave_out-requires-then-start-spot : goal.leave_out-requires-then-start-spot
-leave_out-requires-then-start-spot c = let g = c.before.before in let p = (start (here g.before.before.before)).requires in (p.0.4, take-entry (early g).0 p.1.1)
+leave_out-requires-then-start-spot c = let g = c.before.before in let p = (start (here g.before.before.before)).requires in (p.ones_value.4, take-entry (early g).0 p.told_fit.1)
 
 pub returns-then-start-spot : goal.returns-then-start-spot
 returns-then-start-spot c =
     let out = c.before.before.before in
     let g = out.before.before in
     let e = out.leave_out-then-start-spot.ensures in
-    drops {number = 4} (start (here g.before.before.before)).requires.ones_value.3 (early g) e.0 e.1
+    drops {number = 4} (start (here g.before.before.before)).requires.ones_value.3 (early g) e.spot_value e.log_after
 
 -- or behind it
 module _ (c : Else-start-spot) where
@@ -98,7 +98,7 @@ fill-now-requires c =
     let f = block e in
     let p = (start (here f)).requires in
     let l = later e in
-    (p.0.0, p.0.2, p.0.5, omega (arith, l), omega (arith, (block-lies (named f)).span), take-fills _ _ _ _ (named f) (omega (arith, l)) p.1.1)
+    (p.ones_value.0, p.ones_value.2, p.ones_value.5, omega (arith, l), omega (arith, (block-lies (named f)).span), take-fills _ _ _ _ (named f) (omega (arith, l)) p.told_fit.1)
 
 pub returns : goal.returns
 returns c =
@@ -107,7 +107,7 @@ returns c =
     let l = later e in
     let w = filled.fill-now.ensures in
     record {
-      forward = omega (arith, l, w.0.0);
-      less = omega (arith, l, w.0.0);
-      goes = λ classes a G. going-filled G (start (here (block e))).requires.ones_value.3 (named (block e)) (omega (arith, l)) w.0 w.1;
+      forward = omega (arith, l, w.place_value.0);
+      less = omega (arith, l, w.place_value.0);
+      goes = λ classes a G. going-filled G (start (here (block e))).requires.ones_value.3 (named (block e)) (omega (arith, l)) w.place_value w.makes_any;
     }

@@ -1,4 +1,4 @@
-use Prim.Native.Nat.{◌-◌, ◌<◌}
+use Prim.Native.Nat.{◌<◌}
 use native.Mathlib.Omega.{arith}
 use lib.ListN.{length}
 use Rattle.salvage.specs.Making.{sheet, Going}
@@ -80,13 +80,13 @@ returns-then-next-keys c =
 
 -- the slices stay as long as they were
 pub shape_of-mended-then-next-keys : goal.shape_of-mended-then-next-keys
-shape_of-mended-then-next-keys c = (makes-lengths (returns-then-next-keys c.before)).0
+shape_of-mended-then-next-keys c = (makes-lengths (returns-then-next-keys c)).0
 
 pub shape_of-painted-then-next-keys : goal.shape_of-painted-then-next-keys
-shape_of-painted-then-next-keys c = (makes-lengths (returns-then-next-keys c.before)).1
+shape_of-painted-then-next-keys c = (makes-lengths (returns-then-next-keys c)).1
 
 pub shape_of-log-then-next-keys : goal.shape_of-log-then-next-keys
-shape_of-log-then-next-keys c = (makes-lengths (returns-then-next-keys c.before)).2
+shape_of-log-then-next-keys c = (makes-lengths (returns-then-next-keys c)).2
 
 -- one is left that does not
 left : (c : Else-next-keys) → (kept c.before).keep_along-kept.result.next < length (start (turn c.before)).args.keys.now
@@ -100,7 +100,10 @@ mend-done-requires c =
     let p = (start t).requires in
     let h = left e in
     let ends = (kept e.before).keep_along-kept.ensures.ends h in
-    (((tables t).ones_table-ones.ensures, (tables t).digits_table-digits.ensures, p.0, h, omega (arith, h, p.2), g.stands), (ends, going-counted g p.0 p.2 h))
+    record {
+      ones_value = ((tables t).ones_table-ones.ensures, (tables t).digits_table-digits.ensures, p.0, h, omega (arith, h, p.2), g.stands);
+      told_fit = (ends, going-counted g p.0 p.2 h);
+    }
 
 pub loop-digits-preserved : goal.loop-digits-preserved
 loop-digits-preserved c =
@@ -114,5 +117,5 @@ loop-digits-smaller c =
     let e = done.before.before.before.before.before.before in
     let k = (kept e.before).keep_along-kept.ensures in
     let m = done.mend-done.ensures in
-    let after = loop-digits-preserved c.before in
+    let after = loop-digits-preserved c in
     omega (arith, left e, k.onward, k.forward, m.less, m.forward, after.within, after.stands.within)

@@ -56,7 +56,7 @@ returns-in-Refused-verdict c =
     let v = c.before.before.before.before in
     let p = v.before.before.before.before.before in
     let t = told p in
-    salvage-short _ _ _ _ _ _ (passed t) (all-counted (start t).args.m p.pass-counted.ensures) (makes-nothing p.pass-counted.ensures _ _ _) (sym v.room-verdict.ensures ∙ c.in-Refused-verdict.is)
+    salvage-short _ _ _ _ _ _ (passed t) (all-counted (start t).args.m p.pass-counted.ensures) (makes-nothing p.pass-counted.ensures _ _ _) (sym c.room-verdict.ensures ∙ c.in-Refused-verdict.is)
 
 pub pass-requires : goal.pass-requires
 pass-requires c =
@@ -71,5 +71,5 @@ returns c =
     let v = e.before.before in
     let p = v.before.before.before.before.before.before in
     let t = told p in
-    salvage-done _ _ _ _ _ _ (passed t) (all-counted (start t).args.m p.pass-counted.ensures) (makes-nothing p.pass-counted.ensures _ _ _) (sym v.room-verdict.ensures ∙ e.in_default-verdict.is)
-    w.pass.ensures
+    salvage-done _ _ _ _ _ _ (passed t) (all-counted (start t).args.m p.pass-counted.ensures) (makes-nothing p.pass-counted.ensures _ _ _) (sym c.room-verdict.ensures ∙ c.in_default-verdict.is)
+    c.pass.ensures
