@@ -71,7 +71,7 @@ module _ (c : In_default-wide) where
   drawn = c.before.before.before
 
   wide : verdict (border_refusals (widest (asked (told drawn)).args.m (windows_in (asked (told drawn)).args.windows.now)) (asked (told drawn)).args.cells) ≡ Passed
-  wide = border c.before.before ∙ c.in_default-wide.is
+  wide = border c.before ∙ c.in_default-wide.is
 
   count : length (windows_in (asked (told drawn)).args.windows.now) ≡ length (asked (told drawn)).args.windows.now / 4
   count = windows-length (asked (told drawn)).args.windows.now

@@ -1,5 +1,4 @@
 use mathlib.Core.Path.{◌≡◌, ap, ◌∙◌}
-use mathlib.Core.Logic.{⊎_elim}
 use Prim.Native.Nat.{max, ◌-◌}
 use native.Mathlib.Omega.{arith}
 use Rattle.many.specs.Many.{window_at, columns}
@@ -26,7 +25,10 @@ greater : (c : Joined-widest-needed)
     →     c.if-widest-needed.widest ≡ max c.loop-i.widest (columns c.args.m (window_at c.args.windows.now c.loop-i.i))
 greater c =
     let e = c.columns-needed.ensures ∙ ap (columns c.args.m) c.window_at.ensures in
-    ⊎_elim (λ t. t.1 ∙ omega (arith, e, t.0.taken)) (λ t. t.1 ∙ omega (arith, e, t.0.left)) c.if-widest-needed.branch
+    elim c.if-widest-needed.branch [
+        goal.then-widest-needed w ↦ w.widest-is ∙ omega (arith, e, w.if-widest-needed.true)
+        | goal.else-widest-needed w ↦ w.widest-is ∙ omega (arith, e, w.if-widest-needed.false)
+    ]
 
 pub loop-i-smaller : goal.loop-i-smaller
 loop-i-smaller c = omega (arith, c.loop-i-test.true)

@@ -1,6 +1,5 @@
 -- `open::open` meets its contract. Each test decides what its law in `Opening` says; what the pass that counts leaves is `Passed`.
 use mathlib.Core.Path.{◌≡◌, sym, ap, ◌∙◌}
-use mathlib.Core.Logic.{⊎_elim}
 use mathlib.Core.List.{List}
 use Prim.Native.Nat.{ℕ, ◌*◌, ◌≤◌}
 use native.Mathlib.Omega.{arith}
@@ -107,10 +106,12 @@ module _ (c : Joined-out-most_blocks) where
 
   ready : Writable lent.args.m lent.args.top lent.args.keys.now lent.args.window lent.args.border.now lent.args.out.now c.if-out-most_blocks.border c.if-out-most_blocks.out
   ready =
-      ⊎_elim
-      (λ w. writable-counted w.4.ensures (known told).wide w.11 w.12 (omega (arith, w.10.left)))
-      (λ w. writable-first w.1 w.2 (omega (arith, few told, c.most_blocks.ensures, w.0.left)))
-      c.if-out-most_blocks.branch
+      elim c.if-out-most_blocks.branch [
+          goal.then-out-most_blocks+else-out-needed w ↦
+              writable-counted w.pass-counted.ensures (known told).wide w.border-is w.out-is (omega (arith, w.if-out-needed.false))
+          | goal.else-out-most_blocks w ↦
+              writable-first w.border-is w.out-is (omega (arith, few told, c.most_blocks.ensures, w.if-out-most_blocks.false))
+      ]
 
 pub pass-totals-requires : goal.pass-totals-requires
 pass-totals-requires c =

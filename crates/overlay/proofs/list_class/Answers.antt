@@ -1,6 +1,5 @@
 -- `overlay::list_class` meets its contract. The pass that counts writes nothing; where keys are written there is room for all.
 use mathlib.Core.Path.{◌≡◌, ap, ◌∙◌}
-use mathlib.Core.Logic.{⊎_elim}
 use mathlib.Core.List.{List}
 use Prim.Native.Nat.{ℕ, ◌*◌, ◌≤◌}
 use native.Mathlib.Omega.{arith}
@@ -50,10 +49,12 @@ start c = c.before.before.before.before.before.before.before.before
 ready : (c : Joined-out-most) → (c.if-out-most.out ≡ lent (start c)) × (length (chosen (start c)) ≤ length (lent (start c)))
 ready c =
     let e = start c in
-    ⊎_elim
-    (λ w. let same = listed-nothing {xs = chosen e} w.2.ensures (lent e) in (w.6 ∙ same, omega (arith, w.2.ensures.count, w.5.left, ap length same)))
-    (λ w. (w.1, omega (arith, few e, w.0.left)))
-    c.if-out-most.branch
+    elim c.if-out-most.branch [
+        goal.then-out-most+else-out-needed w ↦
+            let same = listed-nothing {xs = chosen e} w.put_all-needed.ensures (lent e) in
+            (w.out-is ∙ same, omega (arith, w.put_all-needed.ensures.count, w.if-out-needed.false, ap length same))
+        | goal.else-out-most w ↦ (w.out-is, omega (arith, few e, w.if-out-most.false))
+    ]
 
 pub shape_of-out : goal.shape_of-out
 shape_of-out c = listed_same c.put_all-count.ensures ∙ ap length (ready c.before.before.before.before.before).0

@@ -73,7 +73,7 @@ module _ (c : After-slice_known-in-loop-key-2-1) where
   of = c.before.before.before.before
 
   abbrev answered : After-next_opening-found
-  answered = of.before.before.before.before
+  answered = of.before.before.before
 
   abbrev turn : At-loop-key
   turn = answered.before.before

@@ -11,7 +11,7 @@ use Rattle.salvage.proofs.keep.Reads as reads
 use Rattle.salvage.proofs.keep.Tie as tie
 
 abbrev In-loop-i : Type 0
-In-loop-i = lts.In-loop tie.the-claims reads.Pre reads.Post tie.handed_clauses goal.the-invariant-loop-i goal.the-decreases-loop-i tie.handed_clauses
+In-loop-i = lts.In-loop tie.the-claims reads.Pre reads.Post goal.the-invariant-loop-i goal.the-decreases-loop-i tie.handed_clauses
 
 pub returns-then-mended-records : goal.returns-then-mended-records
 returns-then-mended-records c = let t = (both _ _).0 c.if-mended-records.true in run-beyond _ _ _ _ _ _ _ (leb-true _ _ t.0) (leb-true _ _ t.1)

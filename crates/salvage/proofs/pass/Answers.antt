@@ -11,19 +11,19 @@ use Rattle.salvage.proofs.pass.Reads as reads
 use Rattle.salvage.proofs.pass.Tie as tie
 
 abbrev After-digits_table-digits : Type 0
-After-digits_table-digits = lts.After-digits_table tie.the-claims reads.Pre reads.Post tie.handed_clauses goal.the-invariant-loop-digits goal.the-decreases-loop-digits tie.handed_clauses
+After-digits_table-digits = lts.After-digits_table tie.the-claims reads.Pre reads.Post goal.the-invariant-loop-digits goal.the-decreases-loop-digits tie.handed_clauses
 
 abbrev At-loop-digits : Type 0
-At-loop-digits = lts.At-loop tie.the-claims reads.Pre reads.Post tie.handed_clauses goal.the-invariant-loop-digits goal.the-decreases-loop-digits tie.handed_clauses
+At-loop-digits = lts.At-loop tie.the-claims reads.Pre reads.Post goal.the-invariant-loop-digits goal.the-decreases-loop-digits tie.handed_clauses
 
 abbrev After-keep_along-kept : Type 0
-After-keep_along-kept = lts.After-keep_along tie.the-claims reads.Pre reads.Post tie.handed_clauses goal.the-invariant-loop-digits goal.the-decreases-loop-digits tie.handed_clauses
+After-keep_along-kept = lts.After-keep_along tie.the-claims reads.Pre reads.Post goal.the-invariant-loop-digits goal.the-decreases-loop-digits tie.handed_clauses
 
 abbrev After-so_far-1 : Type 0
-After-so_far-1 = lts.After-so_far tie.the-claims reads.Pre reads.Post tie.handed_clauses goal.the-invariant-loop-digits goal.the-decreases-loop-digits tie.handed_clauses
+After-so_far-1 = lts.After-so_far tie.the-claims reads.Pre reads.Post goal.the-invariant-loop-digits goal.the-decreases-loop-digits tie.handed_clauses
 
 abbrev Else-next-keys : Type 0
-Else-next-keys = lts.Else1 tie.the-claims reads.Pre reads.Post tie.handed_clauses goal.the-invariant-loop-digits goal.the-decreases-loop-digits tie.handed_clauses
+Else-next-keys = lts.Else1 tie.the-claims reads.Pre reads.Post goal.the-invariant-loop-digits goal.the-decreases-loop-digits tie.handed_clauses
 
 pub loop-digits-init : goal.loop-digits-init
 loop-digits-init c = going-first _ _ _ _ c.first_spot.ensures.1 c.first_spot.ensures.0

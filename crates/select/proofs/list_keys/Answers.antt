@@ -1,6 +1,5 @@
 -- `select::list_keys` meets its contract. The pass that counts writes nothing; where keys are written there is room for all.
 use mathlib.Core.Path.{◌≡◌, ap, ◌∙◌}
-use mathlib.Core.Logic.{⊎_elim}
 use mathlib.Core.List.{List}
 use Prim.Native.Nat.{ℕ, ◌+◌, ◌≤◌}
 use native.Mathlib.Omega.{arith}
@@ -65,10 +64,12 @@ returns-then-out-needed c =
 ready : (c : Joined-out-most_blocks) → let e = start c.before in (c.if-out-most_blocks.out ≡ lent e) × (length (chosen e) ≤ length (lent e))
 ready c =
     let e = start c.before in
-    ⊎_elim
-    (λ w. let same = listed-nothing {xs = chosen e} w.2.ensures (lent e) in (w.6 ∙ same, omega (arith, w.2.ensures.count, w.5.left, ap length same)))
-    (λ w. (w.1, omega (arith, few e, c.most_blocks.ensures, w.0.left)))
-    c.if-out-most_blocks.branch
+    elim c.if-out-most_blocks.branch [
+        goal.then-out-most_blocks+else-out-needed w ↦
+            let same = listed-nothing {xs = chosen e} w.pick_all-needed.ensures (lent e) in
+            (w.out-is ∙ same, omega (arith, w.pick_all-needed.ensures.count, w.if-out-needed.false, ap length same))
+        | goal.else-out-most_blocks w ↦ (w.out-is, omega (arith, few e, c.most_blocks.ensures, w.if-out-most_blocks.false))
+    ]
 
 pub pick_all-count-requires : goal.pick_all-count-requires
 pick_all-count-requires c = (start c.before.before.before).requires

@@ -96,7 +96,7 @@ loop-row-preserved-then-lies_in-2 c =
 
 -- in neither
 abbrev neither : Else-lies_in-2 → After-block_key-key
-neither c = c.before.before.before.before
+neither c = c.before.before.before.before.before.before
 
 pub look_up-seen-requires : goal.look_up-seen-requires
 look_up-seen-requires c =

@@ -76,12 +76,9 @@ maximal-requires c =
     let U = known c.before.before.before.before in
     (c.spread_table-table.ensures, U.small, U.inside, c.square_of-square.ensures)
 
-turned : {b t : Bool} → not b ≡ t → b ≡ not t
-turned {b} e = sym (not-not b) ∙ ap not e
-
 pub returns-then-not-maximal : goal.returns-then-not-maximal
 returns-then-not-maximal c =
-    sym (why-more _ _ _ _ _ _ _ (passed (at c.before.before)) (key-refused _ _ _ (λ n. never (sym (c.maximal.ensures.1 n) ∙ turned c.if-not-maximal.true))))
+    sym (why-more _ _ _ _ _ _ _ (passed (at c.before.before)) (key-refused _ _ _ (λ n. never (sym (c.maximal.ensures.1 n) ∙ c.if-not-maximal.true))))
 
 -- the arm of a maximal block
 module _ (c : Else-not-maximal) where
@@ -89,7 +86,7 @@ module _ (c : Else-not-maximal) where
   told = at c.before
 
   listed : let a = (first told).args in Memᴰ a.key (keys_of a.m a.m a.window)
-  listed = c.maximal.ensures.0 (turned c.if-not-maximal.false)
+  listed = c.maximal.ensures.0 c.if-not-maximal.false
 
   whole : Follow (first told).args.m 0 (first told).args.keys.now
   whole = use-whole _ _ _ _ _ (passed told)
