@@ -50,9 +50,9 @@ apart-holds q A h k = omega (arith, A.clear, (holds-is q A.names).0 h, (holds-is
 module _ {m : ℕ} {P : ℕ → Type 0} where
   -- ---- what is made up
 
-  pub made_in : {a b : ℕ} {ks : List ℕ} → Made m P b a ks → {x : ℕ} → Memᴰ x ks → Part m P a b x
+  pub made_in : {b a : ℕ} {ks : List ℕ} → Made m P b a ks → {x : ℕ} → Memᴰ x ks → Part m P a b x
   made_in (made_none h) l = absurd (Memᴰ.not-nil l)
-  made_in {a} {b} (made-next {k = k} {i = i} {s = s} {end = end} {ks = ks} l h n p e t M) {x} y = go (λ z r. made_in M r) (Memᴰ.cases_cons y)
+  made_in {b} {a} (made-next {k = k} {i = i} {s = s} {end = end} {ks = ks} l h n p e t M) {x} y = go (λ z r. made_in M r) (Memᴰ.cases_cons y)
     where
       go : ((z : ℕ) → Memᴰ z ks → Part m P end b z) → (x ≡ k) ⊎ Memᴰ x ks → Part m P a b x
       go ih (inl d) = rw d (record { exponent = i; start = s; names = n; low = l; high = omega arith; all = p })
@@ -60,9 +60,9 @@ module _ {m : ℕ} {P : ℕ → Type 0} where
           let f = ih x z in
           record { exponent = f.exponent; start = f.start; names = f.names; low = omega (arith, f.low, pow-least 3 i); high = f.high; all = f.all }
 
-  pub made-place : {a b : ℕ} {ks : List ℕ} → Made m P b a ks → (q : ℕ) → a ≤ q → q < b → P q → (x : ℕ) × Memᴰ x ks × (holds q (form_of m x) ≡ true)
+  pub made-place : {b a : ℕ} {ks : List ℕ} → Made m P b a ks → (q : ℕ) → a ≤ q → q < b → P q → (x : ℕ) × Memᴰ x ks × (holds q (form_of m x) ≡ true)
   made-place (made_none h) q l t p = absurd (h q l t p)
-  made-place {a} {b} (made-next {k = k} {i = i} {s = s} {end = end} {ks = ks} l h n all e t M) q u v p = go (dec_lt q s) (dec_lt q end) (made-place M q)
+  made-place {b} {a} (made-next {k = k} {i = i} {s = s} {end = end} {ks = ks} l h n all e t M) q u v p = go (dec_lt q s) (dec_lt q end) (made-place M q)
     where
       go : Dec (q < s) → Dec (q < end) → (end ≤ q → q < b → P q → (x : ℕ) × Memᴰ x ks × (holds q (form_of m x) ≡ true))
           → (x : ℕ) × Memᴰ x (k ∷ ks) × (holds q (form_of m x) ≡ true)
@@ -70,7 +70,7 @@ module _ {m : ℕ} {P : ℕ → Type 0} where
       go (no z) (yes w) ih = (k, Memᴰ.head refl, (holds-is q n).1 (omega arith))
       go (no z) (no w) ih = let r = ih (omega (arith, w)) v p in (r.0, Memᴰ.tail r.1, r.2)
 
-  pub made-apart : {a b : ℕ} {ks : List ℕ} → Made m P b a ks → Ordered (Apart m) ks
+  pub made-apart : {b a : ℕ} {ks : List ℕ} → Made m P b a ks → Ordered (Apart m) ks
   made-apart (made_none h) = none
   made-apart (made-next {i = i} {s = s} l h n p e t M) = more (λ y r. let f = made_in M r in
       record { exponent = i; start = s; later = f.exponent; behind = f.start; names = n; next = f.names; clear = omega (arith, f.low) }) (made-apart M)
@@ -101,7 +101,7 @@ module _ {m : ℕ} {P : ℕ → Type 0} where
       go q u v x (yes w) = h q u w x
       go q u v x (no w) = g q (omega arith) v x
 
-  pub made-append : {a c b : ℕ} {ks ls : List ℕ} → a ≤ c → c ≤ b → Made m P c a ks → Made m P b c ls → Made m P b a (ks ++ ls)
+  pub made-append : {b c a : ℕ} {ks ls : List ℕ} → a ≤ c → c ≤ b → Made m P c a ks → Made m P b c ls → Made m P b a (ks ++ ls)
   made-append l h (made_none g) N = made-skip l g N
   made-append {a} l h (made-next {s = s} k g n p e t M) N = made-next {a = a} {s = s} k g n p e (omega arith) (made-append t h M N)
 

@@ -90,7 +90,7 @@ added c L = fills-area L (among c.before.before.before) (turn c.before.before.be
 pub overflow_add-totals : goal.overflow_add-totals
 overflow_add-totals c =
     let g = (start c.before.before.before.before.before.before.before).requires.2.hands.given in
-    omega (arith, adding-most (adding c.before.before.before.before.before.before.before) (among c.before.before.before.before.before.before.before).most (inside-12 g.small g.inside) (byte c.before.before.before), added c.before.before.before (start c.before.before.before.before.before.before.before).requires.2)
+    omega (arith, adding-most (adding c.before.before.before.before.before.before.before) (among c.before.before.before.before.before.before.before).most (inside-12 g.small g.inside) (byte c.before.before.before), added c.before.before.before.before (start c.before.before.before.before.before.before.before).requires.2)
 
 pub bounds-totals-classes-in-loop-n : goal.bounds-totals-classes-in-loop-n
 bounds-totals-classes-in-loop-n c = byte c.before.before.before

@@ -63,7 +63,7 @@ border c = sym (rw c.widest.ensures at c.wide_enough-wide.ensures)
 
 pub returns-in-Refused-wide : goal.returns-in-Refused-wide
 returns-in-Refused-wide c =
-    sym (many-narrow _ _ _ _ _ _ (passed (told c.before.before.before.before)) (fours c.before.before.before.before) (border c.before.before.before.before ∙ c.in-Refused-wide.is))
+    sym (many-narrow _ _ _ _ _ _ (passed (told c.before.before.before.before)) (fours c.before.before.before.before) (border c.before.before ∙ c.in-Refused-wide.is))
 
 -- where it is wide enough
 module _ (c : In_default-wide) where

@@ -58,7 +58,7 @@ loop-i-preserved c =
     _ _ _ _ _ (start at).requires.1 (start at).requires.2 at.loop-i.invariant (told c.before).loop-i-test.true
     (rw (← same) c.line_of-line.ensures.0)
     (rw (← same) c.line_of-line.ensures.1)
-    c.line_of-line.auto.1.1.1.1.0
+    c.line_of-line.auto.border
     c.put_line.ensures
 
 pub shape_of-border : goal.shape_of-border

@@ -111,7 +111,7 @@ pub overflow_cast-result : goal.overflow_cast-result
 overflow_cast-result c = omega (arith, (goes_on c.before.before.before.before.before.before.before.before.before).fewer)
 
 pub shape_of-table : goal.shape_of-table
-shape_of-table c = c.add_rows.auto.0 ∙ simp length-set refl
+shape_of-table c = c.add_rows.auto.table ∙ simp length-set refl
 
 pub returns : goal.returns
 returns c =

@@ -51,7 +51,7 @@ pub wipe-requires : goal.wipe-requires
 wipe-requires c = simp length-set (omega (arith, c.if-table-lt1030.false))
 
 pub shape_of-table : goal.shape_of-table
-shape_of-table c = c.wipe.auto.0 ∙ simp length-set refl
+shape_of-table c = c.wipe.auto.table ∙ simp length-set refl
 
 pub returns : goal.returns
 returns c =

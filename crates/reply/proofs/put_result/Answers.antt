@@ -28,8 +28,8 @@ module _ (c : After-report-reported) where
   counting : Counting asked.args.m asked.args.keys.now asked.args.classes.now asked.args.window c.report-reported.result border totals
   counting = record {
     is = c.report-reported.ensures;
-    wide = c.report-reported.auto.1.1.1.1.0 ∙ length-replicate {A = ℕ} 4096 0;
-    long = c.report-reported.auto.1.1.1.1.1.0 ∙ length-replicate {A = ℕ} 256 0;
+    wide = c.report-reported.auto.border ∙ length-replicate {A = ℕ} 4096 0;
+    long = c.report-reported.auto.out ∙ length-replicate {A = ℕ} 256 0;
   }
 
 pub put_opened-requires : goal.put_opened-requires

@@ -27,10 +27,10 @@ module _ (c : After-read-more) where
   bytes = put_mid at.loop-count.count (length at.loop-count.buf - at.loop-count.count) at.loop-count.buf c.read-more.new.buf
 
   long : length bytes ≡ length at.loop-count.buf
-  long = same_len_mid at.loop-count.count (length at.loop-count.buf - at.loop-count.count) at.loop-count.buf c.read-more.new.buf c.read-more.auto.1.0
+  long = same_len_mid at.loop-count.count (length at.loop-count.buf - at.loop-count.count) at.loop-count.buf c.read-more.new.buf c.read-more.auto.buf
 
   more : at.loop-count.count + c.read-more.result.count ≤ length at.loop-count.buf
-  more = omega (arith, c.read-more.ensures, c.read-more.auto.1.0, mid_len at.loop-count.count (length at.loop-count.buf) at.loop-count.buf (omega arith), at.loop-count.invariant.1)
+  more = omega (arith, c.read-more.ensures, c.read-more.auto.buf, mid_len at.loop-count.count (length at.loop-count.buf) at.loop-count.buf (omega arith), at.loop-count.invariant.1)
 
 counted : (n : ℕ) (xs : List ℕ) → n ≤ length xs → IsPrefixLen n xs
 counted n xs l = (l, sym (length-take-le n xs l))

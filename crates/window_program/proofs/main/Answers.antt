@@ -17,7 +17,7 @@ put c = put-within _ _ c.put_received-begun.ensures.text
 
 room : (c : After-put_received-begun)
     → (c.put_received-begun.result.count ≤ 1000) × (length c.put_received-begun.new.keys ≡ 1000) × (length c.put_received-begun.new.classes ≡ 1000)
-room c = let n = length-replicate {A = ℕ} 1000 0 in (c.put_received-begun.ensures.few, c.put_received-begun.auto.1.1.0 ∙ n, c.put_received-begun.auto.1.1.1.0 ∙ n)
+room c = let n = length-replicate {A = ℕ} 1000 0 in (c.put_received-begun.ensures.few, c.put_received-begun.auto.keys ∙ n, c.put_received-begun.auto.classes ∙ n)
 
 pub slice_bounds-line-end : goal.slice_bounds-line-end
 slice_bounds-line-end c = put (start c.before)

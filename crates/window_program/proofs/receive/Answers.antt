@@ -20,7 +20,7 @@ came : (c : After-take-first) → (c.take-first.result.count ≤ 4) × (4 ≤ le
 came c =
     let s = c.before.before.before in
     let four : length (take 4 s.args.file.now) ≡ 4 = length-take-le 4 s.args.file.now s.requires in
-    let same = c.take-first.auto.1.0 in
+    let same = c.take-first.auto.buf in
     (omega (arith, c.take-first.ensures.0, same, four), simp length-append (omega (arith, same, four)))
 
 pub returns-then-first-lt4 : goal.returns-then-first-lt4
@@ -51,7 +51,7 @@ module _ (c : After-take-more) where
   told = c.before.before
 
   whole : Received (4 + c.take-more.result.count) (put_mid 4 (told.announced-size.result - 4) (first told.before) c.take-more.new.buf)
-  whole = received (first told.before) told.announced-size.ensures told.if-size-eq0.false c.take-more.new.buf c.take-more.auto.1.0 c.take-more.ensures.0
+  whole = received (first told.before) told.announced-size.ensures told.if-size-eq0.false c.take-more.new.buf c.take-more.auto.buf c.take-more.ensures.0
 
 pub returns : goal.returns
 returns c = whole c.before.before.before.before
