@@ -1,3 +1,4 @@
 mod Pieces
+mod Known
 mod Examples
 pub mod Laws

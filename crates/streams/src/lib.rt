@@ -1,9 +1,16 @@
 // Standard input and output for a program that nobody watches: a call that was interrupted is made again, one that failed is told from the end of the input, and text goes out in whole lines.
 #![tactic(auto)]
 
-ghost use Rattle.std.specs.Prelude.{◌≡◌, ◌≤◌, length};
+ghost use Rattle.std.specs.Prelude.{◌≡◌, ◌≤◌, ◌<◌, length, take, IsNone};
+ghost use Rattle.std.specs.Io.{ReadsAtMost, WritesAtMost};
+ghost use Rattle.std.specs.Io.KnownBytes.{Consumes, IsAtEnd, ReadConsumes, WriteAppends};
+ghost use Rattle.std.specs.IoError.{raw_os_error};
 ghost use Rattle.io.specs.Counts.{IsPrefixLen};
-ghost use Rattle.streams.specs.Streams.{passing, lines_in, piece_of};
+ghost use Rattle.streams.specs.Streams.{passing, passing_call, lines_in, piece_of, Puts};
+
+use std::io::{Error, ErrorKind, Read, Write};
+use std::rt::Files;
+use std::{fs, io, thread};
 
 // How often a call is made again: some seconds, where the descriptor does not wait by itself.
 const PATIENCE: u32 = 10_000_000;
@@ -11,11 +18,16 @@ const PATIENCE: u32 = 10_000_000;
 // So many bytes or fewer, written at once, a pipe takes all together or not at all.
 const PIPE_BUF: usize = 4096;
 
-// How many bytes came, and whether a read failed behind them; otherwise the slice is full or the input has ended.
+// The numbers that the system has for a call that was interrupted, and for a descriptor that is not ready.
+const EINTR: i32 = 4;
+
+const EAGAIN: i32 = 11;
+
+// How many bytes came, and why a read failed behind them, where one did; otherwise the slice is full or the input has ended.
 #[derive(Clone, Copy)]
 pub struct Taken {
     pub count: usize,
-    pub failed: bool,
+    pub failed: Option<Error>,
 }
 
 #[derive(Clone, Copy)]
@@ -23,85 +35,95 @@ pub enum Printed {
     Whole,
     // A file took a part of what was written: it is full. Another write could end the program by a signal, before anything is said.
     Partly,
-    Failed,
+    Failed(Error),
 }
 
 // Whether the call that failed so may succeed when it is made again: it was interrupted, or the descriptor is not ready.
 fn is_passing(error: i32) -> bool
     ensures { result ≡ passing error }
 {
-    (error == libc::EINTR) | (error == libc::EAGAIN)
+    (error == EINTR) | (error == EAGAIN)
 }
 
 // Whether to make the call again that has just failed. Others are let run before that.
-fn may_pass() -> bool {
-    let passing = is_passing(os::errno());
+fn may_pass(error: &Error) -> bool
+    ensures { result ≡ passing_call (raw_os_error error.now) }
+{
+    let passing = match error.raw_os_error() {
+        Some(number) => is_passing(number),
+        None => false,
+    };
     if passing {
-        libc::sched_yield();
+        thread::yield_now();
     }
     passing
 }
 
 // One read, made again while what stops it may pass.
-fn read(fd: i32, buf: &mut [u8]) -> Taken
-    ensures { result.count ≤ length buf.new }
+fn read<R: Read>(from: &mut R, buf: &mut [u8]) -> io::Result<usize>
+    ensures bound { ReadsAtMost result buf.new }
+    ensures bytes { ReadConsumes (R.remaining from.old) (R.remaining from.new) result buf.new }
 {
     let mut left = PATIENCE;
-    while left > 0 {
-        let got = libc::read(fd, buf);
-        if got >= 0 {
-            return Taken {
-                count: io::count(got, buf),
-                failed: false,
-            };
-        }
-        if !may_pass() {
-            break;
+    loop {
+        match from.read(buf) {
+            Ok(count) => return Ok(count),
+            Err(error) => {
+                if left == 0 || !may_pass(&error) {
+                    return Err(error);
+                }
+            }
         }
         left -= 1;
-    }
-    Taken {
-        count: 0,
-        failed: true,
     }
 }
 
-// One write, made again while what stops it may pass. Answers how many bytes were taken, 0 where it failed.
-fn write(fd: i32, text: &[u8]) -> usize
-    ensures { result ≤ length text.now }
+// One write, made again while what stops it may pass.
+fn write<W: Write>(to: &mut W, text: &[u8]) -> io::Result<usize>
+    ensures bound { WritesAtMost result text.now }
+    ensures bytes { WriteAppends (W.contents to.old) (W.contents to.new) result text.now }
 {
     let mut left = PATIENCE;
-    while left > 0 {
-        let put = libc::write(fd, text);
-        if put >= 0 {
-            return io::count(put, text);
-        }
-        if !may_pass() {
-            break;
+    loop {
+        match to.write(text) {
+            Ok(count) => return Ok(count),
+            Err(error) => {
+                if left == 0 || !may_pass(&error) {
+                    return Err(error);
+                }
+            }
         }
         left -= 1;
     }
-    0
 }
 
 // Reads until the slice is full, the input ends or a read fails.
-pub fn take(fd: i32, buf: &mut [u8]) -> Taken
-    ensures { IsPrefixLen result.count buf.new }
+pub fn take<R: Read>(from: &mut R, buf: &mut [u8]) -> Taken
+    ensures count { IsPrefixLen result.count buf.new }
+    ensures bytes { Consumes (R.remaining from.old) (R.remaining from.new) (take result.count buf.new) }
+    ensures end { IsNone result.failed → result.count < length buf.new → IsAtEnd (R.remaining from.new) }
 {
     let mut count = 0;
     while count < buf.len() {
-        let more = read(fd, &mut buf[count..]);
-        if more.count == 0 {
-            return Taken {
-                count: count,
-                failed: more.failed,
-            };
+        match read(from, &mut buf[count..]) {
+            Ok(0) => {
+                return Taken {
+                    count,
+                    failed: None,
+                };
+            }
+            Ok(more) => count += more,
+            Err(error) => {
+                return Taken {
+                    count,
+                    failed: Some(error),
+                };
+            }
         }
-        count += more.count;
     }
     Taken {
-        count: count,
-        failed: false,
+        count,
+        failed: None,
     }
 }
 
@@ -131,24 +153,36 @@ fn piece(text: &[u8]) -> usize
     if n == 0 { PIPE_BUF } else { n }
 }
 
-// Pipes, sockets and terminals have no position; they may take a part and later the rest.
-fn is_file(fd: i32) -> bool {
-    libc::lseek(fd, 0, libc::SEEK_CUR) >= 0
+// Pipes, sockets and terminals are no files; they may take a part and later the rest.
+fn is_file(files: &impl Files, path: &str) -> bool {
+    match fs::metadata(files, path) {
+        Ok(metadata) => metadata.is_file(),
+        Err(_) => false,
+    }
 }
 
-// Writes a text, piece by piece.
-pub fn print(fd: i32, text: &[u8]) -> Printed {
+// Whether a write that took so many of n bytes shows that a file is full.
+fn is_full(files: &impl Files, path: &str, put: usize, n: usize) -> bool {
+    put < n && is_file(files, path)
+}
+
+// Writes a text, piece by piece, to what the system has at this path.
+pub fn print<W: Write>(to: &mut W, files: &impl Files, path: &str, text: &[u8]) -> Printed
+    ensures { Puts result (W.contents to.old) (W.contents to.new) text.now }
+{
     let mut rest = text;
     while rest.len() > 0 {
         let n = piece(rest);
-        let put = write(fd, &rest[..n]);
-        if put == 0 {
-            return Printed::Failed;
+        match write(to, &rest[..n]) {
+            Ok(0) => return Printed::Failed(Error::from(ErrorKind::WriteZero)),
+            Ok(put) => {
+                if is_full(files, path, put, n) {
+                    return Printed::Partly;
+                }
+                rest = &rest[put..];
+            }
+            Err(error) => return Printed::Failed(error),
         }
-        if put < n && is_file(fd) {
-            return Printed::Partly;
-        }
-        rest = &rest[put..];
     }
     Printed::Whole
 }

@@ -1,38 +1,30 @@
-use mathlib.Core.Path.{sym}
-use Prim.Native.Nat.{◌≤◌}
-use native.Mathlib.Omega.{arith}
-use lib.ListN.{length}
-use lib.Seq.{length-take-le}
+use Rattle.std.proofs.Common.{◌≤◌, ◌++◌, arith, length, take, sym, length-take-le}
+use Rattle.std.proofs.KnownBytes.{Appends-kept}
+use Rattle.streams.proofs.Known.{more-put, split_after, split_rest, puts-front}
 use Rattle.streams.proofs.Pieces.{piece-within}
 use Rattle.streams.proofs.print.Goals as goal
-use Rattle.streams.proofs.print.Lts as lts
-use Rattle.streams.proofs.print.Reads as reads
-use Rattle.streams.proofs.print.Tie as tie
-
-abbrev After-piece-n : Type 0
-After-piece-n = lts.After-piece tie.the-claims reads.Pre reads.Post goal.the-invariant-loop-rest goal.the-decreases-loop-rest
-
-abbrev Joined-else-put-n : Type 0
-Joined-else-put-n = lts.Joined2 tie.the-claims reads.Pre reads.Post goal.the-invariant-loop-rest goal.the-decreases-loop-rest
-
--- a piece is a part of what is left
-within : (c : After-piece-n) → c.piece-n.result ≤ length c.loop-rest.rest.now
-within c = omega (arith, c.piece-n.ensures, piece-within 4096 c.loop-rest.rest.now)
 
 pub slice_bounds-write-end : goal.slice_bounds-write-end
-slice_bounds-write-end c = sym (length-take-le _ _ (within c.before))
+slice_bounds-write-end g c =
+    let within : c.piece-n.result ≤ length c.loop-rest.rest.now = omega (arith, c.piece-n.ensures, piece-within 4096 c.loop-rest.rest.now) in
+    sym (length-take-le _ _ within)
 
-taken : (c : Joined-else-put-n) → c.write-put.result ≤ length c.loop-rest.rest.now
-taken c =
-    let w = c.before.before in
-    let n = w.before.before in
-    omega (arith, w.write-put.ensures, length-take-le n.piece-n.result n.loop-rest.rest.now (within n), within n)
+pub returns-in-Ok-eq0 : goal.returns-in-Ok-eq0
+returns-in-Ok-eq0 g c =
+    let (done, split, appended) = c.loop-rest.invariant in
+    puts-front _ _ _ _ _ (split_after _ done _ _ split) (more-put _ _ _ done _ _ _ appended c.in-Ok-eq0.ensures.bound c.in-Ok-eq0.ensures.bytes)
 
-pub slice_bounds-rest-count : goal.slice_bounds-rest-count
-slice_bounds-rest-count c = taken c.before
+pub returns-then-is_full : goal.returns-then-is_full
+returns-then-is_full g c =
+    let (done, split, appended) = c.loop-rest.invariant in
+    puts-front _ _ _ _ _ (split_after _ done _ _ split) (more-put _ _ _ done _ _ _ appended c.in-Ok.ensures.bound c.in-Ok.ensures.bytes)
 
-pub slice_bounds-rest-start : goal.slice_bounds-rest-start
-slice_bounds-rest-start c = taken c.before
+pub loop-rest-preserved : goal.loop-rest-preserved
+loop-rest-preserved g c =
+    let (done, split, appended) = c.loop-rest.invariant in
+    (done ++ take c.in-Ok.put c.loop-rest.rest.now, split_rest _ done _ _ split, more-put _ _ _ done _ _ _ appended c.in-Ok.ensures.bound c.in-Ok.ensures.bytes)
 
-pub loop-rest-smaller : goal.loop-rest-smaller
-loop-rest-smaller c = let joined = c.before.before in omega (arith, c.rest-1.given.2, taken joined, joined.if-put-eq0.false)
+pub returns-in-Err : goal.returns-in-Err
+returns-in-Err g c =
+    let (done, split, appended) = c.loop-rest.invariant in
+    puts-front _ _ _ _ _ split (Appends-kept _ _ _ _ appended c.in-Err.ensures.bytes)
