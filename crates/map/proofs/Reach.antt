@@ -6,7 +6,7 @@ use Prim.Native.Nat.{ℕ, max, ◌^◌, ◌≤◌, ◌<◌}
 use native.Mathlib.Omega.{arith}
 use lib.ListN.{get_or}
 use Rattle.key.specs.Blocks.{Names, Among}
-use Rattle.key.proofs.Laws.{Covers, around, one_block, block-lies, pow-least}
+use Rattle.key.proofs.Laws.{Covers, one_block, block-lies, pow-least}
 use Rattle.map.specs.Sound.{Follow, Spaced}
 use Rattle.map.specs.Records.{exponent_of}
 use Rattle.map.specs.Runs.{run_of}

@@ -10,7 +10,6 @@ use lib.ListN.{length, get_or}
 use Rattle.key.specs.Picture.{Pixel, place}
 use Rattle.key.specs.Blocks.{Names, Among}
 use Rattle.key.proofs.Laws.{Covers}
-use Rattle.map.specs.Spans.{start}
 use Rattle.map.specs.Records.{record_of}
 
 -- record n is the block of exponent i whose span starts at place s

@@ -1,7 +1,6 @@
 -- Records that are known while one block after another is looked up.
 -- Assumes nothing.
 use Rattle.std.specs.Prelude.{◌≡◌, List, ℕ, ◌<◌}
-use Rattle.lists.specs.Lists.{before}
 use Rattle.map.specs.declared.Run.{Run}
 use Rattle.map.specs.Runs.{BlockOf, run_of}
 use Rattle.near.specs.declared.Near.{Near}

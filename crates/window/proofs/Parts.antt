@@ -4,7 +4,7 @@ use mathlib.Core.Path.{◌≡◌, refl, sym, ap, ◌∙◌}
 use mathlib.Core.Logic.{◌↔◌, ◌⊎◌, inl, inr}
 use mathlib.Core.Bool.{Bool, true, false, ◌&&◌, ◌||◌}
 use mathlib.Core.List.{List, map, Memᴰ}
-use Prim.Native.Nat.{ℕ, ◌+◌}
+use Prim.Native.Nat.{◌+◌}
 use native.Mathlib.Omega.{arith}
 use lib.Dec.{leb, ltb}
 use Rattle.lists.specs.Promises.{sum}
@@ -15,7 +15,6 @@ use Rattle.key.specs.Picture.{Px}
 use Rattle.window.specs.declared.Window.{Window}
 use Rattle.window.specs.Window.{In}
 use Rattle.window.specs.Blocks.{pixels}
-use Rattle.window.specs.Promises.{Before}
 use Rattle.window.specs.SharingPromises.{Union, Intersection, Parted, size}
 use Rattle.window.proofs.Listed.{before-irrefl, before-trans, rows-ordered}
 use Rattle.window.proofs.Counts.{pixels-length, in-pixels}

@@ -1,6 +1,6 @@
 -- The words in which the promises about maximal blocks and about the largest block at a pixel are said.
 -- Assumes nothing.
-use Rattle.std.specs.Prelude.{◌≡◌, [], ℕ, ◌+◌, ◌^◌, ◌≤◌, ◌<◌}
+use Rattle.std.specs.Prelude.{◌≡◌, ℕ, ◌+◌, ◌^◌, ◌≤◌, ◌<◌}
 use Rattle.key.specs.Picture.{Px}
 use Rattle.key.specs.Key.{block_key}
 use Rattle.key.specs.Alignment.{alignment}

@@ -1,6 +1,5 @@
 -- `decompose::decompose` meets its contract. Each test decides what its law in `Tables` says; where keys are written there is room for all.
 use mathlib.Core.Path.{◌≡◌, sym, ap, ◌∙◌}
-use mathlib.Core.Logic.{⊎_elim}
 use mathlib.Core.Bool.{false}
 use mathlib.Core.List.{List}
 use Prim.Native.Nat.{ℕ, ◌≤◌}
@@ -97,11 +96,11 @@ module _ (c : Joined-out-most_blocks) where
   ready =
       let few = blocks-most (entry now).args.window (entry now).args.top (drawn (clear c.before)) in
       elim c.if-out-most_blocks.branch [
-          goal.then-out-most_blocks+else-out-needed w ↦
-              let same = listed-nothing w.list_blocks-needed.ensures (lent now) in
-              (w.out-is ∙ same, omega (arith, listed-count w.list_blocks-needed.ensures, w.if-out-needed.false, ap length same))
-          | goal.else-out-most_blocks w ↦
-              (w.out-is, omega (arith, keys_length (entry now).args.m (entry now).args.top (entry now).args.window, few, c.most_blocks.ensures, w.if-out-most_blocks.false))
+        | goal.then-out-most_blocks+else-out-needed w ↦
+            let same = listed-nothing w.list_blocks-needed.ensures (lent now) in
+            (w.out-is ∙ same, omega (arith, listed-count w.list_blocks-needed.ensures, w.if-out-needed.false, ap length same))
+        | goal.else-out-most_blocks w ↦
+            (w.out-is, omega (arith, keys_length (entry now).args.m (entry now).args.top (entry now).args.window, few, c.most_blocks.ensures, w.if-out-most_blocks.false))
       ]
 
 pub list_blocks-count-requires : goal.list_blocks-count-requires

@@ -1,5 +1,5 @@
 -- `digits::read_digits` meets its contract. The invariant is `Reading`: the digits that are read are the key of a block. The measure is what is left.
-use Prim.Native.Nat.{◌-◌, ◌*◌, ◌^◌}
+use Prim.Native.Nat.{◌*◌, ◌^◌}
 use Rattle.key.proofs.Loops.{Reading}
 use Rattle.digits.proofs.read_digits.Given as goal
 

@@ -7,8 +7,8 @@ use Rattle.digits.proofs.strip_most.Goals.{Joined-key-ge390625}
 
 fewer : (c : Joined-key-ge390625) → c.before.args.key % 5 ^ 8 ≡ 0 → ⊥
 fewer c z = elim c.if-key-ge390625.branch [
-    goal.then-key-ge390625+else-eleven-key+else-eight-key w ↦ w.if-eight-key.false (omega arith)
-    | goal.else-key-ge390625 w ↦ omega (arith, w.if-key-ge390625.false, c.before.requires.0)
+  | goal.then-key-ge390625+else-eleven-key+else-eight-key w ↦ w.if-eight-key.false (omega arith)
+  | goal.else-key-ge390625 w ↦ omega (arith, w.if-key-ge390625.false, c.before.requires.0)
 ]
 
 pub returns-then-five-key : goal.returns-then-five-key

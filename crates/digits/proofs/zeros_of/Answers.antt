@@ -1,4 +1,3 @@
-use Prim.Native.Nat.{◌-◌}
 use native.Mathlib.Omega.{arith}
 use Rattle.key.proofs.Loops.{ending-first, ending-next, ending-some, ending-all}
 use Rattle.digits.proofs.zeros_of.Goals as goal

@@ -1,4 +1,3 @@
-use Prim.Native.Nat.{◌-◌}
 use native.Mathlib.Omega.{arith}
 use Rattle.rows.proofs.Rows.{growing-first, growing-row, growing-next, growing-last}
 use Rattle.rows.proofs.add_rows.Goals as goal

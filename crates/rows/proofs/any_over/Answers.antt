@@ -1,5 +1,4 @@
 use mathlib.Core.Path.{sym}
-use Prim.Native.Nat.{◌-◌}
 use Rattle.rows.proofs.Over.{over-sum, over-maps, looking-first, looking-found, looking-next, looking-last}
 use Rattle.rows.proofs.any_over.Goals as goal
 

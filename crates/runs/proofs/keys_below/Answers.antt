@@ -1,4 +1,3 @@
-use Prim.Native.Nat.{◌-◌}
 use native.Mathlib.Omega.{arith}
 use Rattle.map.proofs.Loops.{between-upper, between_lower, between-last}
 use Rattle.runs.proofs.keys_below.Goals as goal

@@ -1,4 +1,4 @@
-use Rattle.std.proofs.Common.{◌-◌, arith}
+use Rattle.std.proofs.Common.{arith}
 use Rattle.key.proofs.Loops.{digits-first, digits-next, digits-most, digits_last}
 use Rattle.spots.proofs.pixel_of.Goals as goal
 use Rattle.spots.proofs.pixel_of.Goals.{After-pow4, At-loop-k}
