@@ -105,12 +105,11 @@ pub loop-n-smaller : goal.loop-n-smaller
 loop-n-smaller c = omega (arith, among c.before.before.before.before.before.before.before.before)
 
 pub loop-n-preserved : goal.loop-n-preserved
-loop-n-preserved c =
-    (
-      λ W L G. adding-next ((turn c.before.before.before.before.before.before.before.before).loop-n.invariant.0 W L G) (among c.before.before.before.before.before.before.before.before).most (added c.before.before.before.before.before L),
-      c.advance-spot.ensures.1,
-      fills-next (start c.before.before.before.before.before.before.before.before).requires.2 (among c.before.before.before.before.before.before.before.before) (turn c.before.before.before.before.before.before.before.before).loop-n.invariant.2 c.exponent_here-e.ensures c.advance-spot.ensures.0,
-    )
+loop-n-preserved c = (
+  λ W L G. adding-next ((turn c.before.before.before.before.before.before.before.before).loop-n.invariant.0 W L G) (among c.before.before.before.before.before.before.before.before).most (added c.before.before.before.before.before L),
+  c.advance-spot.ensures.1,
+  fills-next (start c.before.before.before.before.before.before.before.before).requires.2 (among c.before.before.before.before.before.before.before.before) (turn c.before.before.before.before.before.before.before.before).loop-n.invariant.2 c.exponent_here-e.ensures c.advance-spot.ensures.0,
+)
 
 pub returns : goal.returns
 returns c = adding-last _ (c.loop-n.invariant.0 c.args.window c.requires.2 c.requires.3) (omega (arith, c.loop-n-test))

@@ -22,12 +22,12 @@ columns-needed-requires c = c.requires
 
 -- behind the test: the greater of the two
 greater : (c : Joined-widest-needed)
-    →     c.if-widest-needed.widest ≡ max c.loop-i.widest (columns c.args.m (window_at c.args.windows.now c.loop-i.i))
+    → c.if-widest-needed.widest ≡ max c.loop-i.widest (columns c.args.m (window_at c.args.windows.now c.loop-i.i))
 greater c =
     let e = c.columns-needed.ensures ∙ ap (columns c.args.m) c.window_at.ensures in
     elim c.if-widest-needed.branch [
-        goal.then-widest-needed w ↦ w.widest-is ∙ omega (arith, e, w.if-widest-needed.true)
-        | goal.else-widest-needed w ↦ w.widest-is ∙ omega (arith, e, w.if-widest-needed.false)
+      | goal.then-widest-needed w ↦ w.widest-is ∙ omega (arith, e, w.if-widest-needed.true)
+      | goal.else-widest-needed w ↦ w.widest-is ∙ omega (arith, e, w.if-widest-needed.false)
     ]
 
 pub loop-i-smaller : goal.loop-i-smaller

@@ -107,10 +107,10 @@ module _ (c : Joined-out-most_blocks) where
   ready : Writable lent.args.m lent.args.top lent.args.keys.now lent.args.window lent.args.border.now lent.args.out.now c.if-out-most_blocks.border c.if-out-most_blocks.out
   ready =
       elim c.if-out-most_blocks.branch [
-          goal.then-out-most_blocks+else-out-needed w ↦
-              writable-counted w.pass-counted.ensures (known told).wide w.border-is w.out-is (omega (arith, w.if-out-needed.false))
-          | goal.else-out-most_blocks w ↦
-              writable-first w.border-is w.out-is (omega (arith, few told, c.most_blocks.ensures, w.if-out-most_blocks.false))
+        | goal.then-out-most_blocks+else-out-needed w ↦
+            writable-counted w.pass-counted.ensures (known told).wide w.border-is w.out-is (omega (arith, w.if-out-needed.false))
+        | goal.else-out-most_blocks w ↦
+            writable-first w.border-is w.out-is (omega (arith, few told, c.most_blocks.ensures, w.if-out-most_blocks.false))
       ]
 
 pub pass-totals-requires : goal.pass-totals-requires

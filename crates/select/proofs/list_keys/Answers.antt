@@ -65,10 +65,10 @@ ready : (c : Joined-out-most_blocks) → let e = start c.before in (c.if-out-mos
 ready c =
     let e = start c.before in
     elim c.if-out-most_blocks.branch [
-        goal.then-out-most_blocks+else-out-needed w ↦
-            let same = listed-nothing {xs = chosen e} w.pick_all-needed.ensures (lent e) in
-            (w.out-is ∙ same, omega (arith, w.pick_all-needed.ensures.count, w.if-out-needed.false, ap length same))
-        | goal.else-out-most_blocks w ↦ (w.out-is, omega (arith, few e, c.most_blocks.ensures, w.if-out-most_blocks.false))
+      | goal.then-out-most_blocks+else-out-needed w ↦
+          let same = listed-nothing {xs = chosen e} w.pick_all-needed.ensures (lent e) in
+          (w.out-is ∙ same, omega (arith, w.pick_all-needed.ensures.count, w.if-out-needed.false, ap length same))
+      | goal.else-out-most_blocks w ↦ (w.out-is, omega (arith, few e, c.most_blocks.ensures, w.if-out-most_blocks.false))
     ]
 
 pub pick_all-count-requires : goal.pick_all-count-requires

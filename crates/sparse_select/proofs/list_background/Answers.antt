@@ -46,10 +46,10 @@ ready : (c : Joined-out-most) → (c.if-out-most.out ≡ lent (start c)) × (len
 ready c =
     let e = start c in
     elim c.if-out-most.branch [
-        goal.then-out-most+else-out-needed w ↦
-            let same = listed-nothing {xs = chosen e} w.put_all-needed.ensures (lent e) in
-            (w.out-is ∙ same, omega (arith, w.put_all-needed.ensures.count, w.if-out-needed.false, ap length same))
-        | goal.else-out-most w ↦ (w.out-is, omega (arith, few e, w.if-out-most.false))
+      | goal.then-out-most+else-out-needed w ↦
+          let same = listed-nothing {xs = chosen e} w.put_all-needed.ensures (lent e) in
+          (w.out-is ∙ same, omega (arith, w.put_all-needed.ensures.count, w.if-out-needed.false, ap length same))
+      | goal.else-out-most w ↦ (w.out-is, omega (arith, few e, w.if-out-most.false))
     ]
 
 pub shape_of-out : goal.shape_of-out
