@@ -45,7 +45,7 @@ pub ongoing-fits-requires : goal.ongoing-fits-requires
 ongoing-fits-requires c = small c.before
 
 pub returns-in-Refused-fits : goal.returns-in-Refused-fits
-returns-in-Refused-fits c = sym (add-unfit _ _ _ _ _ (passed c.before.before.before) (sym c.ongoing-fits.ensures ∙ c.fits2.given.1))
+returns-in-Refused-fits c = sym (add-unfit _ _ _ _ _ (passed c.before.before.before) (sym c.ongoing-fits.ensures ∙ c.in-Refused-fits.is))
 
 -- and the table can be added to
 module _ (c : In_default-fits) where

@@ -20,13 +20,13 @@ use Rattle.overlay.proofs.put_all.Reads as reads
 use Rattle.overlay.proofs.put_all.Tie as tie
 
 abbrev At-loop-row : Type 0
-At-loop-row = lts.At-loop tie.the-claims reads.Pre reads.Post goal.the-invariant-loop-row goal.the-decreases-loop-row
+At-loop-row = lts.At-loop tie.the-claims reads.Pre reads.Post goal.the-invariant-loop-row goal.the-decreases-loop-row tie.handed_clauses
 
 abbrev In-Block : Type 0
-In-Block = lts.Past-After-known_told tie.the-claims reads.Pre reads.Post goal.the-invariant-loop-row goal.the-decreases-loop-row
+In-Block = lts.Past-After-known_told tie.the-claims reads.Pre reads.Post goal.the-invariant-loop-row goal.the-decreases-loop-row tie.handed_clauses
 
 abbrev After-block_ahead-ahead : Type 0
-After-block_ahead-ahead = lts.After-block_ahead tie.the-claims reads.Pre reads.Post goal.the-invariant-loop-row goal.the-decreases-loop-row
+After-block_ahead-ahead = lts.After-block_ahead tie.the-claims reads.Pre reads.Post goal.the-invariant-loop-row goal.the-decreases-loop-row tie.handed_clauses
 
 pub first_stand-at-requires : goal.first_stand-at-requires
 first_stand-at-requires c = let p = c.requires.0 in (p.small, p.today, spaced p.under)

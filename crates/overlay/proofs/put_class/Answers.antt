@@ -9,13 +9,13 @@ use Rattle.overlay.proofs.put_class.Reads as reads
 use Rattle.overlay.proofs.put_class.Tie as tie
 
 abbrev At-loop-stand : Type 0
-At-loop-stand = lts.At-loop tie.the-claims reads.Pre reads.Post goal.the-invariant-loop-stand goal.the-decreases-loop-stand
+At-loop-stand = lts.At-loop tie.the-claims reads.Pre reads.Post goal.the-invariant-loop-stand goal.the-decreases-loop-stand tie.handed_clauses
 
 abbrev After-next_piece-piece : Type 0
-After-next_piece-piece = lts.After-next_piece tie.the-claims reads.Pre reads.Post goal.the-invariant-loop-stand goal.the-decreases-loop-stand
+After-next_piece-piece = lts.After-next_piece tie.the-claims reads.Pre reads.Post goal.the-invariant-loop-stand goal.the-decreases-loop-stand tie.handed_clauses
 
 abbrev Then-piece-class : Type 0
-Then-piece-class = lts.Then2 tie.the-claims reads.Pre reads.Post goal.the-invariant-loop-stand goal.the-decreases-loop-stand
+Then-piece-class = lts.Then2 tie.the-claims reads.Pre reads.Post goal.the-invariant-loop-stand goal.the-decreases-loop-stand tie.handed_clauses
 
 pub loop-stand-init : goal.loop-stand-init
 loop-stand-init c = let p = c.requires in joining-first _ p.0.3 p.0.2

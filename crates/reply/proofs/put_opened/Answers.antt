@@ -24,13 +24,13 @@ module _ (c : After-open-opened) where
   asked = c.before.before.before.before.before.before.before.before
 
   abbrev cells : List ℕ
-  cells = c.«open».new.1.1.1.1.1.1.0
+  cells = c.open-opened.new.out
 
   abbrev border : List ℕ
-  border = c.«open».new.1.1.1.1.1.0
+  border = c.open-opened.new.border
 
-  opening : Opening asked.args.m asked.args.keys.now asked.args.classes.now asked.args.window asked.args.border.now c.«open».result border cells
-  opening = record { can = asked.requires.0; is = c.«open».ensures; long = c.«open».auto.1.1.1.1.1.1.0 ∙ length-replicate {A = ℕ} 3000 0 }
+  opening : Opening asked.args.m asked.args.keys.now asked.args.classes.now asked.args.window asked.args.border.now c.open-opened.result border cells
+  opening = record { can = asked.requires.0; is = c.open-opened.ensures; long = c.open-opened.auto.out ∙ length-replicate {A = ℕ} 3000 0 }
 
 -- and where it was not refused
 module _ (c : In-Done) where
