@@ -24,11 +24,11 @@ use Rattle.overlay.specs.Select.{of_class, class_blocks, class_selected, class_s
 use Rattle.overlay.proofs.Joins.{class-is}
 
 -- runs of places with a property, one after another
-runs-made : (m : ℕ) {P : ℕ → Type 0} {T : ℕ → Bool} {at end : ℕ} {rs : List (ℕ × ℕ)}
+runs-made : (m : ℕ) {P : ℕ → Type 0} {T : ℕ → Bool} {end at : ℕ} {rs : List (ℕ × ℕ)}
     → ((q : ℕ) → T q ≡ true → P q) → ((q : ℕ) → at ≤ q → q < end → P q → T q ≡ true)
     → end ≤ 4 ^ m → at ≤ end → Runs T end at rs → Made m P end at (stretches m rs)
-runs-made m {P} {T} {at} to from room l (last h) = rw (stretches-none m) (made_none {a = at} (λ q x y p. never (sym (from q x y p) ∙ h q x y)))
-runs-made m {P} {T} {at} {end} to from room l (next {x = x} {y = y} {rs = rs} R N) =
+runs-made m {P} {T} {end} {at} to from room l (last h) = rw (stretches-none m) (made_none {a = at} (λ q x y p. never (sym (from q x y p) ∙ h q x y)))
+runs-made m {P} {T} {end} {at} to from room l (next {x = x} {y = y} {rs = rs} R N) =
     rw (stretches-next m (x, y) rs)
     (made-skip R.low (λ q u v p. never (sym (from q u (omega (arith, v, R.some, R.high)) p) ∙ R.ahead q u v))
     (made-append {c = y} (omega (arith, R.some)) R.high (made-stretch x y (omega (arith, R.high)) (λ q u v. to q (R.along q u v)))

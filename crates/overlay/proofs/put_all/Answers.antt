@@ -100,7 +100,10 @@ put_class-n-requires c =
     let e = c.block_ahead-ahead.ensures in
     let fits = class-fits (start k).args.m (rule c.before.before.before.before) (start k).args.class p.0.today p.1 p.0.small in
     let room = walking-room (turn k).loop-row.invariant.0 (on k) k.in-Block.is refl fits in
-    ((ones-at (turn k), p.0, e.3, omega (arith, e.0, e.1), e.2), rw (listed c.before.before.before.before) (omega (arith, room)))
+    record {
+      ones_value = (ones-at (turn k), p.0, e.3, omega (arith, e.0, e.1), e.2);
+      end_bound = rw (listed c.before.before.before.before) (omega (arith, room));
+    }
 
 pub loop-row-smaller : goal.loop-row-smaller
 loop-row-smaller c = goes-less (goes (arm c.before.before.before.before.before.before.before))

@@ -18,7 +18,7 @@ abbrev Then-piece-class : Type 0
 Then-piece-class = lts.Then2 tie.the-claims reads.Pre reads.Post goal.the-invariant-loop-stand goal.the-decreases-loop-stand tie.handed_clauses
 
 pub loop-stand-init : goal.loop-stand-init
-loop-stand-init c = let p = c.requires in joining-first _ p.0.3 p.0.2
+loop-stand-init c = let p = c.requires in joining-first _ p.ones_value.3 p.ones_value.2
 
 abbrev entry : At-loop-stand → Start
 entry c = c.before.before.before.before.before.before.before
@@ -46,7 +46,7 @@ put_between-k-requires c =
     let at = turn (piece c.before.before) in
     let p = (entry at).requires in
     let room = joining-room at.loop-stand.invariant (piece c.before.before).next_piece-piece.ensures.0 c.if-piece-class.true in
-    (p.0.0, p.0.1.small, omega (arith, p.0.4, at.loop-stand.invariant.high), omega (arith, p.1, room))
+    (p.ones_value.0, p.ones_value.1.small, omega (arith, p.ones_value.4, at.loop-stand.invariant.high), omega (arith, p.end_bound, room))
 
 pub loop-stand-smaller-then-piece-class : goal.loop-stand-smaller-then-piece-class
 loop-stand-smaller-then-piece-class c =
@@ -69,7 +69,7 @@ loop-stand-preserved c =
 pub put_between-requires : goal.put_between-requires
 put_between-requires c =
     let p = (entry c.before.before.before.before).requires in
-    (p.0.0, p.0.1.small, p.0.4, omega (arith, p.1, joining-rest c.loop-stand.invariant (omega (arith, c.loop-stand-test.false))))
+    (p.ones_value.0, p.ones_value.1.small, p.ones_value.4, omega (arith, p.end_bound, joining-rest c.loop-stand.invariant (omega (arith, c.loop-stand-test.false))))
 
 pub shape_of-out : goal.shape_of-out
 shape_of-out c =
