@@ -349,7 +349,7 @@ def read_functions(file, text):
     for match in FUNCTION.finditer(code):
         begin = code.index('(', match.end())
         end = closing(code, begin)
-        parameters = set(re.findall(r'(\w+) *:', code[begin:end]))
+        parameters = set(re.findall(r'(\w+) *:', code[begin:end]) + re.findall(r'\w+', code[match.end():begin])) # types too
         clauses, body = read_clauses(code, end)
         while code[body - 1].isspace():
             body -= 1

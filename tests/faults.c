@@ -349,8 +349,7 @@ static bool leave_after(size_t bytes, bool ignored)
     await_end();
     close(in);
     place = bytes;
-    const bool by_signal = !ignored && WIFSIGNALED(status); /* a program may ignore it by itself */
-    if (!left(by_signal ? NULL : CANNOT_WRITE, by_signal ? SIGPIPE : 0, said.n > bytes ? said.n : bytes))
+    if (!left(CANNOT_WRITE, 0, said.n > bytes ? said.n : bytes))
         return false;
     if (!ends_with_a_line())
         printf("at %zu: %zu bytes went into the pipe, and these end inside a line\n", bytes, said.n);

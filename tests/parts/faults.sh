@@ -54,7 +54,7 @@ step 'the window program says that its input is closed' withstands input-closed 
 step 'the window program says that its input is a directory' withstands input-directory "$files/long"
 
 step 'the window program says that its reader has left' withstands pipe-broken "$files/long"
-step 'the window program says so, or ends between lines, by the signal that its reader has left' \
+step 'the window program says that its reader has left, where it is not told to ignore the signal' \
     withstands pipe-broken-signal "$files/long"
 step 'the window program says that a file can grow no longer' withstands file-limited "$files/long"
 step 'the window program says so, or ends between lines, by the signal that a file can grow no longer' \

@@ -1,4 +1,4 @@
--- How many bytes of a file came, where others came behind the first four.
+-- How many bytes of a file came: no more than the first four, or then others behind them.
 -- Assumes nothing.
 use mathlib.Core.Path.{◌≡◌, sym}
 use mathlib.Core.List.{List}
@@ -10,6 +10,9 @@ use borrow.Rule.Slice.PartMut.{mid_of, put_mid, same_len_mid, mid_len, take_put}
 use Rattle.input.specs.Input.{announced_of}
 use Rattle.input.proofs.Laws.{announced-bounds, announced-same}
 use Rattle.window_program.specs.Received.{Received}
+
+pub received-few : {got : ℕ} (bytes : List ℕ) → got ≤ 4 → 4 ≤ length bytes → Received got bytes
+received-few {got} bytes l room = record { counts = (omega arith, sym (length-take-le got bytes (omega arith))); few = λ m. absurd (omega arith) }
 
 -- the bytes behind the first four were read, and these are as they were
 pub received : (file : List ℕ) {n more : ℕ} → n ≡ announced_of file → (n ≡ 0 → ⊥) → (ys : List ℕ) → length ys ≡ length (mid_of 4 (n - 4) file) → more ≤ length ys
