@@ -36,7 +36,8 @@ pub record Examples : Type 0 where
   pub in-length : file_in file 3 ≡ []
 
 pub examples : Examples
-unfolding picture_refusals count_refusals answer wrong_count size_refusals_in from form_of spans.malformed spans.form_exponent spans.start spans.end late refusals_from map_refusals_in digits digits_of spaced
+unfolding picture_refusals count_refusals answer wrong_count size_refusals_in from form_of spans.malformed spans.form_exponent spans.start spans.end late refusals_from
+    map_refusals_in digits digits_of spaced
     line_of bytes number bytes_of numbers header file_of layout_refusals file_m file_q read_refusals_in file_keys file_classes map_text start_refusals start_text announced_of whole_of
 examples = record {
   p1-start = refl;

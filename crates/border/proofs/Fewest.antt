@@ -4,6 +4,7 @@
 use mathlib.Core.Path.{◌≡◌, refl, sym, ◌∙◌}
 use mathlib.Core.Logic.{⊎_elim}
 use mathlib.Core.Bool.{Bool}
+use mathlib.Core.List.Memᴰ
 use mathlib.Core.List.{List, map, Memᴰ}
 use Prim.Native.Nat.{ℕ, ◌+◌, ◌*◌, ◌/◌, ◌^◌, ◌≤◌, ◌<◌}
 use native.Mathlib.Omega.{arith}
@@ -39,10 +40,10 @@ module _ {m top : ℕ} {keys : List ℕ} (F : Spaced m 0 keys) {W : Window} (I :
   enough-by : (os : List Opening) → ((o : Opening) → Memᴰ o os → Memᴰ o (openings m top keys W)) → ((n : ℕ) → Overlaps m keys W n → HandedOut os n)
       → Enough m top keys W (map (λ o. o.key) os)
   enough-by os sub all = record {
-    blocks = λ k l. let t = mathlib.Core.List.Memᴰ.of_map (λ (o : Opening). o.key) os l in mathlib.Core.List.Memᴰ.cast (sym t.2) (opening-own m top keys W (sub t.0 t.1)).0;
+    blocks = λ k l. let t = Memᴰ.of_map (λ (o : Opening). o.key) os l in Memᴰ.cast (sym t.2) (opening-own m top keys W (sub t.0 t.1)).0;
     brings = λ n t.
         let h = all n t in
-        (h.by.key, mathlib.Core.List.Memᴰ.map (λ (o : Opening). o.key) h.listed, rw (opening-own m top keys W (sub h.by h.listed)).1 at h.hands);
+        (h.by.key, Memᴰ.map (λ (o : Opening). o.key) h.listed, rw (opening-own m top keys W (sub h.by h.listed)).1 at h.hands);
   }
 
   pub openings-enough : Enough m top keys W (map (λ o. o.key) (openings m top keys W))
@@ -77,13 +78,13 @@ module _ {m top : ℕ} {keys : List ℕ} (F : Spaced m 0 keys) {W : Window} (I :
       some b l =
           let o = opening_at m top keys W b in
           let first : Memᴰ o.first (hands o) = (up_in o.first o.count o.first).1 (omega (arith, ltb-true 0 o.count (keep-true some-count C.corners l))) in
-          let listed : Memᴰ o (openings m top keys W) = rw C.are (mathlib.Core.List.Memᴰ.map (opening_at m top keys W) (keep-in some-count C.corners l)) in
+          let listed : Memᴰ o (openings m top keys W) = rw C.are (Memᴰ.map (opening_at m top keys W) (keep-in some-count C.corners l)) in
           let t = E.brings o.first ((hands-all F I small o.first).1 (record { by = o; listed = listed; hands = first })) in
           (t.0, t.1, (o.first, first, E.blocks t.0 t.1, t.2))
 
       not-both : {b b' : Px} {k : ℕ} → Memᴰ b (keep some-count C.corners) → Memᴰ b' (keep some-count C.corners) → Brings b k → Brings b' k → ¬ Before b b'
       not-both l l' (n, h, i, g) (n', h', i', g') =
-          let y = mathlib.Core.List.Memᴰ.of_map (key_of m top W) (maximal W top) (rw (keys-of m top W) at i) in
+          let y = Memᴰ.of_map (key_of m top W) (maximal W top) (rw (keys-of m top W) at i) in
           let p = ((met-pixels F I small (own l) n).0 h).0 in
           let p' = ((met-pixels F I small (own l') n').0 h').0 in
           clash I (tiles F) (own l) (own l') p.inside p.block p'.inside p'.block (C.fresh _ (keep-in some-count C.corners l'))

@@ -1,6 +1,7 @@
 -- From opening to opening: a border that is filled anew, the openings behind the walk and those ahead of it, and the last one.
 -- Assumes nothing.
 use mathlib.Core.Path.{◌≡◌, refl, sym, ap, ◌∙◌}
+use mathlib.Core.List.Memᴰ
 use mathlib.Core.List.{List, [], ◌∷◌, ◌++◌, append_assoc, append-nil, Memᴰ}
 use Prim.Native.Nat.{ℕ, ◌+◌, ◌≤◌, ◌<◌}
 use native.Mathlib.Omega.{arith}
@@ -118,7 +119,7 @@ module _ {m top n : ℕ} {keys : List ℕ} {W : Window} (U : Usable m top keys W
   unfolding opening
   tell (finds.opening K x n f R k e l) =
       let rest = walk_makes m top keys W border' (spot on) in
-      let listed : Memᴰ (made key first count) (openings m top keys W) = rw (F.all, e) (mathlib.Core.List.Memᴰ.append_right done (mathlib.Core.List.Memᴰ.head {xs = rest} refl)) in
+      let listed : Memᴰ (made key first count) (openings m top keys W) = rw (F.all, e) (Memᴰ.append_right done (Memᴰ.head {xs = rest} refl)) in
       let t = opening-block m top keys W listed in
       let d : key_of m top W t.0 ≡ key_of m top W (row, col) = sym (ap (λ (o : Opening). o.key) t.2) ∙ n in
       let far-own = far-is U.spaced U.inside U.cap K in

@@ -87,7 +87,8 @@ module _ {whole : Bool} (m : ℕ) (keys classes : List ℕ) (size : SizedIn whol
       )
 
 -- the same through a lent slice: the bytes that a call of `write` answered for
-pub written-read-lent : (whole : Bool) (m : ℕ) (keys classes out : List ℕ) {n : ℕ} {out' : List ℕ} → Below (2 ^ 32) keys → write_in whole m keys classes out ≡ after (writing.Written n) out'
+pub written-read-lent : (whole : Bool) (m : ℕ) (keys classes out : List ℕ) {n : ℕ} {out' : List ℕ} → Below (2 ^ 32) keys
+    → write_in whole m keys classes out ≡ after (writing.Written n) out'
     → (ks cs : List ℕ) → length keys ≤ length ks → length keys ≤ length cs
     → read_in whole (take n out') ks cs ≡ after (reading.Read m (length keys)) (overwrite keys ks, overwrite classes cs)
 written-read-lent whole m keys classes out {n} {out'} small e ks cs k l =
@@ -150,7 +151,8 @@ module _ {whole : Bool} (file : List ℕ) (right : Laid whole (length file) (num
       write_done whole (file_m file) (file_keys file) (file_classes file) out (sized.1 sized-again) (omega arith) ∙ rw (n, file-again low)
 
 -- what was read is the map that the file holds
-pub read-holds : (whole : Bool) (file ks cs : List ℕ) {m q : ℕ} {ks' cs' : List ℕ} → read_in whole file ks cs ≡ after (reading.Read m q) (ks', cs') → FileMap file m (take q ks') (take q cs')
+pub read-holds : (whole : Bool) (file ks cs : List ℕ) {m q : ℕ} {ks' cs' : List ℕ} → read_in whole file ks cs ≡ after (reading.Read m q) (ks', cs')
+    → FileMap file m (take q ks') (take q cs')
 read-holds whole file ks cs e =
     let t = read-accepted whole file ks cs e in
     record {

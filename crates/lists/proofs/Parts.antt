@@ -3,6 +3,7 @@
 use mathlib.Core.Path.{◌≡◌, refl, sym, ◌∙◌}
 use mathlib.Core.Logic.{◌↔◌, ◌⊎◌, inl, inr, ◌≢◌}
 use mathlib.Core.Bool.{Bool, true, false, cond}
+use mathlib.Core.List.Memᴰ
 use mathlib.Core.List.{List, [], ◌∷◌, ◌++◌, map, Memᴰ}
 use Prim.Native.Nat.{suc, ◌≤◌}
 use native.Mathlib.Omega.{arith}
@@ -49,30 +50,31 @@ module _ {A B : Type 0} (part : B → List A) where
 
   laid_in : (bs : List B) {x : A} → Memᴰ x (laid bs) → InPart bs x
   unfolding laid
-  laid_in [] l = absurd (mathlib.Core.List.Memᴰ.not-nil l)
-  laid_in (b ∷ bs) {x} l = go (λ k. laid_in bs k) (mathlib.Core.List.Memᴰ.append_cases (part b) l)
+  laid_in [] l = absurd (Memᴰ.not-nil l)
+  laid_in (b ∷ bs) {x} l = go (λ k. laid_in bs k) (Memᴰ.append_cases (part b) l)
     where
       go : (Memᴰ x (laid bs) → InPart bs x) → Memᴰ x (part b) ⊎ Memᴰ x (laid bs) → InPart (b ∷ bs) x
-      go ih (inl k) = record { at = b; listed = mathlib.Core.List.Memᴰ.head refl; has = k }
-      go ih (inr k) = let i = ih k in record { at = i.at; listed = mathlib.Core.List.Memᴰ.tail i.listed; has = i.has }
+      go ih (inl k) = record { at = b; listed = Memᴰ.head refl; has = k }
+      go ih (inr k) = let i = ih k in record { at = i.at; listed = Memᴰ.tail i.listed; has = i.has }
 
   in-laid : {b : B} {x : A} {bs : List B} → Memᴰ b bs → Memᴰ x (part b) → Memᴰ x (laid bs)
   unfolding laid
-  in-laid {x = x} (mathlib.Core.List.Memᴰ.head {x = c} {xs = bs} e) h = let k : Memᴰ x (part c) = rw e at h in mathlib.Core.List.Memᴰ.append_left (laid bs) k
-  in-laid (mathlib.Core.List.Memᴰ.tail {x = c} n) h = mathlib.Core.List.Memᴰ.append_right (part c) (in-laid n h)
+  in-laid {x = x} (Memᴰ.head {x = c} {xs = bs} e) h = let k : Memᴰ x (part c) = rw e at h in Memᴰ.append_left (laid bs) k
+  in-laid (Memᴰ.tail {x = c} n) h = Memᴰ.append_right (part c) (in-laid n h)
 
   laid-distinct : {bs : List B} → Ordered ◌≢◌ bs → ((b : B) → Memᴰ b bs → Ordered ◌≢◌ (part b))
       → ((b c : B) (x : A) → Memᴰ b bs → Memᴰ c bs → Memᴰ x (part b) → Memᴰ x (part c) → b ≡ c) → Ordered ◌≢◌ (laid bs)
   unfolding laid
   laid-distinct none d u = none
   laid-distinct (more {x = b} {l = bs} h o) d u =
-      ordered-append (d b (mathlib.Core.List.Memᴰ.head refl)) (laid-distinct o (λ c n. d c (mathlib.Core.List.Memᴰ.tail n)) (λ c e x m n. u c e x (mathlib.Core.List.Memᴰ.tail m) (mathlib.Core.List.Memᴰ.tail n))) apart
+      ordered-append (d b (Memᴰ.head refl))
+      (laid-distinct o (λ c n. d c (Memᴰ.tail n)) (λ c e x m n. u c e x (Memᴰ.tail m) (Memᴰ.tail n))) apart
     where
       apart : (x y : A) → Memᴰ x (part b) → Memᴰ y (laid bs) → x ≢ y
       apart x y m n e =
           let i = laid_in bs n in
           let k : Memᴰ y (part b) = rw (← e) m in
-          h i.at i.listed (u b i.at y (mathlib.Core.List.Memᴰ.head refl) (mathlib.Core.List.Memᴰ.tail i.listed) k i.has)
+          h i.at i.listed (u b i.at y (Memᴰ.head refl) (Memᴰ.tail i.listed) k i.has)
 
   many-laid : (f : A → Bool) (bs : List B) → how_many f (laid bs) ≡ sum (map (λ b. how_many f (part b)) bs)
   unfolding laid

@@ -1,6 +1,7 @@
 -- A broken map, as a call: what salvage promises holds of these very cells.
 -- Assumes nothing.
 use mathlib.Core.Path.{refl, sym}
+use mathlib.Core.List.Memᴰ
 use mathlib.Core.List.{List, Memᴰ}
 use Prim.Native.Nat.{ℕ, ◌≤◌}
 use native.Mathlib.Omega.{arith}
@@ -25,7 +26,7 @@ broken-promise = salvage-promise 2 keys classes (old 8) (old 8) (old 11) broken-
 -- record 3 is dropped, for one before it that is kept ends behind its start
 broken-3 : Reached 2 keys (mends 2 keys) 3 4
 broken-3 =
-    let there : Memᴰ (dropped 3 4) (mends 2 keys) = rw examples.order (mathlib.Core.List.Memᴰ.tail (mathlib.Core.List.Memᴰ.tail (mathlib.Core.List.Memᴰ.tail (mathlib.Core.List.Memᴰ.head refl)))) in
+    let there : Memᴰ (dropped 3 4) (mends 2 keys) = rw examples.order (Memᴰ.tail (Memᴰ.tail (Memᴰ.tail (Memᴰ.head refl)))) in
     (broken-promise.early 3 0 4 (omega arith) (record { is = examples.eleven })).0 there
 
 -- no two blocks make up the holes

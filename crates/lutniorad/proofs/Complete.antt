@@ -36,7 +36,8 @@ by_number : {r : Answer} {n p : ℕ} → r ≡ refused n p → r.refusal ≡ n
 by_number e = ap (λ (x : Answer). x.refusal) e
 
 -- what the plain check does not say is known from a call of it
-pub check-gapless : (m : ℕ) (keys classes : List ℕ) {r : Answer} → Check m keys classes r → (r.refusal ≡ 2 → length keys ≡ 0 → length classes ≡ 0 → ⊥) → (r.refusal ≡ 5 → ⊥)
+pub check-gapless : (m : ℕ) (keys classes : List ℕ) {r : Answer} → Check m keys classes r
+    → (r.refusal ≡ 2 → length keys ≡ 0 → length classes ≡ 0 → ⊥) → (r.refusal ≡ 5 → ⊥)
     → Gapless m keys (length classes)
 check-gapless m keys classes call some other = record {
   some = λ p v. some (by_number (check-says true m keys classes call ∙ on-refused refused _ _ v));

@@ -71,7 +71,8 @@ module _ (m : ℕ) (keys classes K P L : List ℕ) {K' P' L' : List ℕ} {r : An
       told-when four _ refl (numbered-salvage m keys classes (length K) (length P) (length L)) salvage-says (salvage-passed m keys classes (length K) (length P) (length L))
 
   -- with so much room it is, unless the result would have too many records
-  pub salvage-enough : SizedIn false m (length keys) (length classes) → length rs ≤ 65536 → 65536 ≤ length K → 65536 ≤ length P → 2 * (65536 + length keys) ≤ length L → r.refusal ≡ 0
+  pub salvage-enough : SizedIn false m (length keys) (length classes) → length rs ≤ 65536 → 65536 ≤ length K → 65536 ≤ length P
+      → 2 * (65536 + length keys) ≤ length L → r.refusal ≡ 0
   salvage-enough s few k p l = salvage-answered.1 (record {
     sizes = s;
     few = few;

@@ -43,7 +43,8 @@ module _ {m : ℕ} {keys classes : List ℕ} where
 
   -- ---- windows that part another
 
-  pub reports-parted : {parts : List Window} {reports : List (List ℕ)} {U : Window} {u : List ℕ} → ReportsLeave m keys classes parts reports → ReportLeaves m keys classes U u → Parted U parts
+  pub reports-parted : {parts : List Window} {reports : List (List ℕ)} {U : Window} {u : List ℕ} → ReportsLeave m keys classes parts reports
+      → ReportLeaves m keys classes U u → Parted U parts
       → (k : ℕ) → k < 256 → sum (map (λ cells. get_or cells k 0) reports) ≡ get_or u k 0
   reports-parted all z parted k l = ap sum (each all) ∙ total-parted m keys classes k parted ∙ sym ((promised z).cells k l)
     where

@@ -26,7 +26,8 @@ use Rattle.lutniorad.proofs.Crossing.{crossed}
 use Rattle.lutniorad.proofs.Told.{four, told-most, told-when}
 
 -- from the contract of such a call to one outcome in numbers
-pub used-crossed : (whole : Bool) {A : Type 0} (say : A → Answer) (refuse : ℕ → ℕ → A) (done : A) (cells : List ℕ) (m : ℕ) (keys : List ℕ) (classes : ℕ) (W : Window) (border out : List ℕ)
+pub used-crossed : (whole : Bool) {A : Type 0} (say : A → Answer) (refuse : ℕ → ℕ
+    → A) (done : A) (cells : List ℕ) (m : ℕ) (keys : List ℕ) (classes : ℕ) (W : Window) (border out : List ℕ)
     {o : After A (List ℕ × List ℕ)} {r : Answer} {border' out' : List ℕ} → o ≡ used_in whole refuse done cells m keys classes W border out → Call say o r (border', out')
     → after r (border', out') ≡ used_in whole (λ n p. say (refuse n p)) (say done) cells m keys classes W border out
 used-crossed whole {A} say refuse done cells m keys classes W border out is call =

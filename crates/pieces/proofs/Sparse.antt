@@ -47,7 +47,8 @@ one_class m background {q} l =
     let e : H.index ≡ 0 = omega (arith, H.is.within) in
     class-held (spaced (one-record m)) (background ∷ []) refl 0 H ∙ rw e
 
-pub over-one : (m : ℕ) (keys classes : List ℕ) (background : ℕ) {q : ℕ} → q < 4 ^ m → class_over_map m keys classes (0 ∷ []) (background ∷ []) q ≡ class_over background m keys classes q
+pub over-one : (m : ℕ) (keys classes : List ℕ) (background : ℕ) {q : ℕ} → q < 4 ^ m
+    → class_over_map m keys classes (0 ∷ []) (background ∷ []) q ≡ class_over background m keys classes q
 unfolding class_over_map
 over-one m keys classes background {q} l = ap (λ (b : ℕ). get_or classes (record_of m keys q) b) (one_class m background l)
 

@@ -48,7 +48,8 @@ pub record Examples : Type 0 where
   pub three-left : left_text 3 ≡ line_of 82 (10 ∷ 3 ∷ [])
 
 pub examples : Examples
-unfolding picture_refusals count_refusals border_refusals answer wrong_count size_refusals_in up_from spread_to spread place pixel_key block_key from form_of beyond outside window_refusals keep floor lies fits
+unfolding picture_refusals count_refusals border_refusals answer wrong_count size_refusals_in up_from spread_to spread place pixel_key block_key from form_of beyond
+    outside window_refusals keep floor lies fits
     greatest exponent corner across rows is_corner maximal key_of keys_of spans.malformed spans.form_exponent spans.start spans.end spans.holds spans.overlap late
     refusals_from map_refusals_in before how_many record_of exponent_of run_of any within is_handed opening open_from openings handed_count cells_of use_refusals_in
     total_by totals_by digits digits_of spaced line_of opening_lines class_line class_lines found_lines found_by result_of answer_of left_text

@@ -117,7 +117,8 @@ module _ (first : Bool) (counts table₀ : List ℕ) where
         let more : map (grown first counts table₀) (up_from 0 (k + 1)) ≡ rows k ++ x ∷ [] =
         ap (map (grown first counts table₀)) (up-append 0 k 1) ∙ map-append (grown first counts table₀) (up_from 0 k) (up_from (0 + k) 1) ∙ rw (zero-add k, up_one k) in
         let list : take 6 table₀ ++ row_cells (rows k) ++ row_cells (x ∷ []) ≡ take 6 table₀ ++ row_cells (map (grown first counts table₀) (up_from 0 (k + 1))) =
-        append_assoc (take 6 table₀) (row_cells (rows k)) (row_cells (x ∷ [])) ∙ ap (λ (t : List ℕ). take 6 table₀ ++ t) (sym (cells-append (rows k) (x ∷ [])) ∙ ap row_cells (sym more)) in
+        append_assoc (take 6 table₀) (row_cells (rows k)) (row_cells (x ∷ [])) ∙ ap (λ (t : List ℕ). take 6 table₀ ++ t)
+        (sym (cells-append (rows k) (x ∷ [])) ∙ ap row_cells (sym more)) in
         let put : Filling (take 6 table₀ ++ row_cells (rows k) ++ row_cells (x ∷ [])) table₀ table' =
         rw (e, growing-row) (row_put g.cells k (rows-length l k) x (omega arith)) in
         record { few = omega arith; cells = subst (λ (part : List ℕ). Filling part table₀ table') list put }

@@ -77,7 +77,8 @@ module _ (m : ℕ) (keys classes : List ℕ) where
   unfolding brings
   fills-keys a b = rw (fills-each (brings keys classes) (λ k. (k, not_seen)) (λ k. refl) m a b) (firsts-pairs (stretch m a b))
 
-  keeps_keys : (a b n : ℕ) (es : List Mend) → firsts (flat_map (brings keys classes) (fills m a b ++ kept n ∷ es)) ≡ stretch m a b ++ get_or keys n 0 ∷ firsts (flat_map (brings keys classes) es)
+  keeps_keys : (a b n : ℕ) (es : List Mend) → firsts (flat_map (brings keys classes) (fills m a b ++ kept n ∷ es))
+      ≡ stretch m a b ++ get_or keys n 0 ∷ firsts (flat_map (brings keys classes) es)
   unfolding brings firsts
   keeps_keys a b n es =
       rw (

@@ -105,7 +105,8 @@ module _ {m : ℕ} {keys : List ℕ} (F : Spaced m 0 keys) (background : ℕ) (c
       (λ b l. let C = listed-corner l in block-plain (key-named I small C.inside C.own)))
 
 -- of any class what starts in a record is listed as in a map without gaps
-pub sparse-records : {m : ℕ} {keys : List ℕ} → Spaced m 0 keys → (background : ℕ) (classes : List ℕ) → length keys ≡ length classes → (class : ℕ) {key i s : ℕ} → Names m key i s
+pub sparse-records : {m : ℕ} {keys : List ℕ} → Spaced m 0 keys → (background : ℕ) (classes : List ℕ) → length keys ≡ length classes
+    → (class : ℕ) {key i s : ℕ} → Names m key i s
     → keep (held m keys) (sparse_selected m background keys classes class key) ≡ selected m keys classes class key
 sparse-records {m} {keys} F background classes same class B =
     block-kept F background classes same class (held m keys) (λ a b l G. go a b l G (ℕ_discrete class background)) (λ x i s b H. starts-held F b H) B

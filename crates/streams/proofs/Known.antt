@@ -1,6 +1,30 @@
 -- What a reader has left and what a writer has come to hold, after one more part of a text.
 -- Assumes nothing.
-use Rattle.std.proofs.Common.{◌≡◌, ℕ, ◌+◌, ◌-◌, ◌≤◌, Option, List, ◌++◌, arith, length, take, drop, slice_range, sym, ap, ◌∙◌, subst, append_assoc, take-append-drop, length-append, length-take-le, drop_at, le_refl}
+use Rattle.std.proofs.Common.{
+  ◌≡◌,
+  ℕ,
+  ◌+◌,
+  ◌-◌,
+  ◌≤◌,
+  Option,
+  List,
+  ◌++◌,
+  arith,
+  length,
+  take,
+  drop,
+  slice_range,
+  sym,
+  ap,
+  ◌∙◌,
+  subst,
+  append_assoc,
+  take-append-drop,
+  length-append,
+  length-take-le,
+  drop_at,
+  le_refl,
+}
 use Rattle.std.proofs.lemmas.List.{take_rest, take-append-le}
 use Rattle.std.proofs.lemmas.Slice.{take-put_mid_below}
 use Rattle.std.proofs.Math.Seq.{take-append_seam}

@@ -37,7 +37,8 @@ module _ (m : ℕ) (keys : List ℕ) (W : Window) (n : ℕ) where
   said-handed e d = rw (e, d)
 
   -- what both have alike
-  pub record-alike : {A : Type 0} (part : Why → A) {x : A} → ((n k : ℕ) → part (Handed n k) ≡ x) → ((n : ℕ) (side : Side) → part (Outside n side) ≡ x) → part (record_said m keys W n) ≡ x
+  pub record-alike : {A : Type 0} (part : Why → A) {x : A} → ((n k : ℕ) → part (Handed n k) ≡ x)
+      → ((n : ℕ) (side : Side) → part (Outside n side) ≡ x) → part (record_said m keys W n) ≡ x
   unfolding record_said said_of
   record-alike {A} part {x} a b = go (lies_of W (pixels_of m keys n))
     where

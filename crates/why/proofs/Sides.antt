@@ -35,7 +35,8 @@ pixels-of m keys n {p} =
     )
 
 -- what is asked of all of them, in words
-pub all-pixels : (m : ℕ) (keys : List ℕ) (n : ℕ) (f : Px → Bool) {P : Px → Type 0} → ((p : Px) → (f p ≡ true) ↔ P p) → (all f (pixels_of m keys n) ≡ true) ↔ EachPixel m keys n P
+pub all-pixels : (m : ℕ) (keys : List ℕ) (n : ℕ) (f : Px → Bool) {P : Px → Type 0} → ((p : Px) → (f p ≡ true) ↔ P p)
+    → (all f (pixels_of m keys n) ≡ true) ↔ EachPixel m keys n P
 all-pixels m keys n f means =
     let t = all-is f (pixels_of m keys n) in (
       λ e p v d. (means p).0 (t.0 e p ((pixels-of m keys n).1 (v, d))),

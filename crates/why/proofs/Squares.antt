@@ -122,7 +122,8 @@ module _ {m : ℕ} {keys : List ℕ} (F : Spaced m 0 keys) {n : ℕ} (within : n
   record-lies W = lies-square F (record { within = within; names = square-names S (record-at F n within).is.names }) S.pixel W
 
 -- a record of the map that lies on no side shares a pixel with the window
-pub across-touches : {m : ℕ} {keys : List ℕ} → Spaced m 0 keys → {n : ℕ} → n < length keys → {W : Window} → Inside m W → lies_of W (pixels_of m keys n) ≡ Across → Touches m keys W n
+pub across-touches : {m : ℕ} {keys : List ℕ} → Spaced m 0 keys → {n : ℕ} → n < length keys → {W : Window} → Inside m W
+    → lies_of W (pixels_of m keys n) ≡ Across → Touches m keys W n
 across-touches {m} {keys} F {n} l {W} I e =
     let R = record-at F n l in
     let b = block-lies R.is.names in

@@ -58,7 +58,8 @@ module _ (q n : ℕ) where
   numbered-index = numbered_next 19 (omega arith) (omega arith) none
 
   module _ {A : Type 0} (refuse : ℕ → ℕ → A) (number : A → ℕ) (tells : (n p : ℕ) → number (refuse n p) ≡ n) {most : ℕ} (l : most < 19) where
-    pub index-19 : {rs : List Refusal} {a : A} → Numbered most rs → number a ≡ 0 → (number (answer refuse (rs ++ index_refusals q n) a) ≡ 19) ↔ ((verdict rs ≡ verdict-of.Passed) × (q ≤ n))
+    pub index-19 : {rs : List Refusal} {a : A} → Numbered most rs → number a ≡ 0
+        → (number (answer refuse (rs ++ index_refusals q n) a) ≡ 19) ↔ ((verdict rs ≡ verdict-of.Passed) × (q ≤ n))
     unfolding index_refusals
     index-19 N e = let t = number-last refuse number tells N e (leb q n) 19 0 l in (λ z. ((t.0 z).0, leb-true q n (t.0 z).1), λ h. t.1 (h.0, le-leb q n h.1))
 

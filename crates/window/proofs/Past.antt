@@ -1,6 +1,7 @@
 -- A loop over the maximal blocks: those that are past, the next one, and what is told of it.
 -- Assumes nothing.
 use mathlib.Core.Path.{◌≡◌, refl, sym, ap, ◌∙◌}
+use mathlib.Core.List.Memᴰ
 use mathlib.Core.List.{List, [], ◌∷◌, ◌++◌, append_assoc, append-nil, Memᴰ}
 use Prim.Native.Nat.{ℕ, ◌<◌}
 use native.Mathlib.Omega.{arith}
@@ -48,7 +49,7 @@ module _ {W : Window} {top r c i d : ℕ} {s : Px} where
   pub goes-corner : Goes W top s (Block r c i d) → corner W top (r, c) ≡ (r, c)
   unfolding blocks_from
   goes-corner (block v e f u g) =
-      let n : Memᴰ (r, c) (blocks_from W top s) = rw g (mathlib.Core.List.Memᴰ.head refl) in
+      let n : Memᴰ (r, c) (blocks_from W top s) = rw g (Memᴰ.head refl) in
       (corner-is W top (r, c)).0 (keep-true (is_corner W top) (pixels_from W s) n)
 
   pub goes-cursor : Goes W top s (Block r c i d) → Cursor W (r, d)

@@ -55,6 +55,7 @@ returns-in-Refused c =
 
 pub returns-in-Read : goal.returns-in-Read
 returns-in-Read c =
-    let g = got (read c.before.before.before.before.before) in
+    let k = c.before.before.before.before.before in
+    let g = got (read k) in
     let told = c.in-Read.is in
-    record { text = rw (← start-read g told) c.put_map-said.ensures; few = (room c.before.before.before.before.before).0; map = λ e. start-holds g told }
+    record { text = rw (← start-read g told) c.put_map-said.ensures; few = (room k).0; map = λ e. start-holds g told }

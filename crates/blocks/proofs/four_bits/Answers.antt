@@ -16,7 +16,9 @@ small : (s : Start) → 3 * spread 4 s.args.x < 4 ^ 4
 small s = spread-lt 3 4 s.args.x s.requires.1
 
 pub overflow_cast-result-2 : goal.overflow_cast-result-2
-overflow_cast-result-2 c = omega (arith, entry c.before.before.before, small c.before.before.before)
+overflow_cast-result-2 c =
+    let k = c.before.before.before in
+    omega (arith, entry k, small k)
 
 pub returns : goal.returns
 returns c = entry c.before.before.before

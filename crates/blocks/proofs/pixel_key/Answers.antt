@@ -26,13 +26,17 @@ pub overflow_mul-result : goal.overflow_mul-result
 overflow_mul-result c = omega (arith, small c.before.before)
 
 pub overflow_add-result : goal.overflow_add-result
-overflow_add-result c = omega (arith, small c.before.before, digits c.before.before)
+overflow_add-result c =
+    let k = c.before.before in
+    omega (arith, small k, digits k)
 
 pub spread-requires-2 : goal.spread-requires-2
 spread-requires-2 c = (search rules, omega (arith, pixel c.before.before))
 
 pub overflow_add-result-2 : goal.overflow_add-result-2
-overflow_add-result-2 c = omega (arith, small c.before.before.before, digits c.before.before.before)
+overflow_add-result-2 c =
+    let k = c.before.before.before in
+    omega (arith, small k, digits k)
 
 pub returns : goal.returns
 returns c = let s = c.before.before.before in omega (arith, pixel-key-ones s.args.m s.args.row s.args.col)

@@ -16,10 +16,14 @@ small : (c : Start) → 4 * spread 5 c.args.x < 5 ^ 13
 small c = spread-lt 4 13 c.args.x c.requires.1
 
 pub overflow_mul-result : goal.overflow_mul-result
-overflow_mul-result c = omega (arith, twice c.before.before, small c.before.before)
+overflow_mul-result c =
+    let k = c.before.before in
+    omega (arith, twice k, small k)
 
 pub overflow_add-result : goal.overflow_add-result
-overflow_add-result c = omega (arith, twice c.before.before, small c.before.before)
+overflow_add-result c =
+    let k = c.before.before in
+    omega (arith, twice k, small k)
 
 pub returns : goal.returns
 returns c = omega (arith, twice c.before.before)

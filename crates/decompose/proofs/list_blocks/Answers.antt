@@ -1,3 +1,4 @@
+-- `decompose::list_blocks` meets its contract, by the invariant beside this.
 use native.Mathlib.Omega.{arith}
 use Rattle.answers.proofs.Laws.{listed_same}
 use Rattle.window.specs.declared.Next.TheVariants.{Block}

@@ -1,3 +1,4 @@
+-- `digits::reach_over` meets its contract, by the invariant beside this.
 use Prim.Native.Nat.{◌+◌, ◌-◌, ◌*◌, ◌≤◌}
 use native.Mathlib.Omega.{arith}
 use Rattle.key.proofs.Laws.{pow-least, pow-most}

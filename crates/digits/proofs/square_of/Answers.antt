@@ -1,3 +1,4 @@
+-- `digits::square_of` meets its contract, by the invariant beside this.
 use Prim.Native.Nat.{◌+◌, ◌-◌, ◌*◌, ◌/◌, ◌%◌}
 use native.Mathlib.Omega.{arith}
 use Rattle.key.specs.Picture.{Pixel}

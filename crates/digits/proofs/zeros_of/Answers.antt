@@ -1,3 +1,4 @@
+-- `digits::zeros_of` meets its contract, by the invariant beside this.
 use native.Mathlib.Omega.{arith}
 use Rattle.key.proofs.Loops.{ending-first, ending-next, ending-some, ending-all}
 use Rattle.digits.proofs.zeros_of.Goals as goal

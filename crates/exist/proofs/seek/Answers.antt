@@ -1,3 +1,4 @@
+-- `exist::seek` meets its contract, by the invariant beside this.
 use mathlib.Core.Path.{◌≡◌, ap, sym, ◌∙◌}
 use mathlib.Core.Bool.{Bool, cond}
 use mathlib.Core.List.{List}
@@ -59,7 +60,9 @@ module _ (c : At-loop-first) where
   usable = fresh-usable _ first.requires.1 fresh.fill.ensures
 
 pub next_opening-found-requires : goal.next_opening-found-requires
-next_opening-found-requires c = ((first c.before.before).requires.0, finding-usable c.loop-first.invariant.finding (usable c.before.before), c.loop-first.invariant.finding.reached)
+next_opening-found-requires c =
+    let k = c.before.before in
+    ((first k).requires.0, finding-usable c.loop-first.invariant.finding (usable k), c.loop-first.invariant.finding.reached)
 
 -- where nothing is left to be found
 module _ (c : In_default) where
@@ -87,13 +90,17 @@ pub shape_of-border-then-unseen : goal.shape_of-border-then-unseen
 shape_of-border-then-unseen c = (ended c.before.before).0
 
 pub returns-then-unseen : goal.returns-then-unseen
-returns-then-unseen c = ap (λ (u : Bool). after (cond u CannotTell No) (left c.before.before)) (sym c.if-unseen.true) ∙ (ended c.before.before).1
+returns-then-unseen c =
+    let k = c.before.before in
+    ap (λ (u : Bool). after (cond u CannotTell No) (left k)) (sym c.if-unseen.true) ∙ (ended k).1
 
 pub shape_of-border-else-unseen : goal.shape_of-border-else-unseen
 shape_of-border-else-unseen c = (ended c.before.before).0
 
 pub returns-else-unseen : goal.returns-else-unseen
-returns-else-unseen c = ap (λ (u : Bool). after (cond u CannotTell No) (left c.before.before)) (sym c.if-unseen.false) ∙ (ended c.before.before).1
+returns-else-unseen c =
+    let k = c.before.before in
+    ap (λ (u : Bool). after (cond u CannotTell No) (left k)) (sym c.if-unseen.false) ∙ (ended k).1
 
 -- the arm of an opening
 module _ (c : In-Opening) where
@@ -115,7 +122,9 @@ pub overflow_add-window : goal.overflow_add-window
 overflow_add-window c = let u = (first (turn c.before.before.before.before.before)).requires.1 in let i = inside-12 u.small u.inside in omega (arith, i)
 
 pub fill-requires-then-looked : goal.fill-requires-then-looked
-fill-requires-then-looked c = (omega arith, (finding-usable (opens c.before.before.before.before.before).next (usable (turn c.before.before.before.before.before))).wide)
+fill-requires-then-looked c =
+    let k = c.before.before.before.before.before in
+    (omega arith, (finding-usable (opens k).next (usable (turn k))).wide)
 
 -- the border, where a record has the class
 module _ (c : After-slice_known-then-looked-1) where
@@ -146,7 +155,8 @@ loop-first-smaller c = (opens c.before.before.before.before).fewer
 
 pub loop-first-preserved : goal.loop-first-preserved
 loop-first-preserved c =
-    let at = turn c.before.before.before.before in
-    seeking-next _ _ (first at).requires.1 (first at).requires.3 at.loop-first.invariant (opens c.before.before.before.before)
+    let k = c.before.before.before.before in
+    let at = turn k in
+    seeking-next _ _ (first at).requires.1 (first at).requires.3 at.loop-first.invariant (opens k)
     (sym c.look-looked.ensures.0 ∙ c.if-looked.false)
     c.look-looked.ensures.1

@@ -39,7 +39,9 @@ clipped-area-requires c =
     (omega (arith, hands-small h c.if-exponent-reach.true, h.given.small), inside-12 h.given.small h.given.inside, h.corner.inside)
 
 pub bounds-classes-first : goal.bounds-classes-first
-bounds-classes-first c = omega (arith, (start c.before.before.before).requires.2.room, one c.before.before.before)
+bounds-classes-first c =
+    let k = c.before.before.before in
+    omega (arith, (start k).requires.2.room, one k)
 
 -- a class is a byte
 byte : (c : After-shared_slice_known-then-exponent-reach-1) → let s = start c.before.before in get_or s.args.classes.now s.args.first 0 < 256
@@ -60,15 +62,17 @@ part c = c.clipped-area.ensures ∙ sym (hands-single (start c.before).requires.
 
 pub overflow_add-totals : goal.overflow_add-totals
 overflow_add-totals c =
-    let g = (start c.before.before.before.before.before).requires.2.given in
-    omega (arith, adding-most (adding-first (start c.before.before.before.before.before).requires.3) (only c.before.before.before.before.before).most (inside-12 g.small g.inside) (byte c.before.before.before), part c.before.before.before.before)
+    let k = c.before.before.before.before.before in
+    let g = (start k).requires.2.given in
+    omega (arith, adding-most (adding-first (start k).requires.3) (only k).most (inside-12 g.small g.inside) (byte c.before.before.before), part c.before.before.before.before)
 
 pub bounds-totals-classes-then-exponent-reach : goal.bounds-totals-classes-then-exponent-reach
 bounds-totals-classes-then-exponent-reach c = byte c.before.before.before
 
 pub returns-then-exponent-reach : goal.returns-then-exponent-reach
 returns-then-exponent-reach c =
-    adding-last _ (adding-next (adding-first (start c.before.before.before.before.before).requires.3) (only c.before.before.before.before.before).most (part c.before.before.before.before)) (omega (arith, one c.before.before.before.before.before))
+    let k = c.before.before.before.before.before in
+    adding-last _ (adding-next (adding-first (start k).requires.3) (only k).most (part c.before.before.before.before)) (omega (arith, one k))
 
 pub gather_run-requires : goal.gather_run-requires
 gather_run-requires c =

@@ -1,3 +1,4 @@
+-- `gather::gather_run` meets its contract, by the invariant beside this.
 use mathlib.Core.Path.{◌≡◌}
 use Prim.Native.Nat.{◌+◌, ◌-◌, ◌≤◌, ◌<◌}
 use native.Mathlib.Omega.{arith}
@@ -52,20 +53,27 @@ module _ (c : In-loop-n) where
   among = omega (arith, adding.low, c.loop-n-test)
 
 pub bounds-keys-at : goal.bounds-keys-at
-bounds-keys-at c = fills-within (start c.before.before).requires.2 (among c.before.before)
+bounds-keys-at c =
+    let k = c.before.before in
+    fills-within (start k).requires.2 (among k)
 
 pub overflow_sub-inner : goal.overflow_sub-inner
-overflow_sub-inner c = omega (arith, fills-key (start c.before.before).requires.2 (among c.before.before))
+overflow_sub-inner c =
+    let k = c.before.before in
+    omega (arith, fills-key (start k).requires.2 (among k))
 
 pub exponent_here-e-requires : goal.exponent_here-e-requires
 exponent_here-e-requires c =
-    ((start c.before.before).requires.0, (start c.before.before).requires.1, small (start c.before.before), (turn c.before.before).loop-n.invariant.1, fills-begins (start c.before.before).requires.2 (among c.before.before) (turn c.before.before).loop-n.invariant.2)
+    let k = c.before.before in
+    ((start k).requires.0, (start k).requires.1, small (start k), (turn k).loop-n.invariant.1, fills-begins (start k).requires.2 (among k) (turn k).loop-n.invariant.2)
 
 pub pow4-requires : goal.pow4-requires
 pow4-requires c = omega (arith, (block-lies c.exponent_here-e.ensures).small, small (start c.before.before.before))
 
 pub bounds-classes-at : goal.bounds-classes-at
-bounds-classes-at c = omega (arith, among c.before.before.before.before.before, (start c.before.before.before.before.before).requires.2.hands.room)
+bounds-classes-at c =
+    let k = c.before.before.before.before.before in
+    omega (arith, among k, (start k).requires.2.hands.room)
 
 -- a class is a byte
 byte : (c : After-shared_slice_known-in-loop-n-2-1)
@@ -89,27 +97,33 @@ added c L = fills-area L (among c.before.before.before) (turn c.before.before.be
 
 pub overflow_add-totals : goal.overflow_add-totals
 overflow_add-totals c =
-    let g = (start c.before.before.before.before.before.before.before).requires.2.hands.given in
-    omega (arith, adding-most (adding c.before.before.before.before.before.before.before) (among c.before.before.before.before.before.before.before).most (inside-12 g.small g.inside) (byte c.before.before.before), added c.before.before.before.before (start c.before.before.before.before.before.before.before).requires.2)
+    let k = c.before.before.before.before.before.before.before in
+    let g = (start k).requires.2.hands.given in
+    omega (arith, adding-most (adding k) (among k).most (inside-12 g.small g.inside) (byte c.before.before.before), added c.before.before.before.before (start k).requires.2)
 
 pub bounds-totals-classes-in-loop-n : goal.bounds-totals-classes-in-loop-n
 bounds-totals-classes-in-loop-n c = byte c.before.before.before
 
 pub advance-spot-requires : goal.advance-spot-requires
-advance-spot-requires c = ((start c.before.before.before.before.before.before.before).requires.0, small (start c.before.before.before.before.before.before.before), c.exponent_here-e.ensures)
+advance-spot-requires c =
+    let k = c.before.before.before.before.before.before.before in
+    ((start k).requires.0, small (start k), c.exponent_here-e.ensures)
 
 pub overflow_add-n : goal.overflow_add-n
-overflow_add-n c = let h = (start c.before.before.before.before.before.before.before.before).requires.2.hands in omega (arith, among c.before.before.before.before.before.before.before.before, h.room, h.few)
+overflow_add-n c =
+    let k = c.before.before.before.before.before.before.before.before in
+    let h = (start k).requires.2.hands in omega (arith, among k, h.room, h.few)
 
 pub loop-n-smaller : goal.loop-n-smaller
 loop-n-smaller c = omega (arith, among c.before.before.before.before.before.before.before.before)
 
 pub loop-n-preserved : goal.loop-n-preserved
-loop-n-preserved c = (
-  λ W L G. adding-next ((turn c.before.before.before.before.before.before.before.before).loop-n.invariant.0 W L G) (among c.before.before.before.before.before.before.before.before).most (added c.before.before.before.before.before L),
-  c.advance-spot.ensures.1,
-  fills-next (start c.before.before.before.before.before.before.before.before).requires.2 (among c.before.before.before.before.before.before.before.before) (turn c.before.before.before.before.before.before.before.before).loop-n.invariant.2 c.exponent_here-e.ensures c.advance-spot.ensures.0,
-)
+loop-n-preserved c =
+    let k = c.before.before.before.before.before.before.before.before in (
+      λ W L G. adding-next ((turn k).loop-n.invariant.0 W L G) (among k).most (added c.before.before.before.before.before L),
+      c.advance-spot.ensures.1,
+      fills-next (start k).requires.2 (among k) (turn k).loop-n.invariant.2 c.exponent_here-e.ensures c.advance-spot.ensures.0,
+    )
 
 pub returns : goal.returns
 returns c = adding-last _ (c.loop-n.invariant.0 c.args.window c.requires.2 c.requires.3) (omega (arith, c.loop-n-test))

@@ -11,7 +11,8 @@ use Rattle.gather.proofs.gather_run.Given as goal
 
 abbrev pub invariant-loop-n : goal.invariant-loop-n
 invariant-loop-n l =
-    ((W : Window) → Fills l.m l.keys (length l.classes) W l.key l.exponent l.first l.count → Gathering l.m l.keys l.classes W l.first l.count l.initial.totals → Adding l.m l.keys l.classes W l.first l.end l.initial.totals l.totals l.n)
+    ((W : Window) → Fills l.m l.keys (length l.classes) W l.key l.exponent l.first l.count → Gathering l.m l.keys l.classes W l.first l.count l.initial.totals
+    → Adding l.m l.keys l.classes W l.first l.end l.initial.totals l.totals l.n)
     × Stands l.exponent l.spot
     × Inner l.m l.keys l.key l.end l.n l.spot.place
 

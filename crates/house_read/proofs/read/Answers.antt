@@ -75,4 +75,5 @@ returns c =
     let classes-room = c.before.before.before.before.before.before.before.before in
     let keys-room = classes-room.before in
     let parts = c.get_parts.ensures in
-    read_done _ _ _ _ (fields-are (header told)) (long (header told)) (passed told) (omega (arith, keys-room.if-keys-q.false)) (omega (arith, classes-room.if-classes-q.false)) parts.keys_after parts.classes_after
+    read_done _ _ _ _ (fields-are (header told)) (long (header told)) (passed told) (omega (arith, keys-room.if-keys-q.false))
+    (omega (arith, classes-room.if-classes-q.false)) parts.keys_after parts.classes_after

@@ -1,3 +1,4 @@
+-- `lines::put_classes` meets its contract, by the invariant beside this.
 use Prim.Native.Nat.{◌-◌}
 use native.Mathlib.Omega.{arith}
 use lib.ListN.{get_or}

@@ -80,7 +80,9 @@ put_classes-at-requires c =
     ((start o).requires.0, telling-lent (one o) (classes (start o)) (sums (start o)) refl)
 
 pub overflow_add-at : goal.overflow_add-at
-overflow_add-at c = omega (arith, telling-length (two c.before.before.before), (two c.before.before.before).room)
+overflow_add-at c =
+    let k = c.before.before.before in
+    omega (arith, telling-length (two k), (two k).room)
 
 pub slice_bounds-put_line-count : goal.slice_bounds-put_line-count
 slice_bounds-put_line-count c = omega (arith, telling-room (two c.before.before.before.before))
@@ -100,7 +102,9 @@ module _ (c : After-put_line-at) where
   three = telling-part (two second) (sums asked) [] (sym (append-nil (sums asked))) c.put_line-at.ensures
 
 pub overflow_add-at-2 : goal.overflow_add-at-2
-overflow_add-at-2 c = omega (arith, telling-length (three c.before.before.before), (three c.before.before.before).room)
+overflow_add-at-2 c =
+    let k = c.before.before.before in
+    omega (arith, telling-length (three k), (three k).room)
 
 pub returns : goal.returns
 returns c = telling-last (three c.before.before.before) refl

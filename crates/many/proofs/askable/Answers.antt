@@ -63,7 +63,8 @@ border c = sym (rw c.widest.ensures at c.wide_enough-wide.ensures)
 
 pub returns-in-Refused-wide : goal.returns-in-Refused-wide
 returns-in-Refused-wide c =
-    sym (many-narrow _ _ _ _ _ _ (passed (told c.before.before.before.before)) (fours c.before.before.before.before) (border c.before.before ∙ c.in-Refused-wide.is))
+    let k = c.before.before.before.before in
+    sym (many-narrow _ _ _ _ _ _ (passed (told k)) (fours k) (border c.before.before ∙ c.in-Refused-wide.is))
 
 -- where it is wide enough
 module _ (c : In_default-wide) where
@@ -81,10 +82,12 @@ overflow_cast-result c = omega (arith, ((wrong-not _).0 (fours (drawn c.before.b
 
 pub returns-then-room-needed : goal.returns-then-room-needed
 returns-then-room-needed c =
-    let k = drawn c.before.before in
-    rw (← count c.before.before) (sym (many-short _ _ _ _ _ _ (passed (told k)) (fours k) (wide c.before.before) (rw (count c.before.before) c.if-room-needed.true)))
+    let q = c.before.before in
+    let k = drawn q in
+    rw (← count q) (sym (many-short _ _ _ _ _ _ (passed (told k)) (fours k) (wide q) (rw (count q) c.if-room-needed.true)))
 
 pub returns : goal.returns
 returns c =
-    let k = drawn c.before.before in
-    sym (many-passes _ _ _ _ _ _ (passed (told k)) (fours k) (wide c.before.before) (rw (count c.before.before) c.if-room-needed.false))
+    let q = c.before.before in
+    let k = drawn q in
+    sym (many-passes _ _ _ _ _ _ (passed (told k)) (fours k) (wide q) (rw (count q) c.if-room-needed.false))

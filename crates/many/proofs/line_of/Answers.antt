@@ -46,7 +46,9 @@ module _ (c : Else-outside) where
       ((use-answerable true _ _ _ _ _).1 (record { sound = asked.requires.1; inside = drawn; wide = rw (columns-inside _ _ lies) at asked.requires.2 }))
 
 pub pass-totals-requires : goal.pass-totals-requires
-pass-totals-requires c = ((asked c.before.before.before).requires.0, usable c.before.before.before)
+pass-totals-requires c =
+    let k = c.before.before.before in
+    ((asked k).requires.0, usable k)
 
 -- behind the pass
 abbrev passed : After-pass-totals → Else-outside

@@ -1,3 +1,4 @@
+-- `many::put_lines` meets its contract, by the invariant beside this.
 use Prim.Native.Nat.{◌-◌}
 use native.Mathlib.Omega.{arith}
 use Rattle.many.proofs.Loops.{telling-first, telling-wide, telling-room, telling-next, telling-last}

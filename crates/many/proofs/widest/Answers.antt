@@ -1,3 +1,4 @@
+-- `many::widest` meets its contract, by the invariant beside this.
 use mathlib.Core.Path.{◌≡◌, ap, ◌∙◌}
 use Prim.Native.Nat.{max, ◌-◌}
 use native.Mathlib.Omega.{arith}

@@ -68,8 +68,9 @@ module _ (c : After-window_in) where
 
 pub count-requires : goal.count-requires
 count-requires c =
-    let ok = used (told c.before.before.before) in
-    (rw (exact c.before.before.before) (use-known true _ _ _ _ _ ok), use-same true _ _ _ _ _ ok, refl, use-whole _ _ _ _ _ ok)
+    let k = c.before.before.before in
+    let ok = used (told k) in
+    (rw (exact k) (use-known true _ _ _ _ _ ok), use-same true _ _ _ _ _ ok, refl, use-whole _ _ _ _ _ ok)
 
 -- the pixels are counted, and the border is spent
 module _ (c : After-count) where
@@ -102,7 +103,8 @@ bounds-table-5-2 c = omega (arith, (goes_on c.before.before.before.before).long)
 
 pub add_rows-requires : goal.add_rows-requires
 add_rows-requires c =
-    stored-fits _ (start c.before.before.before.before.before.before).args.keys.now (start c.before.before.before.before.before.before).args.classes.now _ (goes_on c.before.before.before.before.before.before).long (goes_on c.before.before.before.before.before.before).same (small (told (drawn c.before.before.before.before.before.before))) (goes_on c.before.before.before.before.before.before).sane (counted c.before.before.before.before.before.before)
+    let k = c.before.before.before.before.before.before in
+    stored-fits _ (start k).args.keys.now (start k).args.classes.now _ (goes_on k).long (goes_on k).same (small (told (drawn k))) (goes_on k).sane (counted k)
 
 pub overflow_add-result : goal.overflow_add-result
 overflow_add-result c = omega (arith, (goes_on c.before.before.before.before.before.before.before.before.before).fewer)
@@ -115,5 +117,6 @@ shape_of-table c = c.add_rows.auto.table ∙ simp length-set refl
 
 pub returns : goal.returns
 returns c =
-    let grown = c.add_rows.ensures ∙ grown-stored _ _ _ _ (goes_on c.before.before.before.before.before.before.before.before.before).long (goes_on c.before.before.before.before.before.before.before.before.before).same (counted c.before.before.before.before.before.before.before.before.before) in
-    rw (spends c.before.before.before.before.before.before.before.before.before, grown) (sym (add_is _ _ _ _ _ ∙ on-passed _ _ _ (passed (told (drawn c.before.before.before.before.before.before.before.before.before)))))
+    let k = c.before.before.before.before.before.before.before.before.before in
+    let grown = c.add_rows.ensures ∙ grown-stored _ _ _ _ (goes_on k).long (goes_on k).same (counted k) in
+    rw (spends k, grown) (sym (add_is _ _ _ _ _ ∙ on-passed _ _ _ (passed (told (drawn k)))))

@@ -69,4 +69,5 @@ exact c = c.window_in.ensures ∙ narrowed-inside (inside-12 (small (told c.befo
 
 pub returns : goal.returns
 returns c =
-    c.wide_enough.ensures ∙ rw (exact c.before.before) (sym (add_fit _ _ _ _ _ (passed (told c.before.before.before)) (fit c.before.before.before)))
+    let k = c.before.before.before in
+    c.wide_enough.ensures ∙ rw (exact c.before.before) (sym (add_fit _ _ _ _ _ (passed (told k)) (fit k)))

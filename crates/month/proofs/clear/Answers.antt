@@ -33,7 +33,9 @@ module _ (c : Else-outside) where
   passed = sym c.outside.ensures ∙ c.if-outside.false
 
 pub returns-then-table-lt1030 : goal.returns-then-table-lt1030
-returns-then-table-lt1030 c = sym (clear-short _ _ _ (small c.before.before) (passed c.before.before) c.if-table-lt1030.true)
+returns-then-table-lt1030 c =
+    let k = c.before.before in
+    sym (clear-short _ _ _ (small k) (passed k) c.if-table-lt1030.true)
 
 pub bounds-table-1 : goal.bounds-table-1
 bounds-table-1 c = simp length-set (omega (arith, c.if-table-lt1030.false))
@@ -55,4 +57,5 @@ shape_of-table c = c.wipe.auto.table ∙ simp length-set refl
 
 pub returns : goal.returns
 returns c =
-    sym (clear-done _ _ _ (small c.before.before.before.before.before.before.before.before.before.before) (passed c.before.before.before.before.before.before.before.before.before.before) c.if-table-lt1030.false refl c.wipe.ensures)
+    let k = c.before.before.before.before.before.before.before.before.before.before in
+    sym (clear-done _ _ _ (small k) (passed k) c.if-table-lt1030.false refl c.wipe.ensures)

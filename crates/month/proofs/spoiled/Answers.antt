@@ -53,10 +53,16 @@ pub returns-then-maps-gt1000 : goal.returns-then-maps-gt1000
 returns-then-maps-gt1000 c = sym (spoiled-many _ _ (inside-as c.before.before.before) c.if-maps-gt1000.true)
 
 pub overflow_mul-pixels : goal.overflow_mul-pixels
-overflow_mul-pixels c = omega (arith, pixels-most (W c.before.before.before.before.before) (within c.before.before.before.before.before))
+overflow_mul-pixels c =
+    let k = c.before.before.before.before.before in
+    omega (arith, pixels-most (W k) (within k))
 
 pub overflow_mul-maps : goal.overflow_mul-maps
-overflow_mul-maps c = omega (arith, mul-le-mul c.if-maps-gt1000.false (pixels-most (W c.before.before.before.before.before) (within c.before.before.before.before.before)))
+overflow_mul-maps c =
+    let k = c.before.before.before.before.before in
+    omega (arith, mul-le-mul c.if-maps-gt1000.false (pixels-most (W k) (within k)))
 
 pub returns : goal.returns
-returns c = c.any_over.ensures ∙ rw (exact c.before.before.before.before.before.before) (sym (spoiled-rows _ _ (inside-as c.before.before.before.before.before.before) c.if-maps-gt1000.false))
+returns c =
+    let k = c.before.before.before.before.before.before in
+    c.any_over.ensures ∙ rw (exact k) (sym (spoiled-rows _ _ (inside-as k) c.if-maps-gt1000.false))

@@ -1,3 +1,4 @@
+-- `month::wipe` meets its contract, by the invariant beside this.
 use Prim.Native.Nat.{◌-◌}
 use native.Mathlib.Omega.{arith}
 use Rattle.month.proofs.Clearing.{wiping-first, wiping-next, wiping-last}

@@ -1,3 +1,4 @@
+-- `numbers::copy` meets its contract, by the invariant beside this.
 use native.Mathlib.Omega.{arith}
 use borrow.Author.Rules.{rules}
 use Rattle.answers.proofs.Laws.{filling-first, copy-next, list-last}

@@ -1,3 +1,4 @@
+-- `numbers::get_all` meets its contract, by the invariant beside this.
 use native.Mathlib.Omega.{arith}
 use lib.ListN.{length-take, length-drop}
 use borrow.Author.Rules.{rules}

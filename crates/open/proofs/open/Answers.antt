@@ -64,7 +64,9 @@ module _ (c : In_default) where
   small = most-small asked.args.window asked.args.top drawn
 
 pub most_blocks-requires : goal.most_blocks-requires
-most_blocks-requires c = let k = known c.before.before in (omega (arith, k.cap, k.small), drawn c.before.before)
+most_blocks-requires c =
+    let q = c.before.before in
+    let k = known q in (omega (arith, k.cap, k.small), drawn q)
 
 -- behind the number of openings that there can be
 abbrev clear : After-most_blocks → In_default
@@ -92,9 +94,10 @@ overflow_mul-needed c = omega (arith, needed c.before, few (of c.before), small 
 
 pub returns-then-out-needed : goal.returns-then-out-needed
 returns-then-out-needed c =
-    let p = (counted c.before.before).pass-counted.ensures in
-    let none = passed-nothing (asked (of c.before.before)).args.out.now p in
-    open-short _ _ _ _ _ _ _ _ (passed (of c.before.before)) (needed c.before.before) (omega (arith, c.if-out-needed.true, ap length none)) p.ends none
+    let k = c.before.before in
+    let p = (counted k).pass-counted.ensures in
+    let none = passed-nothing (asked (of k)).args.out.now p in
+    open-short _ _ _ _ _ _ _ _ (passed (of k)) (needed k) (omega (arith, c.if-out-needed.true, ap length none)) p.ends none
 
 -- where the openings are written
 module _ (c : Joined-out-most_blocks) where
@@ -115,16 +118,20 @@ module _ (c : Joined-out-most_blocks) where
 
 pub pass-totals-requires : goal.pass-totals-requires
 pass-totals-requires c =
-    (c.spread_table-table.ensures, rw (ready c.before.before.before.before).long (known (told c.before.before.before.before)))
+    let k = c.before.before.before.before in
+    (c.spread_table-table.ensures, rw (ready k).long (known (told k)))
 
 pub shape_of-border : goal.shape_of-border
 shape_of-border c =
-    (written_same (ready c.before.before.before.before.before.before.before.before.before) c.pass-totals.ensures (known (told c.before.before.before.before.before.before.before.before.before)).wide).0
+    let k = c.before.before.before.before.before.before.before.before.before in
+    (written_same (ready k) c.pass-totals.ensures (known (told k)).wide).0
 
 pub shape_of-out : goal.shape_of-out
 shape_of-out c =
-    (written_same (ready c.before.before.before.before.before.before.before.before.before) c.pass-totals.ensures (known (told c.before.before.before.before.before.before.before.before.before)).wide).1
+    let k = c.before.before.before.before.before.before.before.before.before in
+    (written_same (ready k) c.pass-totals.ensures (known (told k)).wide).1
 
 pub returns : goal.returns
 returns c =
-    written_all (ready c.before.before.before.before.before.before.before.before.before) c.pass-totals.ensures _ _ (passed (told c.before.before.before.before.before.before.before.before.before))
+    let k = c.before.before.before.before.before.before.before.before.before in
+    written_all (ready k) c.pass-totals.ensures _ _ (passed (told k))

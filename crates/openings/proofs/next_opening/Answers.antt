@@ -1,3 +1,4 @@
+-- `openings::next_opening` meets its contract, by the invariant beside this.
 use Prim.Native.Nat.{◌≤◌}
 use native.Mathlib.Omega.{arith}
 use Rattle.window.specs.declared.Next.TheVariants.{Block}
@@ -48,7 +49,9 @@ module _ (c : In-Block) where
   goes = rw c.in-Block.is at c.next_block-next.ensures
 
 pub step-stepped-requires : goal.step-stepped-requires
-step-stepped-requires c = ((start c.before.before).requires.0, skipping-ready (turn c.before.before).loop-row.invariant (start c.before.before).requires.1 (goes c.before.before))
+step-stepped-requires c =
+    let k = c.before.before in
+    ((start k).requires.0, skipping-ready (turn k).loop-row.invariant (start k).requires.1 (goes k))
 
 -- the arm of an opened block
 module _ (c : In-Opened) where
@@ -62,16 +65,20 @@ pub overflow_sub-left : goal.overflow_sub-left
 overflow_sub-left c = room c.before
 
 pub shape_of-border-in-Opened : goal.shape_of-border-in-Opened
-shape_of-border-in-Opened c = (skipping-kept (turn (at c.before.before)).loop-row.invariant (start (at c.before.before)).requires.1 (goes (at c.before.before)) c.step-stepped.ensures).same
+shape_of-border-in-Opened c =
+    let k = c.before.before in
+    (skipping-kept (turn (at k)).loop-row.invariant (start (at k)).requires.1 (goes (at k)) c.step-stepped.ensures).same
 
 pub returns-in-Opened : goal.returns-in-Opened
 returns-in-Opened c =
+    let k = c.before.before in
     rw c.walk_from.ensures
-    (skipping-found (turn (at c.before.before)).loop-row.invariant (start (at c.before.before)).requires.1 (goes (at c.before.before)) c.step-stepped.ensures c.in-Opened.is (omega (arith, room c.before.before)))
+    (skipping-found (turn (at k)).loop-row.invariant (start (at k)).requires.1 (goes (at k)) c.step-stepped.ensures c.in-Opened.is (omega (arith, room k)))
 
 pub loop-row-smaller : goal.loop-row-smaller
 loop-row-smaller c = goes-less (goes c.before.before.before.before.before.before)
 
 pub loop-row-preserved : goal.loop-row-preserved
 loop-row-preserved c =
-    skipping-next (turn c.before.before.before.before.before.before).loop-row.invariant (start c.before.before.before.before.before.before).requires.1 (goes c.before.before.before.before.before.before) c.step-stepped.ensures c.in_default-stepped.is
+    let k = c.before.before.before.before.before.before in
+    skipping-next (turn k).loop-row.invariant (start k).requires.1 (goes k) c.step-stepped.ensures c.in_default-stepped.is

@@ -42,7 +42,11 @@ module _ (c : In_default-under) where
   second = sym c.sound-under.ensures ∙ c.in_default-under.is
 
 pub returns-then-m-depth : goal.returns-then-m-depth
-returns-then-m-depth c = sym (m-refused _ _ _ _ _ _ (first (today c.before.before)) (second c.before.before) c.if-m-depth.true)
+returns-then-m-depth c =
+    let k = c.before.before in
+    sym (m-refused _ _ _ _ _ _ (first (today k)) (second k) c.if-m-depth.true)
 
 pub returns : goal.returns
-returns c = sym (pair-passed _ _ _ _ _ _ (first (today c.before.before)) (second c.before.before) c.if-m-depth.false)
+returns c =
+    let k = c.before.before in
+    sym (pair-passed _ _ _ _ _ _ (first (today k)) (second k) c.if-m-depth.false)

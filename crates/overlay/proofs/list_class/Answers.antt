@@ -38,9 +38,10 @@ overflow_mul-most c = omega (arith, pixels-most c.args.window (inside-12 c.requi
 
 pub returns-then-out-needed : goal.returns-then-out-needed
 returns-then-out-needed c =
+    let k = c.before.before.before.before.before.before.before.before.before.before.before.before.before.before in
     let L = c.put_all-needed.ensures in
-    let same = listed-nothing {xs = chosen c.before.before.before.before.before.before.before.before.before.before.before.before.before.before} L (lent c.before.before.before.before.before.before.before.before.before.before.before.before.before.before) in
-    keys-short (chosen c.before.before.before.before.before.before.before.before.before.before.before.before.before.before) (lent c.before.before.before.before.before.before.before.before.before.before.before.before.before.before) (omega (arith, L.count)) (omega (arith, c.if-out-needed.true, ap length same)) same
+    let same = listed-nothing {xs = chosen k} L (lent k) in
+    keys-short (chosen k) (lent k) (omega (arith, L.count)) (omega (arith, c.if-out-needed.true, ap length same)) same
 
 -- where the keys are written: the slice is as it was, and has room for all
 abbrev start : Joined-out-most → Start
@@ -61,5 +62,6 @@ shape_of-out c = listed_same c.put_all-count.ensures ∙ ap length (ready c.befo
 
 pub returns : goal.returns
 returns c =
-    let r = ready c.before.before.before.before.before in
-    keys-done (chosen (start c.before.before.before.before.before)) _ (rw r.0 at c.put_all-count.ensures) r.1
+    let k = c.before.before.before.before.before in
+    let r = ready k in
+    keys-done (chosen (start k)) _ (rw r.0 at c.put_all-count.ensures) r.1

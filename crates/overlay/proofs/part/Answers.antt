@@ -40,7 +40,8 @@ slice_bounds-result-end c = own_room c.before
 pub returns-in-Today : goal.returns-in-Today
 unfolding part_in
 returns-in-Today c =
-    rw (own_is c.before.before) (ap (λ (n : ℕ). take n (drop c.in-Today.first (own c.before.before).args.classes.now)) (add-sub_cancel_left c.in-Today.first c.in-Today.count))
+    let k = c.before.before in
+    rw (own_is k) (ap (λ (n : ℕ). take n (drop c.in-Today.first (own k).args.classes.now)) (add-sub_cancel_left c.in-Today.first c.in-Today.count))
 
 -- the baseline's part
 module _ (c : In-Baseline) where
@@ -63,7 +64,8 @@ slice_bounds-result-end-in-Baseline c = under-room c.before
 pub returns-in-Baseline : goal.returns-in-Baseline
 unfolding part_in
 returns-in-Baseline c =
-    rw (under-is c.before.before) (ap (λ (n : ℕ). take n (drop c.in-Baseline.first (under c.before.before).args.beneath.now)) (add-sub_cancel_left c.in-Baseline.first c.in-Baseline.count))
+    let k = c.before.before in
+    rw (under-is k) (ap (λ (n : ℕ). take n (drop c.in-Baseline.first (under k).args.beneath.now)) (add-sub_cancel_left c.in-Baseline.first c.in-Baseline.count))
 
 pub returns-in-Refused : goal.returns-in-Refused
 unfolding part_in

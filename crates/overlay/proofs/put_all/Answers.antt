@@ -1,3 +1,4 @@
+-- `overlay::put_all` meets its contract, by the invariant beside this.
 use mathlib.Core.Path.{◌≡◌, refl}
 use Prim.Native.Nat.{ℕ}
 use native.Mathlib.Omega.{arith}
@@ -71,9 +72,10 @@ module _ (c : In-Block) where
 
 pub block_ahead-ahead-requires : goal.block_ahead-ahead-requires
 block_ahead-ahead-requires c =
-    let p = (start c.before.before).requires in
-    let b = goes-block p.1 (omega arith) (goes c.before.before) in
-    (spreads-at (turn c.before.before), p.0.small, p.0.today, spaced p.0.under, (turn c.before.before).loop-row.invariant.1, b.0, b.1, b.2)
+    let k = c.before.before in
+    let p = (start k).requires in
+    let b = goes-block p.1 (omega arith) (goes k) in
+    (spreads-at (turn k), p.0.small, p.0.today, spaced p.0.under, (turn k).loop-row.invariant.1, b.0, b.1, b.2)
 
 -- its places, and that its keys are those of its own key
 module _ (c : After-block_ahead-ahead) where
@@ -95,14 +97,15 @@ module _ (c : After-block_ahead-ahead) where
 pub put_class-n-requires : goal.put_class-n-requires
 unfolding class_selection
 put_class-n-requires c =
-    let k = arm c.before.before.before.before in
+    let q = c.before.before.before.before in
+    let k = arm q in
     let p = (start k).requires in
     let e = c.block_ahead-ahead.ensures in
-    let fits = class-fits (start k).args.m (rule c.before.before.before.before) (start k).args.class p.0.today p.1 p.0.small in
+    let fits = class-fits (start k).args.m (rule q) (start k).args.class p.0.today p.1 p.0.small in
     let room = walking-room (turn k).loop-row.invariant.0 (on k) k.in-Block.is refl fits in
     record {
       ones_value = (ones-at (turn k), p.0, e.3, omega (arith, e.0, e.1), e.2);
-      end_bound = rw (listed c.before.before.before.before) (omega (arith, room));
+      end_bound = rw (listed q) (omega (arith, room));
     }
 
 pub loop-row-smaller : goal.loop-row-smaller
@@ -110,5 +113,6 @@ loop-row-smaller c = goes-less (goes (arm c.before.before.before.before.before.b
 
 pub loop-row-preserved : goal.loop-row-preserved
 loop-row-preserved c =
-    let k = arm c.before.before.before.before.before.before.before in
-    (walking-next (turn k).loop-row.invariant.0 (on k) k.in-Block.is refl (rw (listed c.before.before.before.before.before.before.before) at c.put_class-n.ensures), c.block_ahead-ahead.ensures.3)
+    let q = c.before.before.before.before.before.before.before in
+    let k = arm q in
+    (walking-next (turn k).loop-row.invariant.0 (on k) k.in-Block.is refl (rw (listed q) at c.put_class-n.ensures), c.block_ahead-ahead.ensures.3)

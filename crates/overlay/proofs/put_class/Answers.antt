@@ -1,3 +1,4 @@
+-- `overlay::put_class` meets its contract, by the invariant beside this.
 use Prim.Native.Nat.{◌-◌}
 use native.Mathlib.Omega.{arith}
 use Rattle.answers.proofs.Laws.{listed_same}
@@ -43,9 +44,10 @@ piece c = c.before.before.before
 
 pub put_between-k-requires : goal.put_between-k-requires
 put_between-k-requires c =
-    let at = turn (piece c.before.before) in
+    let k = c.before.before in
+    let at = turn (piece k) in
     let p = (entry at).requires in
-    let room = joining-room at.loop-stand.invariant (piece c.before.before).next_piece-piece.ensures.0 c.if-piece-class.true in
+    let room = joining-room at.loop-stand.invariant (piece k).next_piece-piece.ensures.0 c.if-piece-class.true in
     (p.ones_value.0, p.ones_value.1.small, omega (arith, p.ones_value.4, at.loop-stand.invariant.high), omega (arith, p.end_bound, room))
 
 pub loop-stand-smaller-then-piece-class : goal.loop-stand-smaller-then-piece-class
@@ -54,8 +56,9 @@ loop-stand-smaller-then-piece-class c =
 
 pub loop-stand-preserved-then-piece-class : goal.loop-stand-preserved-then-piece-class
 loop-stand-preserved-then-piece-class c =
-    let at = turn (piece c.before.before.before.before.before) in
-    joining-other at.loop-stand.invariant (piece c.before.before.before.before.before).next_piece-piece.ensures.0 c.if-piece-class.true c.go_on-stand.ensures.0 c.go_on-stand.ensures.1 c.put_between-k.ensures
+    let k = c.before.before.before.before.before in
+    let at = turn (piece k) in
+    joining-other at.loop-stand.invariant (piece k).next_piece-piece.ensures.0 c.if-piece-class.true c.go_on-stand.ensures.0 c.go_on-stand.ensures.1 c.put_between-k.ensures
 
 pub loop-stand-smaller : goal.loop-stand-smaller
 loop-stand-smaller c =

@@ -33,7 +33,9 @@ pub spend-requires : goal.spend-requires
 spend-requires c = let u = known c.before.before in (inside-12 u.small u.inside, u.wide)
 
 pub list_class-requires : goal.list_class-requires
-list_class-requires c = ((entry c.before.before.before.before.before.before).requires, (known c.before.before.before.before.before.before).inside)
+list_class-requires c =
+    let k = c.before.before.before.before.before.before in
+    ((entry k).requires, (known k).inside)
 
 pub returns : goal.returns
 returns c =

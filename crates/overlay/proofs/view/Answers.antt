@@ -38,7 +38,8 @@ module _ (c : In_default) where
 
 pub returns-in-Refused-sound : goal.returns-in-Refused-sound
 returns-in-Refused-sound c =
-    sym (view-none _ _ _ _ _ _ _ (passed c.before.before.before.before.before) (alone-malformed _ _ (pair c.before.before.before.before.before).small (sym c.sound-sound.ensures ∙ c.in-Refused-sound.is)))
+    let k = c.before.before.before.before.before in
+    sym (view-none _ _ _ _ _ _ _ (passed k) (alone-malformed _ _ (pair k).small (sym c.sound-sound.ensures ∙ c.in-Refused-sound.is)))
 
 -- and the key is that of a block
 module _ (c : In_default-sound) where
@@ -53,17 +54,20 @@ overlapping-today-requires c = let p = pair (both c.before) in (p.small, p.few, 
 
 pub overlapping-under-requires : goal.overlapping-under-requires
 overlapping-under-requires c =
-    let p = pair (both c.before.before.before) in
-    (p.small, p.under_few, spaced p.under, block c.before.before.before)
+    let k = c.before.before.before in
+    let p = pair (both k) in
+    (p.small, p.under_few, spaced p.under, block k)
 
 pub returns-then-count-eq0 : goal.returns-then-count-eq0
 returns-then-count-eq0 c =
+    let k = c.before.before.before.before in
     let u = c.overlapping-under.ensures in
-    let some = some-records (pair (both c.before.before.before.before)).under (block c.before.before.before.before).names in
+    let some = some-records (pair (both k)).under (block k).names in
     ap₂ Baseline (u.first (λ e. omega (arith, some, u.count, e))) u.count
-    ∙ sym (view-baseline _ _ _ _ _ _ _ (passed (both c.before.before.before.before)) (block c.before.before.before.before) (sym c.overlapping-today.ensures.count ∙ c.if-count-eq0.true))
+    ∙ sym (view-baseline _ _ _ _ _ _ _ (passed (both k)) (block k) (sym c.overlapping-today.ensures.count ∙ c.if-count-eq0.true))
 
 pub returns : goal.returns
 returns c =
+    let k = c.before.before.before in
     let u = c.overlapping-today.ensures in
-    ap₂ Today (u.first c.if-count-eq0.false) u.count ∙ sym (view-today _ _ _ _ _ _ _ (passed (both c.before.before.before)) (block c.before.before.before) (λ e. c.if-count-eq0.false (u.count ∙ e)))
+    ap₂ Today (u.first c.if-count-eq0.false) u.count ∙ sym (view-today _ _ _ _ _ _ _ (passed (both k)) (block k) (λ e. c.if-count-eq0.false (u.count ∙ e)))

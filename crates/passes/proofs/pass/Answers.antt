@@ -1,3 +1,4 @@
+-- `passes::pass` meets its contract, by the invariant beside this.
 use mathlib.Core.Path.{◌∙◌}
 use Prim.Native.Nat.{◌+◌, ◌≤◌}
 use native.Mathlib.Omega.{arith}
@@ -43,7 +44,8 @@ module _ (c : At-loop-key) where
 
 pub next_opening-found-requires : goal.next_opening-found-requires
 next_opening-found-requires c =
-    ((first c.before.before).requires.0, finding-usable c.loop-key.invariant.finding (fresh-usable _ (first c.before.before).requires.1 (fresh c.before.before).fill.ensures), c.loop-key.invariant.finding.reached)
+    let k = c.before.before in
+    ((first k).requires.0, finding-usable c.loop-key.invariant.finding (fresh-usable _ (first k).requires.1 (fresh k).fill.ensures), c.loop-key.invariant.finding.reached)
 
 -- where nothing is left to be found
 module _ (c : In_default) where

@@ -1,3 +1,4 @@
+-- `pick::pick_run` meets its contract, by the invariant beside this.
 use native.Mathlib.Omega.{arith}
 use Rattle.answers.proofs.Laws.{listed_same}
 use Rattle.pick.proofs.Picking.{picking-first, picking-most, picking-next, picking-last}

@@ -1,3 +1,4 @@
+-- `pieces::add_up` meets its contract, by the invariant beside this.
 use native.Mathlib.Omega.{arith}
 use Rattle.key.proofs.Laws.{pow-most}
 use Rattle.map.proofs.Laws.{spaced}

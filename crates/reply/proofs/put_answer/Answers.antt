@@ -66,11 +66,14 @@ slice_bounds-put_result-start c = omega (arith, telling-room (one c.before.befor
 
 pub put_result-requires : goal.put_result-requires
 put_result-requires c =
-    let pre = (start c.before.before.before.before).requires in
-    (pre.0, rw (lent_is (at c.before.before.before.before) (begun c.before.before.before.before), length-drop) (omega (arith, short c.before.before.before.before, (one c.before.before.before.before).filled.same, pre.1)))
+    let k = c.before.before.before.before in
+    let pre = (start k).requires in
+    (pre.0, rw (lent_is (at k) (begun k), length-drop) (omega (arith, short k, (one k).filled.same, pre.1)))
 
 pub overflow_add-result : goal.overflow_add-result
-overflow_add-result c = omega (arith, telling-length (two c.before.before.before), (two c.before.before.before).room)
+overflow_add-result c =
+    let k = c.before.before.before in
+    omega (arith, telling-length (two k), (two k).room)
 
 pub returns : goal.returns
 returns c = telling-last (two c.before.before.before) refl

@@ -47,13 +47,16 @@ pub slice_bounds-cells-end : goal.slice_bounds-cells-end
 slice_bounds-cells-end c = omega (arith, fits c.before, (opening (done c.before)).long)
 
 pub slice_bounds-put_found-end : goal.slice_bounds-put_found-end
-slice_bounds-put_found-end c = simp length-take (omega (arith, fits c.before.before, (opening (done c.before.before)).long))
+slice_bounds-put_found-end c =
+    let k = c.before.before in
+    simp length-take (omega (arith, fits k, (opening (done k)).long))
 
 pub put_found-requires : goal.put_found-requires
 put_found-requires c =
-    let s = asked (done c.before.before.before) in
-    let most = found-most (take (3 * count c.before.before.before) (cells (done c.before.before.before))) s.args.totals.now (count c.before.before.before) c.in-Done.records s.args.pixels in
-    (s.requires.1, omega (arith, fits c.before.before.before, length-take (3 * count c.before.before.before) (cells (done c.before.before.before)), most))
+    let k = c.before.before.before in
+    let s = asked (done k) in
+    let most = found-most (take (3 * count k) (cells (done k))) s.args.totals.now (count k) c.in-Done.records s.args.pixels in
+    (s.requires.1, omega (arith, fits k, length-take (3 * count k) (cells (done k)), most))
 
 pub returns-in-Refused : goal.returns-in-Refused
 returns-in-Refused c =
@@ -61,5 +64,6 @@ returns-in-Refused c =
 
 pub returns-in-Done : goal.returns-in-Done
 returns-in-Done c =
-    let s = asked (done c.before.before.before.before.before.before) in
-    rw (← open-found (opening (done c.before.before.before.before.before.before)) c.in-Done.is s.args.totals.now s.args.pixels) c.put_found.ensures
+    let k = c.before.before.before.before.before.before in
+    let s = asked (done k) in
+    rw (← open-found (opening (done k)) c.in-Done.is s.args.totals.now s.args.pixels) c.put_found.ensures

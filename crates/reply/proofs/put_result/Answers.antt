@@ -34,8 +34,9 @@ module _ (c : After-report-reported) where
 
 pub put_opened-requires : goal.put_opened-requires
 put_opened-requires c =
-    let pre = (asked c.before.before.before.before.before.before.before).requires in
-    (report-passed (counting c.before.before.before.before.before.before.before) c.in-Done.is pre.0, omega (arith, (counting c.before.before.before.before.before.before.before).long), pre.1)
+    let k = c.before.before.before.before.before.before.before in
+    let pre = (asked k).requires in
+    (report-passed (counting k) c.in-Done.is pre.0, omega (arith, (counting k).long), pre.1)
 
 pub returns-in-Refused : goal.returns-in-Refused
 returns-in-Refused c =

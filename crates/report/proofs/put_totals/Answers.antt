@@ -1,3 +1,4 @@
+-- `report::put_totals` meets its contract, by the invariant beside this.
 use Prim.Native.Nat.{◌-◌, ◌<◌}
 use native.Mathlib.Omega.{arith}
 use lib.ListN.{length}

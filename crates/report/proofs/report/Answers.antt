@@ -48,7 +48,8 @@ fill-requires c = (omega arith, (known c.before.before.before.before.before).wid
 
 pub returns-then-out-lt256 : goal.returns-then-out-lt256
 returns-then-out-lt256 c =
-    report-short _ _ _ _ _ _ _ _ (passed c.before.before.before.before.before.before.before.before) (c.fill.ensures ∙ filled-spent _ _ (known c.before.before.before.before.before.before.before.before).wide) (omega (arith, c.if-out-lt256.true))
+    let k = c.before.before.before.before.before.before.before.before in
+    report-short _ _ _ _ _ _ _ _ (passed k) (c.fill.ensures ∙ filled-spent _ _ (known k).wide) (omega (arith, c.if-out-lt256.true))
 
 -- where there is room for the totals
 abbrev roomy : After-count-arg-1 → Else-out-lt256

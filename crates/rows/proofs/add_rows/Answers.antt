@@ -1,3 +1,4 @@
+-- `rows::add_rows` meets its contract, by the invariant beside this.
 use native.Mathlib.Omega.{arith}
 use Rattle.rows.proofs.Rows.{growing-first, growing-row, growing-next, growing-last}
 use Rattle.rows.proofs.add_rows.Goals as goal

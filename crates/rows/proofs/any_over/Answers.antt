@@ -1,3 +1,4 @@
+-- `rows::any_over` meets its contract, by the invariant beside this.
 use mathlib.Core.Path.{sym}
 use Rattle.rows.proofs.Over.{over-sum, over-maps, looking-first, looking-found, looking-next, looking-last}
 use Rattle.rows.proofs.any_over.Goals as goal

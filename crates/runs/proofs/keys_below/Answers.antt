@@ -1,3 +1,4 @@
+-- `runs::keys_below` meets its contract, by the invariant beside this.
 use native.Mathlib.Omega.{arith}
 use Rattle.map.proofs.Loops.{between-upper, between_lower, between-last}
 use Rattle.runs.proofs.keys_below.Goals as goal

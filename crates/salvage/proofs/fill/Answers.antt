@@ -1,3 +1,4 @@
+-- `salvage::fill` meets its contract, by the invariant beside this.
 use mathlib.Core.List.{[]}
 use Prim.Native.Nat.{◌<◌}
 use native.Mathlib.Omega.{arith}

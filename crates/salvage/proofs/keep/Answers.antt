@@ -1,3 +1,4 @@
+-- `salvage::keep` meets its contract, by the invariant beside this.
 use mathlib.Core.List.{[]}
 use native.Mathlib.Omega.{arith}
 use borrow.Author.Tests.{leb-true}

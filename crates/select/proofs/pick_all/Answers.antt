@@ -1,3 +1,4 @@
+-- `select::pick_all` meets its contract, by the invariant beside this.
 use native.Mathlib.Omega.{arith}
 use Rattle.answers.proofs.Laws.{listed_same}
 use Rattle.window.proofs.Laws.{inside-12, goes-less}
@@ -63,15 +64,17 @@ inside c = c.lies_in.ensures.0 c.if-lies_in.true
 
 pub pick_around-n-requires : goal.pick_around-n-requires
 pick_around-n-requires c =
-    selecting-around (coming c.before.before.before.before.before.before) (turn c.before.before.before.before.before.before).loop-row.invariant.known.0 (inside c.before.before.before) (start c.before.before.before.before.before.before).requires.2
+    let k = c.before.before.before.before.before.before in
+    selecting-around (coming k) (turn k).loop-row.invariant.known.0 (inside c.before.before.before) (start k).requires.2
 
 pub loop-row-smaller-then-lies_in : goal.loop-row-smaller-then-lies_in
 loop-row-smaller-then-lies_in c = goes-less (coming c.before.before.before.before.before.before.before.before.before).goes
 
 pub loop-row-preserved-then-lies_in : goal.loop-row-preserved-then-lies_in
 loop-row-preserved-then-lies_in c =
-    let k = (turn c.before.before.before.before.before.before.before.before.before).loop-row.invariant.known in
-    selecting-near (coming c.before.before.before.before.before.before.before.before.before) k.0 (inside c.before.before.before.before.before.before) c.pick_around-n.ensures k
+    let q = c.before.before.before.before.before.before.before.before.before in
+    let k = (turn q).loop-row.invariant.known in
+    selecting-near (coming q) k.0 (inside c.before.before.before.before.before.before) c.pick_around-n.ensures k
 
 -- in the other
 module _ (c : After-exchanged-seen) where
@@ -83,16 +86,18 @@ module _ (c : After-exchanged-seen) where
 
 pub pick_around-n-requires-then-lies_in-2 : goal.pick_around-n-requires-then-lies_in-2
 pick_around-n-requires-then-lies_in-2 c =
-    let k = exchanged-known c.exchanged-seen.ensures (turn (other c.before.before.before)).loop-row.invariant.known in
-    selecting-around (coming (other c.before.before.before)) k.0 (inside-other c.before.before.before) (start (other c.before.before.before)).requires.2
+    let q = c.before.before.before in
+    let k = exchanged-known c.exchanged-seen.ensures (turn (other q)).loop-row.invariant.known in
+    selecting-around (coming (other q)) k.0 (inside-other q) (start (other q)).requires.2
 
 pub loop-row-smaller-then-lies_in-2 : goal.loop-row-smaller-then-lies_in-2
 loop-row-smaller-then-lies_in-2 c = goes-less (coming (other c.before.before.before.before.before.before)).goes
 
 pub loop-row-preserved-then-lies_in-2 : goal.loop-row-preserved-then-lies_in-2
 loop-row-preserved-then-lies_in-2 c =
-    let k = exchanged-known c.exchanged-seen.ensures (turn (other c.before.before.before.before.before.before)).loop-row.invariant.known in
-    selecting-near (coming (other c.before.before.before.before.before.before)) k.0 (inside-other c.before.before.before.before.before.before) c.pick_around-n-then-lies_in-2.ensures k
+    let q = c.before.before.before.before.before.before in
+    let k = exchanged-known c.exchanged-seen.ensures (turn (other q)).loop-row.invariant.known in
+    selecting-near (coming (other q)) k.0 (inside-other q) c.pick_around-n-then-lies_in-2.ensures k
 
 -- in neither
 abbrev neither : Else-lies_in-2 → After-block_key-key

@@ -42,12 +42,14 @@ fill-requires c = (omega arith, (known c.before.before.before.before).wide)
 
 pub list_keys-requires : goal.list_keys-requires
 list_keys-requires c =
-    let u = known c.before.before.before.before.before.before.before.before.before.before in (
+    let k = c.before.before.before.before.before.before.before.before.before.before in
+    let u = known k in (
       c.spread_table-table.ensures,
       record { small = u.small; cap = u.cap; few = u.few; spaced = u.spaced; inside = u.inside; wide = omega arith },
-      use-same true _ _ _ _ _ (tiled-usable true _ _ _ _ _ _ (passed c.before.before.before.before.before.before.before.before.before.before)),
+      use-same true _ _ _ _ _ (tiled-usable true _ _ _ _ _ _ (passed k)),
     )
 
 pub returns : goal.returns
 returns c =
-    select-listed _ _ _ _ _ _ _ _ _ (passed c.before.before.before.before.before.before.before.before.before.before.before.before.before) (c.fill.ensures ∙ filled-spent _ _ (known c.before.before.before.before.before.before.before.before.before.before.before.before.before).wide) c.list_keys.ensures
+    let k = c.before.before.before.before.before.before.before.before.before.before.before.before.before in
+    select-listed _ _ _ _ _ _ _ _ _ (passed k) (c.fill.ensures ∙ filled-spent _ _ (known k).wide) c.list_keys.ensures

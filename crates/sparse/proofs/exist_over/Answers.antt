@@ -36,7 +36,8 @@ spend-requires c = let u = known c.before.before in (inside-12 u.small u.inside,
 
 pub find-requires : goal.find-requires
 find-requires c =
-    (c.spread_table-table.ensures, (entry c.before.before.before.before.before.before.before).requires, (known c.before.before.before.before.before.before.before).inside)
+    let k = c.before.before.before.before.before.before.before in
+    (c.spread_table-table.ensures, (entry k).requires, (known k).inside)
 
 pub returns : goal.returns
 returns c =

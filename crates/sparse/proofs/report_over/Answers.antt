@@ -46,7 +46,8 @@ returns-then-out-lt256 c =
 
 pub add_up-requires : goal.add_up-requires
 add_up-requires c =
-    (c.spread_table-table.ensures, (entry c.before.before.before.before.before.before.before.before.before).requires, (known c.before.before.before.before.before.before.before.before.before).inside, refl)
+    let k = c.before.before.before.before.before.before.before.before.before in
+    (c.spread_table-table.ensures, (entry k).requires, (known k).inside, refl)
 
 pub put_totals-requires : goal.put_totals-requires
 put_totals-requires c =
@@ -54,8 +55,9 @@ put_totals-requires c =
 
 pub overflow_mul-result : goal.overflow_mul-result
 overflow_mul-result c =
-    let u = known c.before.before.before.before.before.before.before.before.before.before.before.before.before.before.before.before.before in
-    omega (arith, pixels-most (entry c.before.before.before.before.before.before.before.before.before.before.before.before.before.before.before.before.before).args.window (inside-12 u.small u.inside))
+    let k = c.before.before.before.before.before.before.before.before.before.before.before.before.before.before.before.before.before in
+    let u = known k in
+    omega (arith, pixels-most (entry k).args.window (inside-12 u.small u.inside))
 
 pub returns : goal.returns
 returns c =

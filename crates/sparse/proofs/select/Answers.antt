@@ -38,10 +38,11 @@ spend-requires c = let u = known c.before.before in (inside-12 u.small u.inside,
 
 pub list_sparse-requires : goal.list_sparse-requires
 list_sparse-requires c =
-    let u = known c.before.before.before.before.before.before.before.before in (
+    let k = c.before.before.before.before.before.before.before.before in
+    let u = known k in (
       c.spread_table-table.ensures,
       record { small = u.small; cap = u.cap; few = u.few; spaced = u.spaced; inside = u.inside; wide = omega arith },
-      use-same false _ _ _ _ _ (tiled-usable false _ _ _ _ _ _ (passed c.before.before.before.before.before.before.before.before)),
+      use-same false _ _ _ _ _ (tiled-usable false _ _ _ _ _ _ (passed k)),
     )
 
 pub returns : goal.returns

@@ -1,3 +1,4 @@
+-- `sparse_select::put_all` meets its contract, by the invariant beside this.
 use native.Mathlib.Omega.{arith}
 use Rattle.answers.proofs.Laws.{listed_same}
 use Rattle.window.specs.declared.Next.TheVariants.{Block}
@@ -54,12 +55,13 @@ block_key-key-requires c =
 
 pub put_block-n-requires : goal.put_block-n-requires
 put_block-n-requires c =
-    let p = (start c.before.before.before).requires in
+    let k = c.before.before.before in
+    let p = (start k).requires in
     let named = c.block_key-key.ensures in (
       p.0,
       p.1,
-      asking (start c.before.before.before).args.classes.now p.2 p.3 (turn c.before.before.before).loop-row.invariant (on c.before.before.before) c.in-Block.is named,
-      asking-block p.2 (goes c.before.before.before) (walking-name (turn c.before.before.before).loop-row.invariant (on c.before.before.before) c.in-Block.is named),
+      asking (start k).args.classes.now p.2 p.3 (turn k).loop-row.invariant (on k) c.in-Block.is named,
+      asking-block p.2 (goes k) (walking-name (turn k).loop-row.invariant (on k) c.in-Block.is named),
     )
 
 pub loop-row-smaller : goal.loop-row-smaller
@@ -67,4 +69,5 @@ loop-row-smaller c = goes-less (goes c.before.before.before.before.before.before
 
 pub loop-row-preserved : goal.loop-row-preserved
 loop-row-preserved c =
-    walking-next (turn c.before.before.before.before.before.before).loop-row.invariant (on c.before.before.before.before.before.before) c.in-Block.is c.block_key-key.ensures c.put_block-n.ensures
+    let k = c.before.before.before.before.before.before in
+    walking-next (turn k).loop-row.invariant (on k) c.in-Block.is c.block_key-key.ensures c.put_block-n.ensures

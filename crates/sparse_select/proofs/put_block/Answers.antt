@@ -48,17 +48,20 @@ record_around-run-requires c =
 
 pub pick_around-requires : goal.pick_around-requires
 pick_around-requires c =
-    (asked-within (asked c.before.before.before.before.before) (start (alone c.before.before.before.before.before)).requires.3 c.if-exponent-run.true, omega (arith, (asked c.before.before.before.before.before).room))
+    let k = c.before.before.before.before.before in
+    (asked-within (asked k) (start (alone k)).requires.3 c.if-exponent-run.true, omega (arith, (asked k).room))
 
 pub returns-then-exponent-run : goal.returns-then-exponent-run
 returns-then-exponent-run c =
-    asked-around (asked c.before.before.before.before.before.before.before.before) (start (alone c.before.before.before.before.before.before.before.before)).requires.3 c.if-exponent-run.true c.pick_around.ensures
+    let k = c.before.before.before.before.before.before.before.before in
+    asked-around (asked k) (start (alone k)).requires.3 c.if-exponent-run.true c.pick_around.ensures
 
 pub returns-then-count-eq0 : goal.returns-then-count-eq0
 returns-then-count-eq0 c =
-    let B = (start (alone c.before.before.before.before.before.before.before)).requires.3 in
-    let least = asked-none (asked c.before.before.before.before.before.before.before) B (alone c.before.before.before.before.before.before.before).keys_below-first.ensures (none (alone c.before.before.before.before.before.before.before)) (omega (arith, c.if-exponent-run.false)) in
-    rw (asked-blank (asked c.before.before.before.before.before.before.before) B least, c.put.ensures) (listed-one _ _ _)
+    let k = c.before.before.before.before.before.before.before in
+    let B = (start (alone k)).requires.3 in
+    let least = asked-none (asked k) B (alone k).keys_below-first.ensures (none (alone k)) (omega (arith, c.if-exponent-run.false)) in
+    rw (asked-blank (asked k) B least, c.put.ensures) (listed-one _ _ _)
 
 pub put_run-requires : goal.put_run-requires
 put_run-requires c =

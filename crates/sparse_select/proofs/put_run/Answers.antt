@@ -1,3 +1,4 @@
+-- `sparse_select::put_run` meets its contract, by the invariant beside this.
 use mathlib.Core.Path.{◌≡◌, refl, ◌∙◌}
 use Prim.Native.Nat.{◌+◌, ◌-◌, ◌^◌, ◌≤◌, ◌<◌}
 use native.Mathlib.Omega.{arith}
@@ -52,16 +53,20 @@ pub overflow_add-end : goal.overflow_add-end
 overflow_add-end c = omega (arith, (span c.before.before.before).1, c.pow4.ensures)
 
 pub begin-spot-requires : goal.begin-spot-requires
-begin-spot-requires c = ((start c.before.before.before).requires.0, (start c.before.before.before).requires.1.small, c.span_of-block.ensures)
+begin-spot-requires c =
+    let k = c.before.before.before in
+    ((start k).requires.0, (start k).requires.1.small, c.span_of-block.ensures)
 
 pub overflow_add-last : goal.overflow_add-last
 overflow_add-last c =
-    omega (arith, merging-room (start c.before.before.before.before.before.before).requires.1 c.span_of-block.ensures (short c.before.before.before.before.before.before))
+    let k = c.before.before.before.before.before.before in
+    omega (arith, merging-room (start k).requires.1 c.span_of-block.ensures (short k))
 
 pub loop-i-init : goal.loop-i-init
 loop-i-init c =
+    let k = c.before.before.before.before.before.before in
     let g = c.begin-spot.ensures in
-    merging-first (start c.before.before.before.before.before.before).requires.1 c.span_of-block.ensures (short c.before.before.before.before.before.before) _ g.0 g.1 (omega (arith, c.pow4.ensures.is)) refl
+    merging-first (start k).requires.1 c.span_of-block.ensures (short k) _ g.0 g.1 (omega (arith, c.pow4.ensures.is)) refl
 
 -- at a turn
 module _ (c : In-loop-i) where
@@ -75,10 +80,14 @@ module _ (c : In-loop-i) where
   test = omega (arith, c.loop-i-test)
 
 pub bounds-keys-i : goal.bounds-keys-i
-bounds-keys-i c = (merging-record (turn c.before.before).loop-i.invariant (test c.before.before)).0
+bounds-keys-i c =
+    let k = c.before.before in
+    (merging-record (turn k).loop-i.invariant (test k)).0
 
 pub span_of-at-requires : goal.span_of-at-requires
-span_of-at-requires c = ((entry c.before.before).requires.1.small, (merging-record (turn c.before.before).loop-i.invariant (test c.before.before)).1)
+span_of-at-requires c =
+    let k = c.before.before in
+    ((entry k).requires.1.small, (merging-record (turn k).loop-i.invariant (test k)).1)
 
 -- with the record that comes next, as it is read
 module _ (c : After-span_of-at) where
@@ -91,13 +100,15 @@ module _ (c : After-span_of-at) where
 
 pub put_stretch-k-requires : goal.put_stretch-k-requires
 put_stretch-k-requires c =
-    let e = entry (inside c.before.before) in
-    (e.requires.0, e.requires.1.small, (turn (inside c.before.before)).loop-i.invariant.stands, omega (arith, (block-lies c.span_of-at.ensures).span), omega (arith, room c.before.before))
+    let k = c.before.before in
+    let e = entry (inside k) in
+    (e.requires.0, e.requires.1.small, (turn (inside k)).loop-i.invariant.stands, omega (arith, (block-lies c.span_of-at.ensures).span), omega (arith, room k))
 
 pub pick_around-k-requires : goal.pick_around-k-requires
 pick_around-k-requires c =
-    let t = inside c.before.before.before.before.before.before in
-    (rw (← (entry t).requires.1.same) (merging-record (turn t).loop-i.invariant (test t)).0, omega (arith, room c.before.before.before.before.before.before, c.put_stretch-k.ensures.count))
+    let k = c.before.before.before.before.before.before in
+    let t = inside k in
+    (rw (← (entry t).requires.1.same) (merging-record (turn t).loop-i.invariant (test t)).0, omega (arith, room k, c.put_stretch-k.ensures.count))
 
 pub advance-spot-requires : goal.advance-spot-requires
 advance-spot-requires c =

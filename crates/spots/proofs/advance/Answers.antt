@@ -30,13 +30,19 @@ pub bounds-ones-i : goal.bounds-ones-i
 bounds-ones-i c = omega (arith, (room c.before.before.before).small, c.requires.1)
 
 pub overflow_mul-end : goal.overflow_mul-end
-overflow_mul-end c = omega (arith, own c.before.before.before.before, end c.before.before.before.before, most c.before.before.before.before)
+overflow_mul-end c =
+    let k = c.before.before.before.before in
+    omega (arith, own k, end k, most k)
 
 pub overflow_add-end : goal.overflow_add-end
-overflow_add-end c = omega (arith, own c.before.before.before.before, end c.before.before.before.before, most c.before.before.before.before)
+overflow_add-end c =
+    let k = c.before.before.before.before in
+    omega (arith, own k, end k, most k)
 
 pub overflow_add-end-2 : goal.overflow_add-end-2
-overflow_add-end-2 c = omega (arith, own c.before.before.before.before, end c.before.before.before.before, most c.before.before.before.before)
+overflow_add-end-2 c =
+    let k = c.before.before.before.before in
+    omega (arith, own k, end k, most k)
 
 pub returns : goal.returns
 returns c =

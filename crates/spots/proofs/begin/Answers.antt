@@ -35,9 +35,10 @@ bounds-ones-i c = omega (arith, (block-lies c.requires.2).small, c.requires.1)
 
 pub overflow_add-first : goal.overflow_add-first
 overflow_add-first c =
-    let s = c.before.before.before in
+    let k = c.before.before.before in
+    let s = k in
     let i = s.args.i in
-    omega (arith, own c.before.before.before, (block-lies s.requires.2).keys, ones-pow i, pow-most 4 s.args.m s.requires.1)
+    omega (arith, own k, (block-lies s.requires.2).keys, ones-pow i, pow-most 4 s.args.m s.requires.1)
 
 pub overflow_cast-largest : goal.overflow_cast-largest
 overflow_cast-largest c = omega (arith, small c.before.before.before)

@@ -72,4 +72,5 @@ pub returns : goal.returns
 unfolding over digits
 returns c =
     let e = c.before.before.before.before.before.before in
-    fits-here (start e.before.before).requires.3 (inside e.before.before) (start e.before.before).requires.2 (tells e.before.before) (less e.before.before) c.if-ones-exponent.false c.if-spot-exponent.false
+    fits-here (start e.before.before).requires.3 (inside e.before.before) (start e.before.before).requires.2 (tells e.before.before)
+    (less e.before.before) c.if-ones-exponent.false c.if-spot-exponent.false

@@ -1,3 +1,4 @@
+-- `spots::pixel_of` meets its contract, by the invariant beside this.
 use Rattle.std.proofs.Common.{arith}
 use Rattle.key.proofs.Loops.{digits-first, digits-next, digits-most, digits_last}
 use Rattle.spots.proofs.pixel_of.Goals as goal

@@ -1,3 +1,4 @@
+-- `step::fill` meets its contract, by the invariant beside this.
 use mathlib.Core.Path.{◌≡◌, refl, sym, ap, ◌∙◌}
 use mathlib.Core.List.{List}
 use Prim.Native.Nat.{ℕ, ◌-◌}

@@ -1,3 +1,4 @@
+-- `streams::print` meets its contract, by the invariant beside this.
 use Rattle.std.proofs.Common.{◌≤◌, ◌++◌, arith, length, take, sym, length-take-le}
 use Rattle.std.proofs.KnownBytes.{Appends-kept}
 use Rattle.streams.proofs.Known.{more-put, split_after, split_rest, puts-front}

@@ -1,3 +1,4 @@
+-- `streams::take` meets its contract, by the invariant beside this.
 use Rattle.std.proofs.Common.{rules}
 use Rattle.streams.proofs.Known.{more_taken}
 use Rattle.streams.proofs.take.Goals as goal

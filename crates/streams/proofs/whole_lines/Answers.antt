@@ -1,3 +1,4 @@
+-- `streams::whole_lines` meets its contract, by the invariant beside this.
 use Rattle.std.proofs.Common.{arith, sym, ◌∙◌}
 use Rattle.streams.proofs.Pieces.{lines_none, lines-ended, lines-before}
 use Rattle.streams.proofs.whole_lines.Goals as goal

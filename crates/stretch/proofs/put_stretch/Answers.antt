@@ -1,3 +1,4 @@
+-- `stretch::put_stretch` meets its contract, by the invariant beside this.
 use Prim.Native.Nat.{◌-◌}
 use native.Mathlib.Omega.{arith}
 use Rattle.answers.proofs.Laws.{listed_same}

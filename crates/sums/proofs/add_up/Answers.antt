@@ -1,3 +1,4 @@
+-- `sums::add_up` meets its contract, by the invariant beside this.
 use mathlib.Core.Path.{◌∙◌}
 use native.Mathlib.Omega.{arith}
 use Rattle.border.proofs.Laws.{fresh-same, fresh-usable, fresh-spent, finding-first, finding-usable, finding-last, Opens, finds-opens}
@@ -41,7 +42,8 @@ module _ (c : At-loop-row) where
 
 pub next_opening-found-requires : goal.next_opening-found-requires
 next_opening-found-requires c =
-    ((first c.before.before).requires.0, finding-usable c.loop-row.invariant.finding (fresh-usable _ (first c.before.before).requires.3 (fresh c.before.before).fill.ensures), c.loop-row.invariant.finding.reached)
+    let k = c.before.before in
+    ((first k).requires.0, finding-usable c.loop-row.invariant.finding (fresh-usable _ (first k).requires.3 (fresh k).fill.ensures), c.loop-row.invariant.finding.reached)
 
 -- where nothing is left to be found
 module _ (c : In_default) where
@@ -78,14 +80,16 @@ module _ (c : In-Opening) where
 
 pub gather-requires : goal.gather-requires
 gather-requires c =
-    let p = (first (turn c.before.before)).requires in
-    let T = (turn c.before.before).loop-row.invariant in
-    (p.1, p.2, totalling-hands _ p.3 p.6 T (opens c.before.before) p.4, totalling-once _ p.3 p.6 T (opens c.before.before))
+    let k = c.before.before in
+    let p = (first (turn k)).requires in
+    let T = (turn k).loop-row.invariant in
+    (p.1, p.2, totalling-hands _ p.3 p.6 T (opens k) p.4, totalling-once _ p.3 p.6 T (opens k))
 
 pub loop-row-smaller : goal.loop-row-smaller
 loop-row-smaller c = (opens c.before.before.before).fewer
 
 pub loop-row-preserved : goal.loop-row-preserved
 loop-row-preserved c =
-    let at = turn c.before.before.before in
-    totalling-next _ (first at).requires.3 (first at).requires.6 at.loop-row.invariant (opens c.before.before.before) c.gather.ensures
+    let k = c.before.before.before in
+    let at = turn k in
+    totalling-next _ (first at).requires.3 (first at).requires.6 at.loop-row.invariant (opens k) c.gather.ensures

@@ -67,16 +67,22 @@ pub slice_bounds-put_numbers-start : goal.slice_bounds-put_numbers-start
 slice_bounds-put_numbers-start c = omega (arith, telling-room (lettered c.before))
 
 pub put_numbers-at-requires : goal.put_numbers-at-requires
-put_numbers-at-requires c = telling-lent (lettered c.before.before) (spaced (numbers c.before.before)) (10 ∷ []) refl
+put_numbers-at-requires c =
+    let k = c.before.before in
+    telling-lent (lettered k) (spaced (numbers k)) (10 ∷ []) refl
 
 pub overflow_add-at : goal.overflow_add-at
-overflow_add-at c = omega (arith, telling-length (numbered c.before.before.before), (numbered c.before.before.before).room)
+overflow_add-at c =
+    let k = c.before.before.before in
+    omega (arith, telling-length (numbered k), (numbered k).room)
 
 pub bounds-out-at : goal.bounds-out-at
 bounds-out-at c = omega (arith, telling-room (numbered c.before.before.before))
 
 pub overflow_add-result : goal.overflow_add-result
-overflow_add-result c = omega (arith, telling-length (numbered c.before.before.before), (numbered c.before.before.before).room)
+overflow_add-result c =
+    let k = c.before.before.before in
+    omega (arith, telling-length (numbered k), (numbered k).room)
 
 pub shape_of-out : goal.shape_of-out
 shape_of-out c = rw length-set (numbered c.before.before.before).filled.same

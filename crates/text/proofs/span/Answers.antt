@@ -1,3 +1,4 @@
+-- `text::span` meets its contract, by the invariant beside this.
 use mathlib.Core.Path.{ap}
 use Prim.Native.Nat.{◌-◌}
 use native.Mathlib.Omega.{arith}

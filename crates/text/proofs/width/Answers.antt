@@ -1,3 +1,4 @@
+-- `text::width` meets its contract, by the invariant beside this.
 use native.Mathlib.Omega.{arith}
 use borrow.Author.Rules.{rules}
 use Rattle.text.proofs.Digits.{width_small, width-large}

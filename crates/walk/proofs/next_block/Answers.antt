@@ -1,3 +1,4 @@
+-- `walk::next_block` meets its contract, by the invariant beside this.
 use mathlib.Core.Path.{◌≡◌}
 use mathlib.Core.Logic.{◌↔◌}
 use Prim.Native.Nat.{suc, ◌+◌, ◌≤◌, ◌<◌}
@@ -82,7 +83,9 @@ pub side-requires : goal.side-requires
 side-requires c = omega (arith, small c.before.before.before)
 
 pub overflow_add-result : goal.overflow_add-result
-overflow_add-result c = omega (arith, c.side.ensures, (at c.before.before.before.before).loop-c.invariant.cursor, (at c.before.before.before.before).requires.1)
+overflow_add-result c =
+    let k = c.before.before.before.before in
+    omega (arith, c.side.ensures, (at k).loop-c.invariant.cursor, (at k).requires.1)
 
 pub returns-then-e-by_col : goal.returns-then-e-by_col
 returns-then-e-by_col c =

@@ -1,3 +1,4 @@
+-- `why::bring` meets its contract, by the invariant beside this.
 use mathlib.Core.Path.{◌≡◌, ◌∙◌}
 use mathlib.Core.List.{List}
 use Prim.Native.Nat.{ℕ}
@@ -52,7 +53,9 @@ module _ (c : At-loop-key) where
   usable = fresh-usable _ first.requires.1 fresh.fill.ensures
 
 pub next_opening-found-requires : goal.next_opening-found-requires
-next_opening-found-requires c = ((first c.before.before).requires.0, finding-usable c.loop-key.invariant.finding (usable c.before.before), c.loop-key.invariant.finding.reached)
+next_opening-found-requires c =
+    let k = c.before.before in
+    ((first k).requires.0, finding-usable c.loop-key.invariant.finding (usable k), c.loop-key.invariant.finding.reached)
 
 -- where nothing is left to be found
 module _ (c : In_default) where
@@ -94,7 +97,9 @@ pub overflow_add-window : goal.overflow_add-window
 overflow_add-window c = let u = (first (turn c.before.before.before.before)).requires.1 in let i = inside-12 u.small u.inside in omega (arith, i)
 
 pub fill-requires-then-first-index : goal.fill-requires-then-first-index
-fill-requires-then-first-index c = (omega arith, (finding-usable (opens c.before.before.before.before).next (usable (turn c.before.before.before.before))).wide)
+fill-requires-then-first-index c =
+    let k = c.before.before.before.before in
+    (omega arith, (finding-usable (opens k).next (usable (turn k))).wide)
 
 -- the border, where the record is handed out
 module _ (c : After-slice_known-then-first-index-1) where
@@ -119,11 +124,15 @@ returns-then-first-index c =
     )
 
 pub overflow_add-opening : goal.overflow_add-opening
-overflow_add-opening c = omega (arith, bringing-few _ (turn c.before.before).loop-key.invariant (opens c.before.before) (first (turn c.before.before)).requires.1)
+overflow_add-opening c =
+    let k = c.before.before in
+    omega (arith, bringing-few _ (turn k).loop-key.invariant (opens k) (first (turn k)).requires.1)
 
 pub loop-key-smaller : goal.loop-key-smaller
 loop-key-smaller c = (opens c.before.before).fewer
 
 pub loop-key-preserved : goal.loop-key-preserved
 unfolding hands_out
-loop-key-preserved c = bringing-next _ (turn c.before.before).loop-key.invariant (opens c.before.before) c.if-first-index.false
+loop-key-preserved c =
+    let k = c.before.before in
+    bringing-next _ (turn k).loop-key.invariant (opens k) c.if-first-index.false

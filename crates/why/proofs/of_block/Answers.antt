@@ -93,8 +93,9 @@ module _ (c : Else-not-maximal) where
 
 pub record_at-index-requires : goal.record_at-index-requires
 record_at-index-requires c =
+    let k = c.before.before.before in
     let U = known (told c.before.before) in
-    ((squared c.before.before.before).spread_table-table.ensures, U.small, U.few, whole c.before.before, (squared c.before.before.before).square_of-square.ensures.pixel)
+    ((squared k).spread_table-table.ensures, U.small, U.few, whole c.before.before, (squared k).square_of-square.ensures.pixel)
 
 pub bring-brought-requires : goal.bring-brought-requires
 bring-brought-requires c =
@@ -123,8 +124,10 @@ module _ (c : After-struct_known-1) where
 
 pub returns-then-brought-key : goal.returns-then-brought-key
 returns-then-brought-key c =
-    answers c.before.before (said-opened (whole (of c.before.before)) (known (told (of c.before.before))).inside (listed (of c.before.before)) (first-is c.before.before) (brought c.before.before).bring-brought.ensures.0 c.if-brought-key.true)
+    let k = c.before.before in
+    answers k (said-opened (whole (of k)) (known (told (of k))).inside (listed (of k)) (first-is k) (brought k).bring-brought.ensures.0 c.if-brought-key.true)
 
 pub returns : goal.returns
 returns c =
-    answers c.before.before (said-skipped (whole (of c.before.before)) (known (told (of c.before.before))).inside (listed (of c.before.before)) (first-is c.before.before) (brought c.before.before).bring-brought.ensures.0 c.if-brought-key.false)
+    let k = c.before.before in
+    answers k (said-skipped (whole (of k)) (known (told (of k))).inside (listed (of k)) (first-is k) (brought k).bring-brought.ensures.0 c.if-brought-key.false)

@@ -51,9 +51,10 @@ fill-requires c = (omega arith, (known c.before.before.before.before.before.befo
 
 pub returns-in-Outside : goal.returns-in-Outside
 returns-in-Outside c =
-    why-done _ _ _ _ _ _ _ (passed c.before.before.before.before.before.before.before.before.before.before) ((index-passed _ _).1 c.if-keys-index.false)
+    let k = c.before.before.before.before.before.before.before.before.before.before in
+    why-done _ _ _ _ _ _ _ (passed k) ((index-passed _ _).1 c.if-keys-index.false)
     (said-outside _ _ _ _ (sym c.record_lies-lies.ensures ∙ c.in-Outside.is))
-    (c.fill.ensures ∙ filled-spent _ _ (known c.before.before.before.before.before.before.before.before.before.before).wide)
+    (c.fill.ensures ∙ filled-spent _ _ (known k).wide)
 
 pub bring-brought-requires : goal.bring-brought-requires
 bring-brought-requires c = (c.spread_table-table.ensures, known c.before.before.before.before.before.before.before)
