@@ -9,8 +9,8 @@ use native.Mathlib.Nat.{pow-suc, zero-mod, mod-eq_of_lt}
 use native.Mathlib.Omega.{arith}
 use lib.Count.{count_trailing_zeros}
 use lib.ListN.{get_or}
+use Rattle.std.specs.Prelude.{None, Some}
 use Rattle.key.specs.declared.Spot.{Spot}
-use Rattle.key.specs.declared.Fit.TheVariants.{Block, Other}
 use Rattle.key.specs.Key.{ones}
 use Rattle.key.specs.Blocks.{Names}
 use Rattle.key.specs.Along.{ones_table, TellsOnes, pixel_at, Stands, ToldFit, block, other}
@@ -154,10 +154,10 @@ told {table} {digits} d e D =
     record { small = small; entry = ones-entry _ e small; only = λ j l q. ap (λ (x : ℕ). get_or digits (x % 16) 0) q ∙ D.finds j l }
 
 module _ {m : ℕ} {s : Spot} (S : Stands m s) where
-  pub fits-behind : {key : ℕ} → s.place ≡ 4 ^ m → ToldFit m s.place key Other
+  pub fits-behind : {key : ℕ} → s.place ≡ 4 ^ m → ToldFit m s.place key None
   fits-behind {key} e = other (λ i n. omega (arith, (lies (form-at m key n.is)).span, pow-least 3 i))
 
-  pub fits-largest : {key : ℕ} → s.place < 4 ^ m → key ≡ s.key → ToldFit m s.place key (Block s.top)
+  pub fits-largest : {key : ℕ} → s.place < 4 ^ m → key ≡ s.key → ToldFit m s.place key (Some s.top)
   fits-largest h e = rw e (block (S.largest h))
 
   -- the pixel's key less this one is d, where it wraps if this one is over it
@@ -168,17 +168,17 @@ module _ {m : ℕ} {s : Spot} (S : Stands m s) where
         let e : d ≡ ones j = omega (arith, less) in
         (t.only j (omega (arith, S.cap)) e, e, k.0)
 
-    pub fits-unlike : (get_or table i 0 ≡ d → ⊥) → ToldFit m s.place key Other
+    pub fits-unlike : (get_or table i 0 ≡ d → ⊥) → ToldFit m s.place key None
     fits-unlike n = other (λ j b. let k = told-block b in n (t.entry ∙ ap ones k.0 ∙ sym k.1))
 
-    pub fits-large : s.top < i → ToldFit m s.place key Other
+    pub fits-large : s.top < i → ToldFit m s.place key None
     fits-large l = other (λ j b. let k = told-block b in omega arith)
 
-    pub fits-here : get_or table i 0 ≡ d → i ≤ s.top → ToldFit m s.place key (Block i)
+    pub fits-here : get_or table i 0 ≡ d → i ≤ s.top → ToldFit m s.place key (Some i)
     fits-here q l = block ((fits-key S h).1 (l, omega (arith, t.entry, less, (fits-start S h l).2)))
 
-pub fits-block : {m p key i : ℕ} → ToldFit m p key (Block i) → Names m key i p
+pub fits-block : {m p key i : ℕ} → ToldFit m p key (Some i) → Names m key i p
 fits-block (block n) = n
 
-pub fits-other : {m p key : ℕ} → ToldFit m p key Other → (i : ℕ) → Names m key i p → ⊥
+pub fits-other : {m p key : ℕ} → ToldFit m p key None → (i : ℕ) → Names m key i p → ⊥
 fits-other (other f) = f

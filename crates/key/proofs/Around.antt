@@ -14,6 +14,7 @@ use Rattle.key.proofs.Standing.{Lies, Stand, within, around, after, before}
 use Rattle.key.proofs.Powers.{pow-least}
 use Rattle.key.proofs.Blocks.{At, whole, quad, lies, form-at, stand}
 use Rattle.key.proofs.Ends.{sub-key}
+use Rattle.key.proofs.Spans.{same-exponent}
 
 -- ---- the digits of a key
 
@@ -127,7 +128,7 @@ reaches-least (ends n h) = omega arith
 -- the block of the smaller key ends before
 pub reaches-before : {m own key i r j t : ℕ} → Reaches m own key i r → r ≡ i → Names m own j t → own + 5 ^ j ≤ key
 reaches-before (contains l n a) e o = absurd (omega arith)
-reaches-before {j = j} (ends {j = k} n h) e o = let same : k ≡ j = cc in rw same at h
+reaches-before {j = j} (ends {j = k} n h) e o = let same : k ≡ j = same-exponent (sym n.is ∙ o.is) in rw same at h
 
 -- it contains the other, and this is its exponent
 pub reaches-around : {m own key i r : ℕ} → Reaches m own key i r → i < r → (t : ℕ) × Names m own r t × Among own (5 ^ r) key

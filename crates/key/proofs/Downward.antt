@@ -5,8 +5,8 @@ use Prim.Native.Nat.{ℕ, suc, ◌+◌, ◌-◌, ◌*◌, ◌/◌, ◌%◌, ◌^
 use native.Mathlib.Nat.{pow-suc, div-one, div-eq_of_lt, div-div-eq-div-mul}
 use native.Mathlib.Numerals.{add-one}
 use native.Mathlib.Omega.{arith}
-use Rattle.key.specs.declared.Form.TheVariants.{Block}
-use Rattle.key.specs.Form.{form_of}
+use Rattle.std.specs.Prelude.{Some}
+use Rattle.key.specs.Form.{form_of, span}
 use Rattle.key.specs.Promises.{joined}
 use Rattle.key.specs.Blocks.{Names}
 use Rattle.key.proofs.Powers.{pow-most}
@@ -22,7 +22,7 @@ pixel-digit {k} {key} {q} {d} n l = record { is = go }
     x : ℕ
     x = 5 * key + d + 1
 
-    go : form_of (suc k) x ≡ Block 0 (4 * q + d)
+    go : form_of (suc k) x ≡ Some (span 0 (4 * q + d))
     go =
         let low : x % 5 ^ 1 ≡ suc d = omega arith in
         let high : x / 5 ^ 1 ≡ key = omega arith in

@@ -11,9 +11,9 @@ use borrow.Author.Tests.{eq-eqb, ne_eqb}
 use lib.Arith.{digits_lt, digits_div, digits_mod}
 use lib.Dec.{eqb}
 use lib.Pow.{pow-add}
-use Rattle.key.specs.declared.Form.{Form}
-use Rattle.key.specs.declared.Form.TheVariants.{Block, Malformed}
-use Rattle.key.specs.Form.{form_of, from}
+use Rattle.std.specs.Prelude.{Option, None, Some}
+use Rattle.key.specs.declared.Span.{Span}
+use Rattle.key.specs.Form.{form_of, from, span}
 use Rattle.key.specs.Promises.{joined, form_up}
 use Rattle.key.proofs.Powers.{pow-least}
 use Rattle.key.proofs.Digits.{form-whole, form-gap, form-big, form-digit}
@@ -22,49 +22,51 @@ use Rattle.key.proofs.Blocks.{lies, form-at}
 -- ---- two forms, joined
 
 -- a form with nothing above it
-joined-alone : (j : ℕ) (f : Form) → joined j f (Block 0 0) ≡ f
+joined-alone : (j : ℕ) (f : Option Span) → joined j f (Some (span 0 0)) ≡ f
 unfolding joined
-joined-alone j (Block i s) = rw (zero-mul, zero-add i, zero-add s)
-joined-alone j Malformed = refl
+joined-alone j (Some b) = rw (zero-mul, zero-add b.exponent, zero-add b.start)
+joined-alone j None = refl
 
-pub joined-none : (j : ℕ) (f : Form) → joined j Malformed f ≡ Malformed
+pub joined-none : (j : ℕ) (f : Option Span) → joined j None f ≡ None
 unfolding joined
 joined-none j f = refl
 
-pub joined-above : (j : ℕ) (f : Form) → joined j f Malformed ≡ Malformed
+pub joined-above : (j : ℕ) (f : Option Span) → joined j f None ≡ None
 unfolding joined
-joined-above j (Block i s) = refl
-joined-above j Malformed = refl
+joined-above j (Some b) = refl
+joined-above j None = refl
 
 -- a pixel's key above
-pub joined-pixel : (j i s t : ℕ) → joined j (Block i s) (Block 0 t) ≡ Block i (t * 4 ^ j + s)
+pub joined-pixel : (j i s t : ℕ) → joined j (Some (span i s)) (Some (span 0 t)) ≡ Some (span i (t * 4 ^ j + s))
 unfolding joined
 joined-pixel j i s t = rw zero-add
 
 -- zeros below
-joined-zeros : (j h t : ℕ) → joined j (Block j 0) (Block h t) ≡ Block (h + j) (t * 4 ^ j)
+joined-zeros : (j h t : ℕ) → joined j (Some (span j 0)) (Some (span h t)) ≡ Some (span (h + j) (t * 4 ^ j))
 unfolding joined
 joined-zeros j h t = rw (eq-eqb j j refl, or-true, add-zero)
 
 -- a zero above, and a digit below
-pub joined-gap : (j i s h t : ℕ) → (i ≡ j → ⊥) → joined j (Block i s) (Block (suc h) t) ≡ Malformed
+pub joined-gap : (j i s h t : ℕ) → (i ≡ j → ⊥) → (h ≡ 0 → ⊥) → joined j (Some (span i s)) (Some (span h t)) ≡ None
 unfolding joined
-joined-gap j i s h t ne = rw (ne_eqb (suc h) 0 (λ e. omega arith), ne_eqb i j ne)
+joined-gap j i s h t ne some = rw (ne_eqb h 0 some, ne_eqb i j ne)
 
-joined-from : (j p : ℕ) (f g : Form) → from (p * 4 ^ j) (joined j f g) ≡ joined j f (from p g)
+joined-from : (j p : ℕ) (f g : Option Span) → from (p * 4 ^ j) (joined j f g) ≡ joined j f (from p g)
 unfolding joined from
-joined-from j p (Block i s) (Block h t) = go (eqb h 0 || eqb i j)
+joined-from j p (Some b) (Some above) = go (eqb above.exponent 0 || eqb b.exponent j)
   where
-    go : (b : Bool) → from (p * 4 ^ j) (cond b (Block (h + i) (t * 4 ^ j + s)) Malformed) ≡ cond b (Block (h + i) ((p + t) * 4 ^ j + s)) Malformed
-    go true = rw (add-mul p t (4 ^ j), add_assoc)
+    go : (c : Bool)
+        → from (p * 4 ^ j) (cond c (Some (span (above.exponent + b.exponent) (above.start * 4 ^ j + b.start))) None)
+        ≡ cond c (Some (span (above.exponent + b.exponent) ((p + above.start) * 4 ^ j + b.start))) None
+    go true = rw (add-mul p above.start (4 ^ j), add_assoc)
     go false = refl
-joined-from j p (Block i s) Malformed = refl
-joined-from j p Malformed g = refl
+joined-from j p (Some b) None = refl
+joined-from j p None g = refl
 
 -- ---- the form of a number, by its two parts
 
 -- only 0 is the whole picture's key
-not-whole : (j x : ℕ) {i s : ℕ} → (x ≡ 0 → ⊥) → form_of j x ≡ Block i s → i ≡ j → ⊥
+not-whole : (j x : ℕ) {i s : ℕ} → (x ≡ 0 → ⊥) → form_of j x ≡ Some (span i s) → i ≡ j → ⊥
 not-whole j x {i} ne e d = let l = rw d at (lies (form-at j x e)) in ne (omega (arith, l.keys))
 
 module _ (j low : ℕ) (small : low < 5 ^ j) where
@@ -86,20 +88,20 @@ module _ (j low : ℕ) (small : low < 5 ^ j) where
       omega (arith, whole, add-mul (q * 5 ^ k) r (5 ^ j), mul_assoc q (5 ^ k) (5 ^ j), ap (λ (x : ℕ). q * x) (scale k m e))
 
   -- above the low digits nothing is a key
-  none_above : (k high : ℕ) → form_of k high ≡ Malformed → joined j (form_of j low) (form_of k high) ≡ Malformed
+  none_above : (k high : ℕ) → form_of k high ≡ None → joined j (form_of j low) (form_of k high) ≡ None
   none_above k high e = ap (joined j (form_of j low)) e ∙ joined-above j (form_of j low)
 
   -- there are only zeros, and at least one
-  zeros-above : (k m : ℕ) → m ≡ k + j → form_of (suc m) low ≡ joined j (form_of j low) (Block (suc k) 0)
+  zeros-above : (k m : ℕ) → m ≡ k + j → form_of (suc m) low ≡ joined j (form_of j low) (Some (span (suc k) 0))
   zeros-above k m e =
       elim (ℕ_discrete low 0) [
         | yes z ↦ let same : suc m ≡ suc k + j = omega arith in rw (z, form-whole (suc m), form-whole j, joined-zeros, zero-mul, same) refl
         | no n ↦ form-gap m low n (omega (arith, few k m 0 e (pow-least 4 k), zero-mul (5 ^ j))) ∙ sym (go (form_of j low) refl n)
       ]
     where
-      go : (f : Form) → form_of j low ≡ f → (low ≡ 0 → ⊥) → joined j f (Block (suc k) 0) ≡ Malformed
-      go (Block i s) e n = joined-gap j i s k 0 (not-whole j low n e)
-      go Malformed e n = joined-none j (Block (suc k) 0)
+      go : (f : Option Span) → form_of j low ≡ f → (low ≡ 0 → ⊥) → joined j f (Some (span (suc k) 0)) ≡ None
+      go (Some b) e n = joined-gap j b.exponent b.start (suc k) 0 (not-whole j low n e) (λ z. omega arith)
+      go None e n = joined-none j (Some (span (suc k) 0))
 
   -- the first of k + 1 digits above them
   digit-above : (k m high : ℕ) → m ≡ k + j → 5 ^ k ≤ high → high < 5 ^ suc k

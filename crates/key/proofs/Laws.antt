@@ -16,3 +16,4 @@ pub use Rattle.key.proofs.Along.{fits-key, fits-block, fits-other}
 pub use Rattle.key.proofs.Joined.{form-cut, form-up}
 pub use Rattle.key.proofs.Upward.{ends-exponent}
 pub use Rattle.key.proofs.Strips.{strips-one, strips-exponent}
+pub use Rattle.key.proofs.Spans.{same-span, same-exponent, same-start}

@@ -13,6 +13,7 @@ use Rattle.key.specs.Promises.{low_digits, LevelBlock, LevelDigits}
 use Rattle.key.proofs.Powers.{pow-least}
 use Rattle.key.proofs.Digits.{form-whole, first-most, first-split}
 use Rattle.key.proofs.Blocks.{At, whole, quad, lies, at-form, form-at, first-digit}
+use Rattle.key.proofs.Spans.{same-exponent}
 
 -- ---- the digits of a number, over any base but 0
 
@@ -112,7 +113,7 @@ key-digits m d key = (to, from)
 -- a key has one level
 pub one-level : {m d e key : ℕ} → LevelBlock m d key → LevelBlock m e key → d ≡ e
 one-level {m} {d} {e} x y =
-    let same : m - d ≡ m - e = cc (x.names.is, y.names.is) in
+    let same : m - d ≡ m - e = same-exponent (sym x.names.is ∙ y.names.is) in
     omega arith
 
 -- the whole picture is key 0

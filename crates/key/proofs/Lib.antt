@@ -3,6 +3,7 @@ mod Squares
 mod Standing
 mod Bits
 mod Powers
+mod Spans
 mod Digits
 mod Blocks
 mod Joined

@@ -13,6 +13,7 @@ use Rattle.key.proofs.Powers.{pow-least}
 use Rattle.key.proofs.Digits.{form-whole}
 use Rattle.key.proofs.Blocks.{At, lies, at-form, form-at, stand, one_at}
 use Rattle.key.proofs.Pixels.{coarse, place-one, place-onto, place-div, pixel-at, block_at}
+use Rattle.key.proofs.Spans.{same-exponent, same-start}
 
 at : {m key i s : ℕ} → Names m key i s → At m key i s
 at {m} {key} n = form-at m key n.is
@@ -20,7 +21,7 @@ at {m} {key} n = form-at m key n.is
 -- ---- a key and its block determine each other
 
 pub one_block : {m key i s j t : ℕ} → Names m key i s → Names m key j t → (i ≡ j) × (s ≡ t)
-one_block x y = (cc, cc)
+one_block x y = let same = sym x.is ∙ y.is in (same-exponent same, same-start same)
 
 pub one_key : {m a b i s : ℕ} → Names m a i s → Names m b i s → a ≡ b
 one_key x y = one_at (at x) (at y)

@@ -10,17 +10,18 @@ use native.Mathlib.Decide.{dec_lt}
 use native.Mathlib.Omega.{arith}
 use lib.Arith.{digits_div, digits_mod}
 use lib.Dec.{lit<}
+use Rattle.std.specs.Prelude.{Option, None, Some}
 use Rattle.lists.proofs.Laws.{down-nested}
 use Rattle.key.specs.declared.Square.{Square}
-use Rattle.key.specs.declared.Form.{Form}
-use Rattle.key.specs.declared.Form.TheVariants.{Block, Malformed}
+use Rattle.key.specs.declared.Span.{Span}
 use Rattle.key.specs.Picture.{Pixel, place}
-use Rattle.key.specs.Form.{form_of, from}
+use Rattle.key.specs.Form.{form_of, from, span}
 use Rattle.key.specs.Blocks.{Names, SquareOf, Among}
 use Rattle.key.proofs.Powers.{pow-least}
 use Rattle.key.proofs.Digits.{form-whole, form-gap, form-digit, digit_split, digit-above}
 use Rattle.key.proofs.Pixels.{larger, no_place, place-corner, place-quadrant}
 use Rattle.key.proofs.Named.{one_block, block-named, block-lies, holds-own, holds_same}
+use Rattle.key.proofs.Spans.{same-exponent, same-start}
 
 -- the square of exponent i whose corner is the pixel in row r, column c
 abbrev pub square : ℕ → ℕ → ℕ → Square
@@ -68,7 +69,7 @@ square-inside {m} {key} {i} {r} {c} b p =
 
 -- ---- read from the small end, digit by digit
 
-pub no_names : {m key i s : ℕ} → form_of m key ≡ Malformed → Names m key i s → ⊥
+pub no_names : {m key i s : ℕ} → form_of m key ≡ None → Names m key i s → ⊥
 no_names e n = let d = sym e ∙ n.is in let z : ◌≡◌ {A = ℕ} 0 1 = cc in omega arith
 
 -- of the picture of one pixel
@@ -131,14 +132,14 @@ module _ (k key : ℕ) {i r c : ℕ} (S : SquareOf k (key % 5 ^ k) (square i r c
     unfolding from
     square-digit = record { pixel = inside; small = omega (arith, S.small); is = λ {i = j} {s} n. named n (form_of k (key % 5 ^ k)) refl }
       where
-        named : {j s : ℕ} → Names (suc k) (key % 5 ^ suc k) j s → (f : Form) → form_of k (key % 5 ^ k) ≡ f → (i ≡ j) × (place (r + d / 2 * 2 ^ k) (c + d % 2 * 2 ^ k) ≡ s)
-        named {j} {s} n (Block h t) e =
+        named : {j s : ℕ} → Names (suc k) (key % 5 ^ suc k) j s → (f : Option Span) → form_of k (key % 5 ^ k) ≡ f → (i ≡ j) × (place (r + d / 2 * 2 ^ k) (c + d % 2 * 2 ^ k) ≡ s)
+        named {j} {s} n (Some b) e =
             let below = S.is (record { is = e }) in
-            let all : Block h (d * 4 ^ k + t) ≡ Block j s = sym (first ∙ ap (from (d * 4 ^ k)) e) ∙ n.is in
-            let size : h ≡ j = cc in
-            let start : d * 4 ^ k + t ≡ s = cc in
+            let all : Some (span b.exponent (d * 4 ^ k + b.start)) ≡ Some (span j s) = sym (first ∙ ap (from (d * 4 ^ k)) e) ∙ n.is in
+            let size : b.exponent ≡ j = same-exponent all in
+            let start : d * 4 ^ k + b.start ≡ s = same-start all in
             (below.0 ∙ size, there ∙ omega (arith, below.1, start))
-        named {j} {s} n Malformed e = absurd (no_names (first ∙ ap (from (d * 4 ^ k)) e) n)
+        named {j} {s} n None e = absurd (no_names (first ∙ ap (from (d * 4 ^ k)) e) n)
 
 -- ---- along the digits: k are read, and what is left is above them
 

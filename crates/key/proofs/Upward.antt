@@ -12,10 +12,10 @@ use lib.Arith.{digits_mod}
 use lib.Dec.{eqb, lit<}
 use lib.ListN.{get_or}
 use lib.Pow.{pow-add}
+use Rattle.std.specs.Prelude.{Option, None, Some}
 use Rattle.lists.proofs.Laws.{table-written, table-entry}
-use Rattle.key.specs.declared.Form.{Form}
-use Rattle.key.specs.declared.Form.TheVariants.{Block, Malformed}
-use Rattle.key.specs.Form.{form_of}
+use Rattle.key.specs.declared.Span.{Span}
+use Rattle.key.specs.Form.{form_of, span}
 use Rattle.key.specs.Promises.{joined}
 use Rattle.key.specs.Blocks.{Names}
 use Rattle.key.specs.Reading.{EndsIn, start_up, starts_table}
@@ -26,6 +26,7 @@ use Rattle.key.proofs.Joined.{form-cut}
 use Rattle.key.proofs.Around.{key-zeros}
 use Rattle.key.proofs.Named.{block-lies}
 use Rattle.key.proofs.Reading.{digit-told}
+use Rattle.key.proofs.Spans.{same-start}
 
 -- ---- the zeros: r are read, and what is left is above them
 
@@ -69,28 +70,28 @@ ends-exponent {m} {key} {i} {s} {r} n e = go (dec_lt r i)
 -- ---- the digits before them
 
 -- a digit, and the start of the block above it
-joined-start : (a b t : ℕ) (g : Form) {i s : ℕ} → joined 1 (Block a b) g ≡ Block i s → ((h u : ℕ) → g ≡ Block h u → t ≡ u) → b + 4 * t ≡ s
+joined-start : (a b t : ℕ) (g : Option Span) {i s : ℕ} → joined 1 (Some (span a b)) g ≡ Some (span i s) → ((h u : ℕ) → g ≡ Some (span h u) → t ≡ u) → b + 4 * t ≡ s
 unfolding joined
-joined-start a b t (Block h u) {i} {s} e is = go (eqb h 0 || eqb a 1) e
+joined-start a b t (Some above) {i} {s} e is = go (eqb above.exponent 0 || eqb a 1) e
   where
-    go : (c : Bool) → cond c (Block (h + a) (u * 4 ^ 1 + b)) Malformed ≡ Block i s → b + 4 * t ≡ s
-    go true x = let z : u * 4 ^ 1 + b ≡ s = cc in omega (arith, is h u refl)
+    go : (c : Bool) → cond c (Some (span (above.exponent + a) (above.start * 4 ^ 1 + b))) None ≡ Some (span i s) → b + 4 * t ≡ s
+    go true x = let z : above.start * 4 ^ 1 + b ≡ s = same-start x in omega (arith, is above.exponent above.start refl)
     go false x = let z : ◌≡◌ {A = ℕ} 0 1 = cc in omega arith
-joined-start a b t Malformed e is = let z : ◌≡◌ {A = ℕ} 0 1 = cc in omega arith
+joined-start a b t None e is = let z : ◌≡◌ {A = ℕ} 0 1 = cc in omega arith
 
-start-form : (m key : ℕ) {i s : ℕ} → form_of m key ≡ Block i s → start_up m key ≡ s
+start-form : (m key : ℕ) {i s : ℕ} → form_of m key ≡ Some (span i s) → start_up m key ≡ s
 unfolding start_up
 start-form zero key {i} e = omega (arith, (lies (form-at 0 key e)).span, pow-least 3 i)
 start-form (suc k) key {i} {s} e = go (λ h u. start-form k (key / 5) {i = h} {s = u}) (ℕ_discrete (key % 5) 0)
   where
-    cut : joined 1 (form_of 1 (key % 5)) (form_of k (key / 5)) ≡ Block i s
+    cut : joined 1 (form_of 1 (key % 5)) (form_of k (key / 5)) ≡ Some (span i s)
     cut = sym (form-cut k 1 key) ∙ ap (λ (m : ℕ). form_of m key) (add-one k) ∙ e
 
-    with-digit : ((h u : ℕ) → form_of k (key / 5) ≡ Block h u → start_up k (key / 5) ≡ u) → (a b : ℕ) → form_of 1 (key % 5) ≡ Block a b
+    with-digit : ((h u : ℕ) → form_of k (key / 5) ≡ Some (span h u) → start_up k (key / 5) ≡ u) → (a b : ℕ) → form_of 1 (key % 5) ≡ Some (span a b)
         → b + 4 * start_up k (key / 5) ≡ s
     with-digit above a b d = joined-start a b (start_up k (key / 5)) (form_of k (key / 5)) (rw d at cut) above
 
-    go : ((h u : ℕ) → form_of k (key / 5) ≡ Block h u → start_up k (key / 5) ≡ u) → Dec (key % 5 ≡ 0) → key % 5 - 1 + 4 * start_up k (key / 5) ≡ s
+    go : ((h u : ℕ) → form_of k (key / 5) ≡ Some (span h u) → start_up k (key / 5) ≡ u) → Dec (key % 5 ≡ 0) → key % 5 - 1 + 4 * start_up k (key / 5) ≡ s
     go above (yes z) = omega (arith, z, with-digit above 1 0 (rw z (form-whole 1)))
     go above (no z) = with-digit above 0 (key % 5 - 1) (digit-told (omega (arith, z)) (mod-lt key (lit< tt)))
 

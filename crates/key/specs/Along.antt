@@ -1,10 +1,8 @@
 -- Along the keys, from block to block: the place that is reached, and the largest block that starts there.
 -- Assumes nothing.
-use Rattle.std.specs.Prelude.{◌≡◌, ◌↔◌, List, map, ℕ, ◌+◌, ◌%◌, ◌^◌, ◌≤◌, ◌<◌, get_or}
+use Rattle.std.specs.Prelude.{Option, None, Some, ◌≡◌, ◌↔◌, List, map, ℕ, ◌+◌, ◌%◌, ◌^◌, ◌≤◌, ◌<◌, get_or}
 use Rattle.lists.specs.Lists.{up_from}
 use Rattle.key.specs.declared.Spot.{Spot}
-use Rattle.key.specs.declared.Fit.{Fit}
-use Rattle.key.specs.declared.Fit.TheVariants.{Block, Other}
 use Rattle.key.specs.Key.{ones}
 use Rattle.key.specs.Blocks.{Names}
 
@@ -29,9 +27,9 @@ pub record Stands (m : ℕ) (s : Spot) : Type 0 where
   pub aligned : (i : ℕ) → i ≤ m → (i ≤ s.top) ↔ (s.place % 4 ^ i ≡ 0)
 
 -- the key is that of a block that starts at place p, or of none
-pub data ToldFit (m p key : ℕ) : Fit → Type 0 where
-  block : {i : ℕ} → Names m key i p → ToldFit m p key (Block i)
-  other : ((i : ℕ) → Names m key i p → ⊥) → ToldFit m p key Other
+pub data ToldFit (m p key : ℕ) : Option ℕ → Type 0 where
+  block : {i : ℕ} → Names m key i p → ToldFit m p key (Some i)
+  other : ((i : ℕ) → Names m key i p → ⊥) → ToldFit m p key None
 
 -- the key is that of a block that starts at place p
 pub record Begins (m p key : ℕ) : Type 0 where

@@ -1,9 +1,8 @@
 -- What a key is read by from the small end: the zeros that it ends in, and its digits by twos; of a block's key, where its span starts.
 -- Assumes nothing.
-use Rattle.std.specs.Prelude.{◌≡◌, List, map, ℕ, zero, suc, ◌+◌, ◌-◌, ◌*◌, ◌/◌, ◌%◌, ◌^◌, ◌≤◌, ◌<◌}
+use Rattle.std.specs.Prelude.{cond, eqb, Option, None, Some, ◌≡◌, List, map, ℕ, zero, suc, ◌+◌, ◌-◌, ◌*◌, ◌/◌, ◌%◌, ◌^◌, ◌≤◌, ◌<◌}
 use Rattle.lists.specs.Lists.{up_from}
-use Rattle.key.specs.declared.Form.{Form}
-use Rattle.key.specs.declared.Form.TheVariants.{Block, Malformed}
+use Rattle.key.specs.declared.Span.{Span}
 use Rattle.key.specs.Form.{form_of}
 
 -- a number is what is left and so many zeros behind it, and of the zeros that it ends in fewer than b are left
@@ -12,10 +11,9 @@ pub record Strips (b key zeros rest : ℕ) : Type 0 where
   pub fewer : rest % 5 ^ b ≡ 0 → ⊥
 
 -- the place of a pixel among 16, or 16
-unfoldable pub place_or16 : Form → ℕ
-place_or16 (Block zero s) = s
-place_or16 (Block (suc i) s) = 16
-place_or16 Malformed = 16
+unfoldable pub place_or16 : Option Span → ℕ
+place_or16 (Some b) = cond (eqb b.exponent 0) b.start 16
+place_or16 None = 16
 
 -- two digits as a key of their own: the pixel's place, or 16 where one of them is 0, by a table
 unfoldable pub pairs_table : List ℕ

@@ -1,14 +1,7 @@
 // Locational keys, apart from maps: what they are, and their laws. The functions stand in the crates `blocks`, `digits` and `spots`.
 #![tactic(auto)]
 
-// What a number is as a key: a block, by its exponent and the place at which its span starts, or malformed.
-#[derive(Clone, Copy)]
-pub enum Form {
-    Block { exponent: u32, start: u32 },
-    Malformed,
-}
-
-// A block, by its exponent and the place at which its span starts.
+// A block, by its exponent and the place at which its span starts. As a key a number is one, or malformed.
 #[derive(Clone, Copy)]
 pub struct Span {
     pub exponent: u32,
@@ -36,11 +29,4 @@ pub struct Spot {
     pub place: u32,
     pub key: u32,
     pub top: u32,
-}
-
-// What a key is at a place: that of a block that starts there, or another.
-#[derive(Clone, Copy)]
-pub enum Fit {
-    Block { exponent: u32 },
-    Other,
 }
