@@ -14,8 +14,9 @@ use lib.ListN.{length, take, drop, get_or, set, length-append, length-drop}
 use lib.Seq.{get_or-take, get_or-drop, take_at, drop_at, set_at, drop-drop, drop-cons, drop-length, sets, sets-eq}
 use borrow.Author.Tests.{ltb-false, eqb-false, eqb-true, lt-ltb, le-ltb, eq-eqb, ne_eqb, not-false}
 use Rattle.lists.proofs.Laws.{never, neither}
-use Rattle.answers.specs.declared.Verdict.TheVariants.{Passed, Refused}
-use Rattle.answers.specs.Refusals.{refusal, verdict}
+use Rattle.std.specs.Prelude.{Ok}
+use Rattle.answers.specs.declared.Cause.TheVariants.{BadM, BadCount}
+use Rattle.answers.specs.Refusals.{refusal, refuse, verdict}
 use Rattle.answers.specs.Sizes.{picture_refusals, count_refusals, wrong_count, size_refusals_in, SizedIn}
 use Rattle.answers.specs.Cells.{overwrite}
 use Rattle.answers.proofs.Tables.{answer-none, refusal-held, refusal-clear, append-refused, passed-one, passed-next}
@@ -23,16 +24,16 @@ use Rattle.answers.proofs.Tables.{answer-none, refusal-held, refusal-clear, appe
 -- ---- the sizes of a map
 
 module _ (m : ℕ) where
-  pub picture-passed : (verdict (picture_refusals m) ≡ Passed) ↔ (m ≤ 12)
+  pub picture-passed : (verdict (picture_refusals m) ≡ Ok tt) ↔ (m ≤ 12)
   unfolding picture_refusals
-  picture-passed = (λ e. ltb-false 12 m ((passed-one (ltb 12 m) 1 0).0 e), λ l. (passed-one (ltb 12 m) 1 0).1 (le-ltb 12 m l))
+  picture-passed = (λ e. ltb-false 12 m ((passed-one (ltb 12 m) BadM 0).0 e), λ l. (passed-one (ltb 12 m) BadM 0).1 (le-ltb 12 m l))
 
-  pub picture-refused : 12 < m → verdict (picture_refusals m) ≡ Refused 1 0
+  pub picture-refused : 12 < m → verdict (picture_refusals m) ≡ refuse BadM 0
   unfolding picture_refusals
-  picture-refused l = refusal-held Refused 1 0 [] Passed (lt-ltb 12 m l)
+  picture-refused l = refusal-held refuse BadM 0 [] (Ok tt) (lt-ltb 12 m l)
 
 module _ {whole : Bool} {m keys classes : ℕ} where
-  pub sized : (verdict (size_refusals_in whole m keys classes) ≡ Passed) ↔ SizedIn whole m keys classes
+  pub sized : (verdict (size_refusals_in whole m keys classes) ≡ Ok tt) ↔ SizedIn whole m keys classes
   unfolding size_refusals_in picture_refusals count_refusals wrong_count
   sized = (to, from)
     where
@@ -44,10 +45,10 @@ module _ {whole : Bool} {m keys classes : ℕ} where
       none true s = ne_eqb keys 0 (λ e. omega (arith, s refl))
       none false s = refl
 
-      to : verdict (refusal (ltb 12 m) 1 0 ∷ refusal (wrong_count whole keys classes) 2 0 ∷ []) ≡ Passed → SizedIn whole m keys classes
+      to : verdict (refusal (ltb 12 m) BadM 0 ∷ refusal (wrong_count whole keys classes) BadCount 0 ∷ []) ≡ Ok tt → SizedIn whole m keys classes
       to e =
-          let one = (passed-next (ltb 12 m) 1 0 _).0 e in
-          let two = (passed-next (wrong_count whole keys classes) 2 0 []).0 one.1 in
+          let one = (passed-next (ltb 12 m) BadM 0 _).0 e in
+          let two = (passed-next (wrong_count whole keys classes) BadCount 0 []).0 one.1 in
           let most = neither (not (eqb keys classes) || (whole && eqb keys 0)) (ltb 65536 keys) two.0 in
           let same = neither (not (eqb keys classes)) (whole && eqb keys 0) most.0 in
           record {
@@ -57,27 +58,27 @@ module _ {whole : Bool} {m keys classes : ℕ} where
             most = ltb-false 65536 keys most.1;
           }
 
-      from : SizedIn whole m keys classes → verdict (refusal (ltb 12 m) 1 0 ∷ refusal (wrong_count whole keys classes) 2 0 ∷ []) ≡ Passed
+      from : SizedIn whole m keys classes → verdict (refusal (ltb 12 m) BadM 0 ∷ refusal (wrong_count whole keys classes) BadCount 0 ∷ []) ≡ Ok tt
       from s =
           let right : wrong_count whole keys classes ≡ false = rw (eq-eqb keys classes s.same, none whole s.some, le-ltb 65536 keys s.most) in
-          (passed-next (ltb 12 m) 1 0 _).1 (le-ltb 12 m s.small, (passed-next (wrong_count whole keys classes) 2 0 []).1 (right, answer-none Refused Passed))
+          (passed-next (ltb 12 m) BadM 0 _).1 (le-ltb 12 m s.small, (passed-next (wrong_count whole keys classes) BadCount 0 []).1 (right, answer-none refuse (Ok tt)))
 
 -- what is asked of a whole map is more
 pub sized-sparse : {whole : Bool} {m keys classes : ℕ} → SizedIn whole m keys classes → SizedIn false m keys classes
 sized-sparse s = record { small = s.small; same = s.same; some = λ e. never (sym e); most = s.most }
 
 module _ (whole : Bool) (m keys classes : ℕ) where
-  pub over-12 : 12 < m → verdict (size_refusals_in whole m keys classes) ≡ Refused 1 0
+  pub over-12 : 12 < m → verdict (size_refusals_in whole m keys classes) ≡ refuse BadM 0
   unfolding size_refusals_in
-  over-12 l = append-refused Refused (picture_refusals m) _ _ (picture-refused m l)
+  over-12 l = append-refused refuse (picture_refusals m) _ _ (picture-refused m l)
 
-  pub not-sized : m ≤ 12 → (SizedIn whole m keys classes → ⊥) → verdict (size_refusals_in whole m keys classes) ≡ Refused 2 0
+  pub not-sized : m ≤ 12 → (SizedIn whole m keys classes → ⊥) → verdict (size_refusals_in whole m keys classes) ≡ refuse BadCount 0
   unfolding size_refusals_in picture_refusals count_refusals
   not-sized l wrong = go (wrong_count whole keys classes) refl
     where
-      go : (t : Bool) → wrong_count whole keys classes ≡ t → verdict (refusal (ltb 12 m) 1 0 ∷ refusal (wrong_count whole keys classes) 2 0 ∷ []) ≡ Refused 2 0
-      go true e = refusal-clear Refused 1 0 _ _ (le-ltb 12 m l) ∙ refusal-held Refused 2 0 [] _ e
-      go false e = absurd (wrong (sized.0 (refusal-clear Refused 1 0 _ _ (le-ltb 12 m l) ∙ refusal-clear Refused 2 0 [] _ e ∙ answer-none Refused Passed)))
+      go : (t : Bool) → wrong_count whole keys classes ≡ t → verdict (refusal (ltb 12 m) BadM 0 ∷ refusal (wrong_count whole keys classes) BadCount 0 ∷ []) ≡ refuse BadCount 0
+      go true e = refusal-clear refuse BadM 0 _ _ (le-ltb 12 m l) ∙ refusal-held refuse BadCount 0 [] _ e
+      go false e = absurd (wrong (sized.0 (refusal-clear refuse BadM 0 _ _ (le-ltb 12 m l) ∙ refusal-clear refuse BadCount 0 [] _ e ∙ answer-none refuse (Ok tt))))
 
 -- of slices that are not both empty the same is asked, whether the map is to be whole or not
 sizes-some : (m : ℕ) {keys classes : ℕ} → (keys ≡ 0 → classes ≡ 0 → ⊥) → size_refusals_in false m keys classes ≡ size_refusals_in true m keys classes
@@ -89,7 +90,7 @@ sizes-some m {keys} {classes} some = go (ℕ_discrete keys classes)
     go (no n) = rw (ne_eqb keys classes n)
 
 -- and so it is of all, but where a whole map is refused for want of records
-pub sizes-same : (m : ℕ) {keys classes : ℕ} → (verdict (size_refusals_in true m keys classes) ≡ Refused 2 0 → keys ≡ 0 → classes ≡ 0 → ⊥)
+pub sizes-same : (m : ℕ) {keys classes : ℕ} → (verdict (size_refusals_in true m keys classes) ≡ refuse BadCount 0 → keys ≡ 0 → classes ≡ 0 → ⊥)
     → verdict (size_refusals_in false m keys classes) ≡ verdict (size_refusals_in true m keys classes)
 sizes-same m {keys} {classes} some = go (dec_lt 12 m)
   where

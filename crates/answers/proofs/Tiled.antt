@@ -8,8 +8,10 @@ use native.Mathlib.Decide.{dec_lt}
 use native.Mathlib.Omega.{arith}
 use lib.Dec.{ltb}
 use borrow.Author.Tests.{ltb-false, lt-ltb, le-ltb}
-use Rattle.answers.specs.declared.Verdict.TheVariants.{Passed, Refused}
-use Rattle.answers.specs.Refusals.{Refusal, refusal, verdict}
+use Rattle.std.specs.Prelude.{Ok}
+use Rattle.answers.specs.declared.Cause.{Cause}
+use Rattle.answers.specs.declared.Cause.TheVariants.{BadM, BadTile}
+use Rattle.answers.specs.Refusals.{Refusal, refusal, refuse, verdict}
 use Rattle.answers.specs.Sizes.{picture_refusals, tile_refusals}
 use Rattle.answers.specs.After.{After, after, tiled_for}
 use Rattle.answers.proofs.Tables.{refusal-held, passed-one, passed-append, append-passed, append-refused, on-passed, on-refused}
@@ -17,28 +19,28 @@ use Rattle.answers.proofs.Cells.{picture-passed, picture-refused}
 
 module _ (m top : ℕ) where
   abbrev over : List Refusal
-  over = refusal (ltb m top) 17 0 ∷ []
+  over = refusal (ltb m top) BadTile 0 ∷ []
 
-  pub tile-large : 12 < m → verdict (tile_refusals m top) ≡ Refused 1 0
+  pub tile-large : 12 < m → verdict (tile_refusals m top) ≡ refuse BadM 0
   unfolding tile_refusals
-  tile-large l = append-refused Refused (picture_refusals m) over _ (picture-refused m l)
+  tile-large l = append-refused refuse (picture_refusals m) over _ (picture-refused m l)
 
-  pub tile-over : m ≤ 12 → m < top → verdict (tile_refusals m top) ≡ Refused 17 0
+  pub tile-over : m ≤ 12 → m < top → verdict (tile_refusals m top) ≡ refuse BadTile 0
   unfolding tile_refusals
-  tile-over l h = append-passed Refused (picture_refusals m) over _ ((picture-passed m).1 l) ∙ refusal-held Refused 17 0 [] _ (lt-ltb m top h)
+  tile-over l h = append-passed refuse (picture_refusals m) over _ ((picture-passed m).1 l) ∙ refusal-held refuse BadTile 0 [] _ (lt-ltb m top h)
 
-  pub tile-passed : (verdict (tile_refusals m top) ≡ Passed) ↔ ((m ≤ 12) × (top ≤ m))
+  pub tile-passed : (verdict (tile_refusals m top) ≡ Ok tt) ↔ ((m ≤ 12) × (top ≤ m))
   unfolding tile_refusals
   tile-passed =
       let both = passed-append (picture_refusals m) over in
-      let own = passed-one (ltb m top) 17 0 in (
+      let own = passed-one (ltb m top) BadTile 0 in (
         λ e. let t = both.0 e in ((picture-passed m).0 t.0, ltb-false m top (own.0 t.1)),
         λ t. both.1 ((picture-passed m).1 t.0, own.1 (le-ltb m top t.1)),
       )
 
-  module _ {A S : Type 0} (refuse : ℕ → ℕ → A) (lent : S) (o : After A S) where
+  module _ {A S : Type 0} (refuse : Cause → ℕ → A) (lent : S) (o : After A S) where
     -- blocks no larger than the picture change no refusal of what gives 1 by itself
-    pub tiled-within : top ≤ m → (12 < m → o ≡ after (refuse 1 0) lent) → tiled_for refuse m top lent o ≡ o
+    pub tiled-within : top ≤ m → (12 < m → o ≡ after (refuse BadM 0) lent) → tiled_for refuse m top lent o ≡ o
     tiled-within l one = go (dec_lt 12 m)
       where
         go : Dec (12 < m) → tiled_for refuse m top lent o ≡ o

@@ -6,23 +6,25 @@ use mathlib.Core.List.{List, [], ◌∷◌, ◌++◌}
 use Prim.Native.Nat.{ℕ, ◌<◌}
 use native.Mathlib.Omega.{arith}
 use Rattle.lists.proofs.Laws.{never}
-use Rattle.answers.specs.Refusals.{Refusal, refusal, answer}
+use Rattle.answers.specs.declared.Cause.{Cause}
+use Rattle.answers.specs.declared.Cause.TheVariants.{ShortRoom, BadTile}
+use Rattle.answers.specs.Refusals.{Refusal, refusal, answer, number}
 use Rattle.answers.specs.Sizes.{tile_refusals}
 use Rattle.answers.specs.After.{room_refusals}
 use Rattle.answers.proofs.Numbered.{Numbered, none, more, numbered-picture}
 
 pub data Without (k : ℕ) : List Refusal → Type 0 where
   without-none : Without k []
-  without_more : {r : Refusal} {rs : List Refusal} → (r.holds ≡ true → r.number ≡ k → ⊥) → Without k rs → Without k (r ∷ rs)
+  without_more : {r : Refusal} {rs : List Refusal} → (r.holds ≡ true → number r.cause ≡ k → ⊥) → Without k rs → Without k (r ∷ rs)
 
 module _ {k : ℕ} where
   -- a refusal of another number
-  pub without_other : {b : Bool} (n : ℕ) {p : ℕ} {rs : List Refusal} → (n ≡ k → ⊥) → Without k rs → Without k (refusal b n p ∷ rs)
-  without_other n other W = without_more (λ h e. other e) W
+  pub without_other : {b : Bool} (c : Cause) {p : ℕ} {rs : List Refusal} → (number c ≡ k → ⊥) → Without k rs → Without k (refusal b c p ∷ rs)
+  without_other c other W = without_more (λ h e. other e) W
 
   -- and one that does not hold
-  pub without-clear : {b : Bool} (n : ℕ) {p : ℕ} {rs : List Refusal} → b ≡ false → Without k rs → Without k (refusal b n p ∷ rs)
-  without-clear n clear W = without_more (λ h e. never (sym h ∙ clear)) W
+  pub without-clear : {b : Bool} (c : Cause) {p : ℕ} {rs : List Refusal} → b ≡ false → Without k rs → Without k (refusal b c p ∷ rs)
+  without-clear c clear W = without_more (λ h e. never (sym h ∙ clear)) W
 
   pub without-append : {rs ss : List Refusal} → Without k rs → Without k ss → Without k (rs ++ ss)
   without-append without-none b = b
@@ -34,19 +36,19 @@ module _ {k : ℕ} where
 
   pub without-room : (room needed : ℕ) → (8 ≡ k → ⊥) → Without k (room_refusals room needed)
   unfolding room_refusals
-  without-room room needed other = without_other 8 other without-none
+  without-room room needed other = without_other ShortRoom other without-none
 
   pub without-tile : (m top : ℕ) → 1 < k → (17 ≡ k → ⊥) → Without k (tile_refusals m top)
   unfolding tile_refusals
-  without-tile m top l other = without-append (without-over (numbered-picture {most = 1} m (omega arith)) l) (without_other 17 other without-none)
+  without-tile m top l other = without-append (without-over (numbered-picture {most = 1} m (omega arith)) l) (without_other BadTile other without-none)
 
 -- an answer whose number is not k stays such behind the table
-pub without-said : {A : Type 0} (refuse : ℕ → ℕ → A) (number : A → ℕ) → ((n p : ℕ) → number (refuse n p) ≡ n) → {k : ℕ} {rs : List Refusal} {a : A}
-    → Without k rs → (number a ≡ k → ⊥) → number (answer refuse rs a) ≡ k → ⊥
+pub without-said : {A : Type 0} (refuse : Cause → ℕ → A) (say : A → ℕ) → ((c : Cause) (p : ℕ) → say (refuse c p) ≡ number c) → {k : ℕ} {rs : List Refusal} {a : A}
+    → Without k rs → (say a ≡ k → ⊥) → say (answer refuse rs a) ≡ k → ⊥
 unfolding answer
-without-said refuse number tells without-none other = other
-without-said refuse number tells {k} {a = a} (without_more {r} {rs} h W) other = go r.holds refl (without-said refuse number tells W other)
+without-said refuse say tells without-none other = other
+without-said refuse say tells {k} {a = a} (without_more {r} {rs} h W) other = go r.holds refl (without-said refuse say tells W other)
   where
-    go : (t : Bool) → r.holds ≡ t → (number (answer refuse rs a) ≡ k → ⊥) → number (cond t (refuse r.number r.place) (answer refuse rs a)) ≡ k → ⊥
-    go true e ih z = h e (sym (tells r.number r.place) ∙ z)
+    go : (t : Bool) → r.holds ≡ t → (say (answer refuse rs a) ≡ k → ⊥) → say (cond t (refuse r.cause r.place) (answer refuse rs a)) ≡ k → ⊥
+    go true e ih z = h e (sym (tells r.cause r.place) ∙ z)
     go false e ih z = ih z
