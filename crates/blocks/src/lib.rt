@@ -13,43 +13,43 @@ mod tables;
 
 use tables::{FOURS, SPREAD};
 
-// The table, to be lent to `pixel_key` and `block_key`: whoever makes many keys makes it once.
-pub fn spread_table() -> [u32; 256]
-    ensures { result ≡ spreads }
+// The table of E.
+pub fn spread_table() -> &'static [u32; 256]
+    ensures { result.now ≡ spreads }
 {
-    SPREAD
+    &SPREAD
 }
 
 // E of eight bits, as the table has it.
-fn entry(table: &[u32; 256], x: u16) -> u32
-    requires { (table.now ≡ spreads) × (x < 256) }
+fn entry(x: u16) -> u32
+    requires { x < 256 }
     ensures { result ≡ get_or spreads x 0 }
 {
-    table[x as usize]
+    spread_table()[x as usize]
 }
 
 // E of a row, of a column, and of a power of two up to 2^12: read for the low eight bits, and again, times 5^8, for the rest.
-fn spread(table: &[u32; 256], x: u16) -> u32
-    requires { (table.now ≡ spreads) × (x < 2 ^ 13) }
+fn spread(x: u16) -> u32
+    requires { x < 2 ^ 13 }
     ensures { result ≡ E x }
 {
-    entry(table, x % 256) + 390625 * entry(table, x / 256)
+    entry(x % 256) + 390625 * entry(x / 256)
 }
 
 // How many keys a block of exponent k has: E of one bit.
-pub fn pow5(table: &[u32; 256], k: u32) -> u32
-    requires { (table.now ≡ spreads) × (k ≤ 12) }
+pub fn pow5(k: u32) -> u32
+    requires { k ≤ 12 }
     ensures { Power 5 k result }
 {
-    spread(table, 1 << k)
+    spread(1 << k)
 }
 
 // k digits 1: E of as many bits.
-fn ones(table: &[u32; 256], k: u32) -> u32
-    requires { (table.now ≡ spreads) × (k ≤ 12) }
+fn ones(k: u32) -> u32
+    requires { k ≤ 12 }
     ensures { result ≡ ones k }
 {
-    spread(table, (1 << k) - 1)
+    spread((1 << k) - 1)
 }
 
 // How many rows a block of exponent i has, and how many columns.
@@ -68,43 +68,41 @@ pub fn pow4(k: u32) -> u32
     1 << (2 * k)
 }
 
-pub fn pixel_key(table: &[u32; 256], m: u32, row: u16, col: u16) -> u32
-    requires { (table.now ≡ spreads) × (m ≤ 12) × Pixel m row col }
+pub fn pixel_key(m: u32, row: u16, col: u16) -> u32
+    requires { (m ≤ 12) × Pixel m row col }
     ensures { result ≡ pixel_key m row col }
 {
-    ones(table, m) + 2 * spread(table, row) + spread(table, col)
+    ones(m) + 2 * spread(row) + spread(col)
 }
 
 // The key of the block of exponent i that holds the pixel: i digits 1 below that of the block's first pixel.
-pub fn block_key(table: &[u32; 256], m: u32, i: u32, row: u16, col: u16) -> u32
-    requires { (table.now ≡ spreads) × (m ≤ 12) × (i ≤ m) × Pixel m row col }
+pub fn block_key(m: u32, i: u32, row: u16, col: u16) -> u32
+    requires { (m ≤ 12) × (i ≤ m) × Pixel m row col }
     ensures { result ≡ block_key m i row col }
 {
-    pixel_key(table, m, (row >> i) << i, (col >> i) << i) - ones(table, i)
+    pixel_key(m, (row >> i) << i, (col >> i) << i) - ones(i)
 }
 
-fn fours_table() -> [u8; 16]
-    ensures { result ≡ fours }
+fn fours_table() -> &'static [u8; 16]
+    ensures { result.now ≡ fours }
 {
-    FOURS
+    &FOURS
 }
 
 // Four bits, spread over the powers of 4.
-fn four_bits(table: &[u8; 16], x: u16) -> u32
-    requires { (table.now ≡ fours) × (x < 16) }
+fn four_bits(x: u16) -> u32
+    requires { x < 16 }
     ensures { result ≡ spread 4 x }
 {
-    table[x as usize] as u32
+    fours_table()[x as usize] as u32
 }
 
 // So those of a row or a column, four at a time.
-fn bits_apart(table: &[u8; 16], x: u16) -> u32
-    requires { (table.now ≡ fours) × (x < 2 ^ 12) }
+fn bits_apart(x: u16) -> u32
+    requires { x < 2 ^ 12 }
     ensures { result ≡ spread 4 x }
 {
-    four_bits(table, x % 16)
-        + 256 * four_bits(table, x / 16 % 16)
-        + 65536 * four_bits(table, x / 256)
+    four_bits(x % 16) + 256 * four_bits(x / 16 % 16) + 65536 * four_bits(x / 256)
 }
 
 // The place of a pixel in key order.
@@ -112,14 +110,12 @@ pub fn place(row: u16, col: u16) -> u32
     requires { Pixel 12 row col }
     ensures { result ≡ place row col }
 {
-    let table = fours_table();
-    2 * bits_apart(&table, row) + bits_apart(&table, col)
+    2 * bits_apart(row) + bits_apart(col)
 }
 
 pub fn alignment(m: u32, x: u16) -> u32
     requires { m ≤ 12 }
     ensures { result ≡ alignment m x }
 {
-    let z = u16::trailing_zeros(x);
-    if z < m { z } else { m }
+    x.trailing_zeros().min(m)
 }

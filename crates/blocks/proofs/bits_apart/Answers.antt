@@ -11,7 +11,7 @@ thrice : (s : Start) → spread 4 s.args.x ≡ spread 4 (s.args.x % 16) + 256 * 
 thrice s = spread-thrice s.args.x
 
 small : (s : Start) → 3 * spread 4 s.args.x < 4 ^ 12
-small s = spread-lt 3 12 s.args.x s.requires.1
+small s = spread-lt 3 12 s.args.x s.requires
 
 pub overflow_mul-result : goal.overflow_mul-result
 overflow_mul-result c = let s = c.before.before in omega (arith, thrice s, small s)

@@ -4,7 +4,7 @@ use Prim.Native.Nat.{ℕ, ◌+◌, ◌*◌, ◌/◌, ◌%◌, ◌^◌, ◌<◌}
 use native.Mathlib.Nat.{mod-eq_of_lt, div-mul-le_self}
 use native.Mathlib.Omega.{arith}
 use Rattle.key.specs.Key.{pixel_key, block_key, ones}
-use Rattle.key.proofs.Loops.{corner-pixel, corner-key}
+use Rattle.key.proofs.Loops.{corner-key}
 use Rattle.blocks.proofs.block_key.Goals as goal
 use Rattle.blocks.proofs.block_key.Goals.{After-pixel_key, Start}
 
@@ -19,14 +19,11 @@ module _ (c : Start) where
   col : c.args.col / 2 ^ c.args.i * 2 ^ c.args.i % 65536 ≡ c.args.col / 2 ^ c.args.i * 2 ^ c.args.i
   col = kept c.args.i c.args.col (omega arith)
 
-pub pixel_key-requires : goal.pixel_key-requires
-pixel_key-requires c = (c.requires.0, c.requires.1, omega (arith, row c, col c, corner-pixel c.args.i c.requires.3))
-
 -- the corner's key
 corner : (c : After-pixel_key) → block_key c.args.m c.args.i c.args.row c.args.col + ones c.args.i ≡ c.pixel_key.result
 corner c =
     let s = c.before in
-    corner-key s.args.i s.requires.2 s.requires.3 ∙ ap₂ (pixel_key s.args.m) (sym (row s)) (sym (col s)) ∙ sym c.pixel_key.ensures
+    corner-key s.args.i s.requires.1 s.requires.2 ∙ ap₂ (pixel_key s.args.m) (sym (row s)) (sym (col s)) ∙ sym c.pixel_key.ensures
 
 pub overflow_sub-result : goal.overflow_sub-result
 overflow_sub-result c = omega (arith, corner c.before, c.ones.ensures)

@@ -6,13 +6,10 @@ use Rattle.key.specs.Spread.{spread}
 use Rattle.key.proofs.Loops.{bit, spread-is-ones}
 use Rattle.blocks.proofs.ones.Goals as goal
 
-pub overflow_sub-k : goal.overflow_sub-k
-overflow_sub-k c = omega (arith, bit c.args.k c.requires.1)
-
 pub spread-requires : goal.spread-requires
-spread-requires c = (c.requires.0, omega (arith, bit c.args.k c.requires.1))
+spread-requires c = omega (arith, bit c.args.k c.requires)
 
 pub returns : goal.returns
 returns c =
     let k = c.args.k in
-    c.spread.ensures ∙ ap (λ (x : ℕ). spread 5 (x - 1)) (bit k c.requires.1).is ∙ spread-is-ones k
+    c.spread.ensures ∙ ap (λ (x : ℕ). spread 5 (x - 1)) (bit k c.requires).is ∙ spread-is-ones k

@@ -10,10 +10,10 @@ small : (s : Start) → (3 * spread 4 s.args.row < 4 ^ 12) × (3 * spread 4 s.ar
 small s = (spread-lt 3 12 s.args.row s.requires.row, spread-lt 3 12 s.args.col s.requires.col)
 
 pub overflow_mul-result : goal.overflow_mul-result
-overflow_mul-result c = omega (arith, small c.before.before.before)
+overflow_mul-result c = omega (arith, small c.before)
 
 pub overflow_add-result : goal.overflow_add-result
-overflow_add-result c = omega (arith, small c.before.before.before.before.before)
+overflow_add-result c = omega (arith, small c.before.before)
 
 pub returns : goal.returns
-returns c = let s = c.before.before.before.before.before in omega (arith, place_is s.args.row s.args.col)
+returns c = let s = c.before.before in omega (arith, place_is s.args.row s.args.col)

@@ -7,9 +7,9 @@ use Rattle.key.proofs.Laws.{power}
 use Rattle.blocks.proofs.pow5.Goals as goal
 
 pub spread-requires : goal.spread-requires
-spread-requires c = (c.requires.0, omega (arith, bit c.args.k c.requires.1))
+spread-requires c = omega (arith, bit c.args.k c.requires)
 
 pub returns : goal.returns
 returns c =
     let k = c.args.k in
-    power 4 k (c.spread.ensures ∙ ap (spread 5) (bit k c.requires.1).is ∙ spread-power 5 k) c.requires.1
+    power 4 k (c.spread.ensures ∙ ap (spread 5) (bit k c.requires).is ∙ spread-power 5 k) c.requires

@@ -10,10 +10,10 @@ use Rattle.blocks.proofs.spread.Goals as goal
 use Rattle.blocks.proofs.spread.Goals.{Start}
 
 twice : (c : Start) → spread 5 c.args.x ≡ get_or spreads (c.args.x % 256) 0 + 390625 * get_or spreads (c.args.x / 256) 0
-twice c = spread-twice c.args.x (omega (arith, c.requires.1))
+twice c = spread-twice c.args.x (omega arith)
 
 small : (c : Start) → 4 * spread 5 c.args.x < 5 ^ 13
-small c = spread-lt 4 13 c.args.x c.requires.1
+small c = spread-lt 4 13 c.args.x c.requires
 
 pub overflow_mul-result : goal.overflow_mul-result
 overflow_mul-result c =
