@@ -8,11 +8,12 @@ use native.Mathlib.Numerals.{add-one}
 use native.Mathlib.Omega.{arith}
 use lib.ListN.{length, get_or, drop, drop_of_length-le}
 use lib.Seq.{drop-cons}
-use Rattle.answers.specs.declared.Verdict.TheVariants as refusal
+use Rattle.std.specs.Prelude.{Ok, Err}
+use Rattle.answers.specs.declared.Refused.{Refused}
 use Rattle.answers.specs.Refusals.{verdict}
+use Rattle.key.specs.declared.Span.{Span}
 use Rattle.key.specs.Blocks.{Names}
 use Rattle.key.proofs.Laws.{block-lies}
-use Rattle.map.specs.declared.Taken.TheVariants.{Behind, Refused}
 use Rattle.map.specs.Check.{late, refusals_from}
 use Rattle.map.specs.Walk.{Takes, behind, refused, Row, none, more}
 use Rattle.map.proofs.Steps.{late-not, step-next}
@@ -25,10 +26,10 @@ pub record CheckedTo (whole : Bool) (m : ℕ) (keys : List ℕ) (at n : ℕ) : T
 
 -- what a record was taken for
 module _ {whole : Bool} {m at key place : ℕ} where
-  pub taken-behind : {i s : ℕ} → Takes whole m at key place (Behind i s) → (whole ≡ false) × (at ≤ s) × Names m key i s
+  pub taken-behind : {b : Span} → Takes whole m at key place (Ok b) → (whole ≡ false) × (at ≤ b.start) × Names m key b.exponent b.start
   taken-behind (behind e l b) = (e, l, b)
 
-  pub taken_refused : {n p : ℕ} → Takes whole m at key place (Refused n p) → (ks : List ℕ) → verdict (refusals_from whole m place at (key ∷ ks)) ≡ refusal.Refused n p
+  pub taken_refused : {e : Refused} → Takes whole m at key place (Err e) → (ks : List ℕ) → verdict (refusals_from whole m place at (key ∷ ks)) ≡ Err e
   taken_refused (refused v) = v
 
 pub walked-first : (whole : Bool) (m : ℕ) (keys : List ℕ) → CheckedTo whole m keys 0 0

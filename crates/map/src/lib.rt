@@ -6,20 +6,6 @@ use key::Spot;
 // The class of what was not seen.
 pub const NOT_SEEN: u8 = 255;
 
-// What the check answers: the number of records of a sound map, or a refusal.
-#[derive(Clone, Copy)]
-pub enum Checked {
-    Sound { count: u32 },
-    Refused { number: u32, place: u32 },
-}
-
-// What a record is taken for that does not start at the place reached: a block behind a gap, or refused.
-#[derive(Clone, Copy)]
-pub enum Taken {
-    Behind { exponent: u32, start: u32 },
-    Refused { number: u32, place: u32 },
-}
-
 // How far a walk along the records has come: where it stands, and the next record.
 #[derive(Clone, Copy)]
 pub struct Gone {
