@@ -6,7 +6,7 @@ use mathlib.Core.Bool.{Bool, true, false, cond}
 use mathlib.Core.List.{List, [], ◌∷◌, ◌++◌}
 use Prim.Native.Nat.{ℕ}
 use Rattle.lists.proofs.Laws.{never}
-use Rattle.std.specs.Prelude.{Result, Ok, Err}
+use Rattle.std.specs.Prelude.{Result, Ok, Err, IsErr, IsErrAnd}
 use Rattle.answers.specs.declared.Cause.{Cause}
 use Rattle.answers.specs.declared.Refused.{Refused}
 use Rattle.answers.specs.Refusals.{Refusal, refusal, answer, refused, refuse, verdict}
@@ -97,6 +97,11 @@ answer-part {A} {B} part refuse (r ∷ rs) a = go r.holds (answer-part part refu
 -- a refusal that is made is what a function answers, where that is what its contract says
 pub refusing : {A : Type 0} {e : Refused} {c : Cause} {p : ℕ} {r : Result A Refused} → e ≡ refused c p → r ≡ refuse c p → Err e ≡ r
 refusing made says = ap Err made ∙ sym says
+
+-- a `?` answers with the error of the call before it
+pub handed-on : {A E : Type 0} {r : Result A E} {e : E} → IsErr r × IsErrAnd r (λ x. x ≡ e) → r ≡ Err e
+handed-on {r = Ok a} h = absurd h.1
+handed-on {r = Err x} h = ap Err h.1
 
 -- ---- a table that has passed, and one that has not
 
