@@ -1,0 +1,6 @@
+-- `spots::ones` meets its contract, by the entry of the table.
+use Rattle.key.proofs.Loops.{ones-entry}
+use Rattle.spots.proofs.ones.Goals as goal
+
+pub returns : goal.returns
+returns c = ones-entry c.args.i c.ones_table.ensures c.requires
