@@ -7,6 +7,7 @@ use Prim.Native.Nat.{ℕ, zero, suc, ◌+◌, ◌*◌, ◌^◌, ◌≤◌, ◌<�
 use native.Mathlib.Omega.{arith}
 use lib.ListN.{length, take, drop, get_or, length-append, length-take, length-drop}
 use lib.Seq.{take-add, take_all, drop_at, drop-drop}
+use Rattle.std.specs.Prelude.{Ok}
 use Rattle.answers.specs.Sizes.{SizedIn}
 use Rattle.answers.specs.Cells.{overwrite}
 use Rattle.answers.specs.After.{after}
@@ -14,9 +15,7 @@ use Rattle.answers.proofs.Laws.{sized, take-overwrite}
 use Rattle.numbers.specs.Promises.{Below}
 use Rattle.numbers.specs.Numbers.{bytes_of, numbers}
 use Rattle.numbers.proofs.Laws.{numbers-bytes_of, bytes_of-numbers, below-drop, length-bytes_of, length-numbers}
-use Rattle.house.specs.declared.Reading.TheVariants as reading
-use Rattle.house.specs.declared.Writing.TheVariants as writing
-use Rattle.house.specs.File.{header, file_of, file_m, file_q, file_keys, file_classes, FileMap, read_in, write_in}
+use Rattle.house.specs.File.{header, file_of, file_m, file_q, file_keys, file_classes, FileMap, read, read_in, write_in}
 use Rattle.house.specs.Promises.{Laid}
 use Rattle.house.proofs.Tables.{laid, read_done, write_done}
 use Rattle.house.proofs.Accepted.{read-accepted, write-accepted}
@@ -75,7 +74,7 @@ module _ {whole : Bool} (m : ℕ) (keys classes : List ℕ) (size : SizedIn whol
   }
 
   pub written_read : (ks cs : List ℕ) → length keys ≤ length ks → length keys ≤ length cs
-      → read_in whole (file_of m keys classes) ks cs ≡ after (reading.Read m (length keys)) (overwrite keys ks, overwrite classes cs)
+      → read_in whole (file_of m keys classes) ks cs ≡ after (read m (length keys)) (overwrite keys ks, overwrite classes cs)
   unfolding header
   written_read ks cs k l =
       sym (read_done whole (file_of m keys classes) ks cs header_read (omega (arith, length-file m keys classes (sym size.same))) ((laid whole _ _).1 header-laid) k l refl refl)
@@ -88,9 +87,9 @@ module _ {whole : Bool} (m : ℕ) (keys classes : List ℕ) (size : SizedIn whol
 
 -- the same through a lent slice: the bytes that a call of `write` answered for
 pub written-read-lent : (whole : Bool) (m : ℕ) (keys classes out : List ℕ) {n : ℕ} {out' : List ℕ} → Below (2 ^ 32) keys
-    → write_in whole m keys classes out ≡ after (writing.Written n) out'
+    → write_in whole m keys classes out ≡ after (Ok n) out'
     → (ks cs : List ℕ) → length keys ≤ length ks → length keys ≤ length cs
-    → read_in whole (take n out') ks cs ≡ after (reading.Read m (length keys)) (overwrite keys ks, overwrite classes cs)
+    → read_in whole (take n out') ks cs ≡ after (read m (length keys)) (overwrite keys ks, overwrite classes cs)
 written-read-lent whole m keys classes out {n} {out'} small e ks cs k l =
     let g = write-accepted whole m keys classes out e in
     let len : n ≡ length (file_of m keys classes) = sym g.n-is ∙ sym (length-file m keys classes (sym g.size.same)) in
@@ -145,13 +144,13 @@ module _ {whole : Bool} (file : List ℕ) (right : Laid whole (length file) (num
       (take_all (20 + 4 * q + q) file (omega (arith, length-again)))
 
   write_again : Below 256 file → (out : List ℕ) → length file ≤ length out
-      → write_in whole (file_m file) (file_keys file) (file_classes file) out ≡ after (writing.Written (length file)) (overwrite file out)
+      → write_in whole (file_m file) (file_keys file) (file_classes file) out ≡ after (Ok (length file)) (overwrite file out)
   write_again low out l =
       let n : 20 + 5 * length (file_keys file) ≡ length file = omega (arith, length-again, length-keys) in
       write_done whole (file_m file) (file_keys file) (file_classes file) out (sized.1 sized-again) (omega arith) ∙ rw (n, file-again low)
 
 -- what was read is the map that the file holds
-pub read-holds : (whole : Bool) (file ks cs : List ℕ) {m q : ℕ} {ks' cs' : List ℕ} → read_in whole file ks cs ≡ after (reading.Read m q) (ks', cs')
+pub read-holds : (whole : Bool) (file ks cs : List ℕ) {m q : ℕ} {ks' cs' : List ℕ} → read_in whole file ks cs ≡ after (read m q) (ks', cs')
     → FileMap file m (take q ks') (take q cs')
 read-holds whole file ks cs e =
     let t = read-accepted whole file ks cs e in
@@ -161,13 +160,13 @@ read-holds whole file ks cs e =
       classes-are = rw (← t.q-is, ← t.classes-are, ← length-classes file t.readable.laid_out) (take-overwrite (file_classes file) cs);
     }
 
-pub read-written : (whole : Bool) (file ks cs : List ℕ) {m q : ℕ} {ks' cs' : List ℕ} → Below 256 file → read_in whole file ks cs ≡ after (reading.Read m q) (ks', cs')
-    → (out : List ℕ) → length file ≤ length out → write_in whole m (take q ks') (take q cs') out ≡ after (writing.Written (length file)) (overwrite file out)
+pub read-written : (whole : Bool) (file ks cs : List ℕ) {m q : ℕ} {ks' cs' : List ℕ} → Below 256 file → read_in whole file ks cs ≡ after (read m q) (ks', cs')
+    → (out : List ℕ) → length file ≤ length out → write_in whole m (take q ks') (take q cs') out ≡ after (Ok (length file)) (overwrite file out)
 read-written whole file ks cs low e out l =
     let h = read-holds whole file ks cs e in
     rw (h.keys-are, h.classes-are, h.m-is) (write_again file (read-accepted whole file ks cs e).readable.laid_out low out l)
 
 -- ---- what was read has room
 
-pub read-room : (whole : Bool) (file ks cs : List ℕ) {m q : ℕ} {ks' cs' : List ℕ} → read_in whole file ks cs ≡ after (reading.Read m q) (ks', cs') → (q ≤ length ks) × (q ≤ length cs)
+pub read-room : (whole : Bool) (file ks cs : List ℕ) {m q : ℕ} {ks' cs' : List ℕ} → read_in whole file ks cs ≡ after (read m q) (ks', cs') → (q ≤ length ks) × (q ≤ length cs)
 read-room whole file ks cs e = let t = read-accepted whole file ks cs e in (omega (arith, t.q-is, t.readable.keys-room), omega (arith, t.q-is, t.readable.classes-room))
