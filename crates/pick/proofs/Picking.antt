@@ -59,35 +59,32 @@ module _ (keys classes : List ℕ) (class : ℕ) where
       omega (arith, length-map (keep (classed classes class) (up_from first count)) (λ i. get_or keys i 0), keep-most (classed classes class) (up_from first count), up-length first count)
 
 -- the records from `first` up to i have been looked at
-pub record Picking (keys classes : List ℕ) (class first end n : ℕ) (out₀ out : List ℕ) (i k : ℕ) : Type 0 where
+pub record Picking (keys classes : List ℕ) (class first n : ℕ) (out₀ out : List ℕ) (i k : ℕ) : Type 0 where
   pub low : first ≤ i
-  pub high : i ≤ end
   pub listing : Listed n (picked_run keys classes class first (i - first)) out₀ k out
 
-module _ {keys classes : List ℕ} {class first end n : ℕ} where
-  pub picking-first : {out : List ℕ} → first ≤ end → Picking keys classes class first end n out out first n
-  picking-first {out} l =
+module _ {keys classes : List ℕ} {class first n : ℕ} where
+  pub picking-first : {out : List ℕ} → Picking keys classes class first n out out first n
+  picking-first {out} =
       let e : first - first ≡ 0 = omega arith in
-      record { low = omega arith; high = l; listing = rw (e, picked_none keys classes class first) (listed-none n out) }
+      record { low = omega arith; listing = rw (e, picked_none keys classes class first) (listed-none n out) }
 
-  module _ {out₀ out : List ℕ} {i k : ℕ} (P : Picking keys classes class first end n out₀ out i k) where
+  module _ {out₀ out : List ℕ} {i k : ℕ} (P : Picking keys classes class first n out₀ out i k) where
     pub picking-most : k ≤ n + (i - first)
     picking-most = omega (arith, P.listing.count, picked-most keys classes class first (i - first))
 
-    pub picking-next : {out' : List ℕ} {k' : ℕ} → i < end → Listed k (picked_around classes class (get_or keys i 0) i) out k' out'
-        → Picking keys classes class first end n out₀ out' (i + 1) k'
-    picking-next l L =
+    pub picking-next : {out' : List ℕ} {k' : ℕ} → Listed k (picked_around classes class (get_or keys i 0) i) out k' out'
+        → Picking keys classes class first n out₀ out' (i + 1) k'
+    picking-next L =
         let d : i + 1 - first ≡ i - first + 1 = omega (arith, P.low) in
         let e : first + (i - first) ≡ i = omega (arith, P.low) in
         let s : picked_run keys classes class first (i + 1 - first) ≡ picked_run keys classes class first (i - first) ++ picked_around classes class (get_or keys i 0) i =
         rw (d, ← picks-one keys classes class i) (more keys classes class first (i - first) 1 ∙ rw e) in
-        record { low = omega (arith, P.low); high = omega arith; listing = rw s (listed_more P.listing L) }
+        record { low = omega (arith, P.low); listing = rw s (listed_more P.listing L) }
 
--- all have been
-pub picking-last : {keys classes : List ℕ} {class first n : ℕ} (count : ℕ) {out₀ out : List ℕ} {i k : ℕ}
-    → Picking keys classes class first (first + count) n out₀ out i k → first + count ≤ i
-    → Listed n (picked_run keys classes class first count) out₀ k out
-picking-last {first = first} count {i = i} P l = let e : i - first ≡ count = omega (arith, P.high) in rw e at P.listing
+    -- all have been
+    pub picking-last : (count : ℕ) → i ≡ first + count → Listed n (picked_run keys classes class first count) out₀ k out
+    picking-last count d = let e : i - first ≡ count = omega arith in rw e at P.listing
 
 module _ (keys classes : List ℕ) (class key i : ℕ) (run : Run) where
   pub picked-around : i < run.reach → picked keys classes class key i run ≡ picked_around classes class key run.first

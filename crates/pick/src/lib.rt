@@ -39,12 +39,10 @@ fn pick_run(
     requires { (first + count ≤ length keys.now) × (length keys.now ≤ 65536) × (length keys.now ≡ length classes.now) × (n + count ≤ 4294967295) }
     ensures { Listed n (picked_run keys.now classes.now class first count) out.old result out.new }
 {
-    let mut i = first as usize;
-    let end = i + (count as usize);
+    let start = first as usize;
     let mut k = n;
-    while i < end {
+    for i in start..start + (count as usize) {
         k = pick_around(classes, class, keys[i], i, out, k);
-        i += 1;
     }
     k
 }

@@ -15,21 +15,11 @@ module _ (c : Then-exponent-run) where
   abbrev start : Start
   start = c.before.before.before.before.before
 
-pub pick_around-requires : goal.pick_around-requires
-pick_around-requires c =
-    let t = c.before.before.before in
-    let p = (start t).requires in
-    let one = p.0.some t.if-exponent-run.true in
-    (omega (arith, p.0.room, p.2), omega (arith, p.3))
-
 pub returns-then-exponent-run : goal.returns-then-exponent-run
 returns-then-exponent-run c =
     let t = c.before.before.before.before.before.before in
     let a = (start t).args in
     rw (picked-around a.keys.now a.classes.now a.class a.key a.exponent a.run t.if-exponent-run.true) c.pick_around.ensures
-
-pub pick_run-requires : goal.pick_run-requires
-pick_run-requires c = let p = c.requires in (p.0.room, p.1, p.2, p.3)
 
 pub returns : goal.returns
 returns c =
