@@ -1,7 +1,9 @@
 -- Selecting a class: for each maximal block its own key, or the keys of records inside it.
 -- Assumes nothing.
-use Rattle.std.specs.Prelude.{Bool, true, cond, ◌&&◌, List, [], ◌∷◌, ◌++◌, map, ℕ, ◌+◌, length, get_or}
+use Rattle.std.specs.Prelude.{Bool, true, cond, ◌&&◌, List, [], ◌∷◌, ◌++◌, map, ℕ, ◌+◌, length, get_or, Result, Ok}
 use Rattle.lists.specs.Lists.{up_from, any, keep}
+use Rattle.answers.specs.declared.Refused.{Refused}
+use Rattle.answers.specs.Refusals.{refuse}
 use Rattle.answers.specs.After.{After, room_for, tiled_for}
 use Rattle.key.specs.Form.{form_of}
 use Rattle.window.specs.declared.Window.{Window}
@@ -9,8 +11,6 @@ use Rattle.window.specs.Keys.{keys_of}
 use Rattle.map.specs.Spans.{within}
 use Rattle.map.specs.Classes.{classed}
 use Rattle.used.specs.Used.{used_in}
-use Rattle.select.specs.declared.Selected.{Selected}
-use Rattle.select.specs.declared.Selected.TheVariants.{Done, Refused}
 
 module _ (m : ℕ) (keys classes : List ℕ) (class : ℕ) where
   -- record n has the class, and the block of a key lies in it
@@ -39,18 +39,18 @@ selection m top keys classes W class = all_selected m keys classes class (keys_o
 -- ---- the call
 
 -- keys in a slice that has room for them; or refusal 8, and the slice as it was
-abbrev pub keys_into : List ℕ → List ℕ → After Selected (List ℕ)
-keys_into ks = room_for Refused (Done (length ks)) ks
+abbrev pub keys_into : List ℕ → List ℕ → After (Result ℕ Refused) (List ℕ)
+keys_into ks = room_for refuse (Ok (length ks)) ks
 
 -- select with blocks of exponent up to `top`, where these are the keys to select: how many there are, and the keys in their cells
-unfoldable pub select_keys : Bool → List ℕ → ℕ → ℕ → List ℕ → ℕ → Window → List ℕ → List ℕ → After Selected (List ℕ × List ℕ)
+unfoldable pub select_keys : Bool → List ℕ → ℕ → ℕ → List ℕ → ℕ → Window → List ℕ → List ℕ → After (Result ℕ Refused) (List ℕ × List ℕ)
 select_keys whole ks m top keys classes W border out =
-    tiled_for Refused m top (border, out) (used_in whole Refused (Done (length ks)) ks m keys classes W border out)
+    tiled_for refuse m top (border, out) (used_in whole refuse (Ok (length ks)) ks m keys classes W border out)
 
 -- on a whole map
-abbrev pub select_tiled : ℕ → ℕ → List ℕ → List ℕ → Window → ℕ → List ℕ → List ℕ → After Selected (List ℕ × List ℕ)
+abbrev pub select_tiled : ℕ → ℕ → List ℕ → List ℕ → Window → ℕ → List ℕ → List ℕ → After (Result ℕ Refused) (List ℕ × List ℕ)
 select_tiled m top keys classes W class = select_keys true (selection m top keys classes W class) m top keys (length classes) W
 
 -- select with blocks as large as the picture has
-abbrev pub select_of : ℕ → List ℕ → List ℕ → Window → ℕ → List ℕ → List ℕ → After Selected (List ℕ × List ℕ)
+abbrev pub select_of : ℕ → List ℕ → List ℕ → Window → ℕ → List ℕ → List ℕ → After (Result ℕ Refused) (List ℕ × List ℕ)
 select_of m = select_tiled m m

@@ -4,24 +4,15 @@
 ghost use Rattle.std.specs.Prelude.{◌≡◌, length};
 ghost use Rattle.answers.specs.Cells.{Listed};
 ghost use Rattle.answers.specs.After.{after};
-ghost use Rattle.key.specs.Spread.{spreads};
 ghost use Rattle.used.specs.Used.{Usable};
 ghost use Rattle.select.specs.Select.{selection, keys_into, select_tiled};
 
-use answers::Verdict;
-use window::{Next, Window};
-
-// What select answers: how many keys there are, or a refusal.
-#[derive(Clone, Copy)]
-pub enum Selected {
-    Done { count: u32 },
-    Refused { number: u32, place: u32 },
-}
+use answers::{Cause, Refused};
+use window::Window;
 
 // Goes through the maximal blocks of exponent up to `top` and lists what each has. How many keys there are; those are written for which there is room. A block in one of the two
 // records found last is not searched for.
 fn pick_all(
-    table: &[u32; 256],
     m: u32,
     keys: &[u32],
     classes: &[u8],
@@ -30,45 +21,29 @@ fn pick_all(
     class: u8,
     out: &mut [u32],
 ) -> u32
-    requires { (table.now ≡ spreads) × Usable m top keys.now window window.w × (length keys.now ≡ length classes.now) }
+    requires { Usable m top keys.now window window.w × (length keys.now ≡ length classes.now) }
     ensures { Listed 0 (selection m top keys.now classes.now window class) out.old result out.new }
 {
-    let mut r = window.r0;
-    let mut c = window.c0;
     let mut n: u32 = 0;
-    let mut seen = near::first_seen(table, m, keys);
-    loop {
-        let next = walk::next_block(window, top, r, c);
-        let Next::Block {
-            row,
-            col,
-            exponent,
-            after,
-        } = next
-        else {
-            return n;
-        };
-        r = row;
-        c = after;
-        let key = blocks::block_key(table, m, exponent, row, col);
+    let mut seen = near::first_seen(m, keys);
+    for block in walk::blocks(window, top) {
+        let key = blocks::block_key(m, block.exponent, block.row, block.col);
         if near::lies_in(seen.near, key) {
             n = pick::pick_around(classes, class, key, seen.near.first as usize, out, n);
-            continue;
-        }
-        if near::lies_in(seen.other, key) {
+        } else if near::lies_in(seen.other, key) {
             seen = near::exchanged(seen);
             n = pick::pick_around(classes, class, key, seen.near.first as usize, out, n);
-            continue;
+        } else {
+            seen = near::look_up(m, keys, key, block.exponent, seen);
+            n = pick::pick(keys, classes, class, key, block.exponent, seen.run, out, n);
         }
-        seen = near::look_up(table, m, keys, key, exponent, seen);
-        n = pick::pick(keys, classes, class, key, exponent, seen.run, out, n);
     }
+    n
 }
 
 // The keys of the class, in the order of maximal blocks. A slice with room for as many as there can be takes one pass; otherwise a first pass counts them and writes none, since 8
 // writes nothing into the slice.
 pub fn list_keys(
-    table: &[u32; 256],
     m: u32,
     keys: &[u32],
     classes: &[u8],
@@ -76,21 +51,18 @@ pub fn list_keys(
     top: u32,
     class: u8,
     out: &mut [u32],
-) -> Selected
-    requires { (table.now ≡ spreads) × Usable m top keys.now window window.w × (length keys.now ≡ length classes.now) }
+) -> Result<u32, Refused>
+    requires { Usable m top keys.now window window.w × (length keys.now ≡ length classes.now) }
     ensures { after result out.new ≡ keys_into (selection m top keys.now classes.now window class) out.old }
 {
     if out.len() < walk::most_blocks(window, top) + keys.len() {
-        let needed = pick_all(table, m, keys, classes, window, top, class, &mut out[..0]);
+        let needed = pick_all(m, keys, classes, window, top, class, &mut out[..0]);
         if out.len() < needed as usize {
-            return Selected::Refused {
-                number: 8,
-                place: needed,
-            };
+            return Err(Cause::ShortRoom.at(needed));
         }
     }
-    let count = pick_all(table, m, keys, classes, window, top, class, out);
-    Selected::Done { count }
+    let count = pick_all(m, keys, classes, window, top, class, out);
+    Ok(count)
 }
 
 // The keys of a class in the window, with blocks of exponent up to `top`. Nothing of it needs the border, which is spent at once.
@@ -103,14 +75,10 @@ pub fn select(
     class: u8,
     border: &mut [u16],
     out: &mut [u32],
-) -> Selected
+) -> Result<u32, Refused>
     ensures { after result (border.new, out.new) ≡ select_tiled m top keys.now classes.now window class border.old out.old }
 {
-    let verdict = used::usable_tiled(m, top, keys, classes, window, border.len(), true);
-    if let Verdict::Refused { number, place } = verdict {
-        return Selected::Refused { number, place };
-    }
-    step::fill(border, 0, window.w as usize, window.r0 + window.h);
-    let table = blocks::spread_table();
-    list_keys(&table, m, keys, classes, window, top, class, out)
+    used::usable_tiled(m, top, keys, classes, window, border.len(), true)?;
+    border[..window.w as usize].fill(window.r0 + window.h);
+    list_keys(m, keys, classes, window, top, class, out)
 }

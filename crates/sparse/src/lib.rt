@@ -13,11 +13,9 @@ ghost use Rattle.report.specs.Report.{report_in};
 ghost use Rattle.select.specs.Select.{select_keys};
 ghost use Rattle.sparse_select.specs.Select.{sparse_selection};
 
-use answers::Verdict;
+use answers::{Cause, Refused};
 use exist::Existence;
 use pieces::Looked;
-use report::Reported;
-use select::Selected;
 use window::Window;
 
 // Nothing here needs the border: it is spent at once.
@@ -51,17 +49,14 @@ pub fn exist_over(
     window: Window,
     class: u8,
     border: &mut [u16],
-) -> Existence
+) -> Result<Existence, Refused>
     requires { Pair m keys.now (length classes.now) base.now (length beneath.now) }
     ensures { after result border.new ≡ exist_in false (class_over_map m keys.now classes.now base.now beneath.now) m keys.now (length classes.now) window class border.old }
 {
-    let verdict = used::in_view(m, window, border.len());
-    if let Verdict::Refused { number, place } = verdict {
-        return Existence::Refused { number, place };
-    }
+    used::in_view(m, window, border.len())?;
     spend(window, border);
-    let table = blocks::spread_table();
-    say(pieces::find(&table, m, keys, classes, base, beneath, window, class))
+    let looked = pieces::find(m, keys, classes, base, beneath, window, class);
+    Ok(say(looked))
 }
 
 // The same of a map by itself: it is over a baseline of one record, the whole picture in the background's class.
@@ -73,13 +68,10 @@ pub fn exist(
     window: Window,
     class: u8,
     border: &mut [u16],
-) -> Existence
+) -> Result<Existence, Refused>
     ensures { after result border.new ≡ exist_in false (class_over background m keys.now classes.now) m keys.now (length classes.now) window class border.old }
 {
-    let sound = checks::sound(m, keys, classes, false);
-    if let Verdict::Refused { number, place } = sound {
-        return Existence::Refused { number, place };
-    }
+    checks::sound(m, keys, classes, false)?;
     let base: [u32; 1] = [0];
     let under: [u8; 1] = [background];
     exist_over(m, keys, classes, &base, &under, window, class, border)
@@ -95,28 +87,19 @@ pub fn report_over(
     window: Window,
     border: &mut [u16],
     out: &mut [u32],
-) -> Reported
+) -> Result<u32, Refused>
     requires { Pair m keys.now (length classes.now) base.now (length beneath.now) }
     ensures { after result (border.new, out.new) ≡ report_in false (class_over_map m keys.now classes.now base.now beneath.now) m keys.now (length classes.now) window border.old out.old }
 {
-    let verdict = used::in_view(m, window, border.len());
-    if let Verdict::Refused { number, place } = verdict {
-        return Reported::Refused { number, place };
-    }
+    used::in_view(m, window, border.len())?;
     spend(window, border);
     if out.len() < 256 {
-        return Reported::Refused {
-            number: 8,
-            place: 256,
-        };
+        return Err(Cause::ShortRoom.at(256));
     }
-    let table = blocks::spread_table();
     let mut totals: [u32; 256] = [0; 256];
-    pieces::add_up(&table, m, keys, classes, base, beneath, window, &mut totals);
+    pieces::add_up(m, keys, classes, base, beneath, window, &mut totals);
     report::put_totals(&totals, out);
-    Reported::Done {
-        pixels: (window.h as u32) * (window.w as u32),
-    }
+    Ok((window.h as u32) * (window.w as u32))
 }
 
 // The same of a map by itself.
@@ -128,13 +111,10 @@ pub fn report(
     window: Window,
     border: &mut [u16],
     out: &mut [u32],
-) -> Reported
+) -> Result<u32, Refused>
     ensures { after result (border.new, out.new) ≡ report_in false (class_over background m keys.now classes.now) m keys.now (length classes.now) window border.old out.old }
 {
-    let sound = checks::sound(m, keys, classes, false);
-    if let Verdict::Refused { number, place } = sound {
-        return Reported::Refused { number, place };
-    }
+    checks::sound(m, keys, classes, false)?;
     let base: [u32; 1] = [0];
     let under: [u8; 1] = [background];
     report_over(m, keys, classes, &base, &under, window, border, out)
@@ -151,16 +131,10 @@ pub fn select(
     class: u8,
     border: &mut [u16],
     out: &mut [u32],
-) -> Selected
+) -> Result<u32, Refused>
     ensures { after result (border.new, out.new) ≡ select_keys false (sparse_selection m top background keys.now classes.now window class) m top keys.now (length classes.now) window border.old out.old }
 {
-    let verdict = used::usable_tiled(m, top, keys, classes, window, border.len(), false);
-    if let Verdict::Refused { number, place } = verdict {
-        return Selected::Refused { number, place };
-    }
+    used::usable_tiled(m, top, keys, classes, window, border.len(), false)?;
     spend(window, border);
-    let table = blocks::spread_table();
-    sparse_select::list_sparse(
-        &table, m, background, keys, classes, window, top, class, out,
-    )
+    sparse_select::list_sparse(m, background, keys, classes, window, top, class, out)
 }

@@ -4,21 +4,18 @@
 ghost use Rattle.std.specs.Prelude.{◌≡◌, length};
 ghost use Rattle.answers.specs.Cells.{Listed};
 ghost use Rattle.answers.specs.After.{after};
-ghost use Rattle.key.specs.Spread.{spreads};
-ghost use Rattle.key.specs.Along.{ones_table};
 ghost use Rattle.map.specs.Runs.{run_of, BlockOf};
 ghost use Rattle.used.specs.Used.{Usable};
 ghost use Rattle.select.specs.Select.{keys_into};
 ghost use Rattle.sparse_select.specs.Select.{sparse_selected, sparse_selection};
 ghost use Rattle.sparse_select.specs.Asked.{Asked};
 
+use answers::{Cause, Refused};
 use map::Run;
-use select::Selected;
-use window::{Next, Window};
+use window::Window;
 
 // Of a block beyond which its records do not reach, lists the gaps and the records of the class behind n others, where the class is that of the background. How many there are then.
 fn put_run(
-    ones: &[u32; 13],
     m: u32,
     keys: &[u32],
     classes: &[u8],
@@ -28,30 +25,28 @@ fn put_run(
     out: &mut [u32],
     n: u32,
 ) -> u32
-    requires { (ones.now ≡ ones_table) × Asked m keys.now classes.now class key run n × BlockOf m key run.reach }
+    requires { Asked m keys.now classes.now class key run n × BlockOf m key run.reach }
     ensures { Listed n (sparse_selected m class keys.now classes.now class key) out.old result out.new }
 {
     let block = digits::span_of(m, key);
     let end = block.start + blocks::pow4(block.exponent);
-    let mut spot = spots::begin(ones, m, key, block.exponent, block.start);
+    let mut spot = spots::begin(m, key, block.exponent, block.start);
     let mut k = n;
     let mut i = run.first as usize;
     let last = i + (run.count as usize);
     while i < last {
         let own = keys[i];
         let at = digits::span_of(m, own);
-        k = stretch::put_stretch(ones, m, spot, at.start, out, k);
+        k = stretch::put_stretch(m, spot, at.start, out, k);
         k = pick::pick_around(classes, class, own, i, out, k);
-        spot = spots::advance(ones, m, own, at.exponent, at.start);
+        spot = spots::advance(m, own, at.exponent, at.start);
         i += 1;
     }
-    stretch::put_stretch(ones, m, spot, end, out, k)
+    stretch::put_stretch(m, spot, end, out, k)
 }
 
 // The same of any block, of its key and exponent: with the records inside it; where there is none, its own key if a record of the class is around it, or no record at all.
 fn put_block(
-    ones: &[u32; 13],
-    table: &[u32; 256],
     m: u32,
     keys: &[u32],
     classes: &[u8],
@@ -61,13 +56,13 @@ fn put_block(
     out: &mut [u32],
     n: u32,
 ) -> u32
-    requires { (ones.now ≡ ones_table) × (table.now ≡ spreads) × Asked m keys.now classes.now class key (run_of m keys.now key) n × BlockOf m key exponent }
+    requires { Asked m keys.now classes.now class key (run_of m keys.now key) n × BlockOf m key exponent }
     ensures { Listed n (sparse_selected m class keys.now classes.now class key) out.old result out.new }
 {
     let first = runs::keys_below(keys, key, 0);
-    let count = runs::records_inside(table, m, keys, key, exponent, first);
+    let count = runs::records_inside(m, keys, key, exponent, first);
     if count == 0 {
-        let run = runs::record_around(table, m, keys, key, exponent, first);
+        let run = runs::record_around(m, keys, key, exponent, first);
         if exponent < run.reach {
             return pick::pick_around(classes, class, key, run.first as usize, out, n);
         }
@@ -75,13 +70,11 @@ fn put_block(
         return n + 1;
     }
     let run = runs::inside(first, count, exponent);
-    put_run(ones, m, keys, classes, class, key, run, out, n)
+    put_run(m, keys, classes, class, key, run, out, n)
 }
 
 // Goes through the maximal blocks of exponent up to `top` and lists what each has of the background. How many keys there are; those are written for which there is room.
 fn put_all(
-    ones: &[u32; 13],
-    table: &[u32; 256],
     m: u32,
     keys: &[u32],
     classes: &[u8],
@@ -90,34 +83,20 @@ fn put_all(
     class: u8,
     out: &mut [u32],
 ) -> u32
-    requires { (ones.now ≡ ones_table) × (table.now ≡ spreads) × Usable m top keys.now window window.w × (length keys.now ≡ length classes.now) }
+    requires { Usable m top keys.now window window.w × (length keys.now ≡ length classes.now) }
     ensures { Listed 0 (sparse_selection m top class keys.now classes.now window class) out.old result out.new }
 {
-    let mut r = window.r0;
-    let mut c = window.c0;
     let mut n: u32 = 0;
-    loop {
-        let next = walk::next_block(window, top, r, c);
-        let Next::Block {
-            row,
-            col,
-            exponent,
-            after,
-        } = next
-        else {
-            return n;
-        };
-        r = row;
-        c = after;
-        let key = blocks::block_key(table, m, exponent, row, col);
-        n = put_block(ones, table, m, keys, classes, class, key, exponent, out, n);
+    for block in walk::blocks(window, top) {
+        let key = blocks::block_key(m, block.exponent, block.row, block.col);
+        n = put_block(m, keys, classes, class, key, block.exponent, out, n);
     }
+    n
 }
 
 // The keys of the background, in the order of maximal blocks. A slice with a cell for each pixel of the window takes one pass; otherwise a first pass counts them and writes none,
 // since 8 writes nothing into the slice.
 fn list_background(
-    table: &[u32; 256],
     m: u32,
     keys: &[u32],
     classes: &[u8],
@@ -125,38 +104,23 @@ fn list_background(
     top: u32,
     class: u8,
     out: &mut [u32],
-) -> Selected
-    requires { (table.now ≡ spreads) × Usable m top keys.now window window.w × (length keys.now ≡ length classes.now) }
+) -> Result<u32, Refused>
+    requires { Usable m top keys.now window window.w × (length keys.now ≡ length classes.now) }
     ensures { after result out.new ≡ keys_into (sparse_selection m top class keys.now classes.now window class) out.old }
 {
-    let ones = spots::ones_table();
     let most = (window.h as usize) * (window.w as usize);
     if out.len() < most {
-        let needed = put_all(
-            &ones,
-            table,
-            m,
-            keys,
-            classes,
-            window,
-            top,
-            class,
-            &mut out[..0],
-        );
+        let needed = put_all(m, keys, classes, window, top, class, &mut out[..0]);
         if out.len() < needed as usize {
-            return Selected::Refused {
-                number: 8,
-                place: needed,
-            };
+            return Err(Cause::ShortRoom.at(needed));
         }
     }
-    let count = put_all(&ones, table, m, keys, classes, window, top, class, out);
-    Selected::Done { count }
+    let count = put_all(m, keys, classes, window, top, class, out);
+    Ok(count)
 }
 
 // The keys of the class, in the order of maximal blocks. Gaps count only for the class of the background; for any other it is as in a map without gaps.
 pub fn list_sparse(
-    table: &[u32; 256],
     m: u32,
     background: u8,
     keys: &[u32],
@@ -165,12 +129,12 @@ pub fn list_sparse(
     top: u32,
     class: u8,
     out: &mut [u32],
-) -> Selected
-    requires { (table.now ≡ spreads) × Usable m top keys.now window window.w × (length keys.now ≡ length classes.now) }
+) -> Result<u32, Refused>
+    requires { Usable m top keys.now window window.w × (length keys.now ≡ length classes.now) }
     ensures { after result out.new ≡ keys_into (sparse_selection m top background keys.now classes.now window class) out.old }
 {
     if class != background {
-        return select::list_keys(table, m, keys, classes, window, top, class, out);
+        return select::list_keys(m, keys, classes, window, top, class, out);
     }
-    list_background(table, m, keys, classes, window, top, class, out)
+    list_background(m, keys, classes, window, top, class, out)
 }
