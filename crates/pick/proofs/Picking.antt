@@ -82,10 +82,6 @@ module _ {keys classes : List ℕ} {class first n : ℕ} where
         rw (d, ← picks-one keys classes class i) (more keys classes class first (i - first) 1 ∙ rw e) in
         record { low = omega (arith, P.low); listing = rw s (listed_more P.listing L) }
 
-    -- all have been
-    pub picking-last : (count : ℕ) → i ≡ first + count → Listed n (picked_run keys classes class first count) out₀ k out
-    picking-last count d = let e : i - first ≡ count = omega arith in rw e at P.listing
-
 module _ (keys classes : List ℕ) (class key i : ℕ) (run : Run) where
   pub picked-around : i < run.reach → picked keys classes class key i run ≡ picked_around classes class key run.first
   unfolding picked

@@ -1,6 +1,6 @@
 -- `pick::pick_run` meets its contract, by the invariant beside this.
 use native.Mathlib.Omega.{arith}
-use Rattle.pick.proofs.Picking.{picking-first, picking-most, picking-next, picking-last}
+use Rattle.pick.proofs.Picking.{picking-first, picking-most, picking-next}
 use Rattle.pick.proofs.pick_run.Goals as goal
 
 pub loop-i-init : goal.loop-i-init
