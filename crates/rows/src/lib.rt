@@ -9,26 +9,13 @@ ghost use Rattle.rows.specs.Growing.{put_row, grow_rows, Fits, AllFit};
 fn least(first: bool, old: u64, n: u64) -> u64
     ensures { result ≡ cond first n (min old n) }
 {
-    if first {
-        return n;
-    }
-    if n < old { n } else { old }
+    if first { n } else { old.min(n) }
 }
 
 fn greatest(first: bool, old: u64, n: u64) -> u64
     ensures { result ≡ cond first n (max old n) }
 {
-    if first {
-        return n;
-    }
-    if old < n { n } else { old }
-}
-
-// 1 for a map with pixels of the class, 0 for one without.
-fn once(n: u64) -> u64
-    ensures { result ≡ cond (eqb n 0) 0 1 }
-{
-    if n == 0 { 0 } else { 1 }
+    if first { n } else { old.max(n) }
 }
 
 // A map more in the row of class k, of which it has n pixels.
@@ -37,14 +24,10 @@ fn add_row(table: &mut [u64], k: usize, first: bool, n: u64)
     ensures { table.new ≡ put_row k (with_map first n (row_in table.old k)) table.old }
 {
     let at = 6 + 4 * k;
-    let fewest = least(first, table[at], n);
-    let most = greatest(first, table[at + 1], n);
-    let sum = table[at + 2] + n;
-    let maps = table[at + 3] + once(n);
-    table[at] = fewest;
-    table[at + 1] = most;
-    table[at + 2] = sum;
-    table[at + 3] = maps;
+    table[at] = least(first, table[at], n);
+    table[at + 1] = greatest(first, table[at + 1], n);
+    table[at + 2] += n;
+    table[at + 3] += u64::from(n != 0);
 }
 
 // A map more in the rows of all classes, by its pixels of each.
@@ -52,10 +35,8 @@ pub fn add_rows(table: &mut [u64], counts: &[u32; 256], first: bool)
     requires { AllFit counts.now table.old }
     ensures { table.new ≡ grow_rows first counts.now table.old }
 {
-    let mut k: usize = 0;
-    while k < 256 {
-        add_row(table, k, first, counts[k] as u64);
-        k += 1;
+    for (k, n) in counts.iter().enumerate() {
+        add_row(table, k, first, u64::from(*n));
     }
 }
 
@@ -64,16 +45,10 @@ pub fn any_over(most: u64, maps: u64, table: &[u64]) -> bool
     requires { 1030 ≤ length table.now }
     ensures { result ≡ any_over most maps table.now }
 {
-    let mut k: usize = 0;
-    while k < 256 {
-        let at = 6 + 4 * k;
-        if most < table[at + 2] {
+    for row in table[6..1030].chunks_exact(4) {
+        if most < row[2] || maps < row[3] {
             return true;
         }
-        if maps < table[at + 3] {
-            return true;
-        }
-        k += 1;
     }
     false
 }

@@ -1,10 +1,13 @@
--- `rows::any_over` meets its contract. The invariant is `Looking`, the measure how many classes are left.
-use Prim.Native.Nat.{◌-◌}
-use Rattle.rows.proofs.Over.{Looking}
+-- `rows::any_over` meets its contract. The invariant: no row so far is over, and those of the other classes are left.
+use mathlib.Core.Path.{◌≡◌}
+use lib.ListN.{length}
+use Rattle.std.specs.Slice.Iter.{chunks_exact_rest, chunks_exact_size}
+use Rattle.rows.proofs.Over.{Looking, left}
 use Rattle.rows.proofs.any_over.Given as goal
 
-abbrev pub invariant-loop-k : goal.invariant-loop-k
-invariant-loop-k l = Looking l.most l.maps l.table l.k
-
-abbrev pub decreases-loop-k : goal.decreases-loop-k
-decreases-loop-k l = 256 - l.k
+abbrev pub invariant-loop-row : goal.invariant-loop-row
+invariant-loop-row l = record {
+  clear : Looking l.most l.maps l.table (length l.yielded);
+  four : chunks_exact_size l.row-iterator ≡ 4;
+  rest : chunks_exact_rest l.row-iterator ≡ left l.table (length l.yielded);
+}
