@@ -11,7 +11,7 @@ ghost use Rattle.window.specs.Keys.{keys_of};
 ghost use Rattle.decompose.specs.Decompose.{decompose_tiled};
 
 use answers::Verdict;
-use window::{Next, Window};
+use window::Window;
 
 // What decomposing answers: how many keys there are, or a refusal.
 #[derive(Clone, Copy)]
@@ -25,26 +25,13 @@ fn list_blocks(table: &[u32; 256], m: u32, window: Window, top: u32, out: &mut [
     requires { (table.now ≡ spreads) × (m ≤ 12) × (top ≤ m) × Inside m window }
     ensures { Listed 0 (keys_of m top window) out.old result out.new }
 {
-    let mut r = window.r0;
-    let mut c = window.c0;
     let mut n: u32 = 0;
-    loop {
-        let next = walk::next_block(window, top, r, c);
-        let Next::Block {
-            row,
-            col,
-            exponent,
-            after,
-        } = next
-        else {
-            return n;
-        };
-        let key = blocks::block_key(table, m, exponent, row, col);
+    for block in walk::blocks(window, top) {
+        let key = blocks::block_key(table, m, block.exponent, block.row, block.col);
         answers::put(out, n, key);
         n += 1;
-        r = row;
-        c = after;
     }
+    n
 }
 
 // The keys of the window's maximal blocks among those of exponent up to `top`. A slice with room for as many as a window can have takes one pass; otherwise a first pass counts them

@@ -9,7 +9,7 @@ pub use Rattle.window.proofs.Few.{blocks-most, blocks-capped, blocks-few}
 pub use Rattle.window.proofs.Largest.{largest-one, largest-some, largest-is, largest-corner}
 pub use Rattle.window.proofs.Tests.{inside, not-outside, window-refused, window-passed, window-inside, numbered-window, without-window, inside-12}
 pub use Rattle.window.proofs.Drawn.{drawn-over, drawn-outside, drawn-short, drawn-done, numbered-drawn, drawn-passed, drawn-said, drawn-by-length, drawn-leaves, drawn-untouched}
-pub use Rattle.window.proofs.Past.{walked-first, walked_next, walked-last, walked-split, walked-room, goes_in, goes-exponent, goes-less, goes-corner, goes-own, goes_some}
+pub use Rattle.window.proofs.Past.{walked-first, walked_next, walked-last, walked-split, walked-room, goes-less, goes-corner, goes-own, goes_some}
 pub use Rattle.window.proofs.Keys.{keys-of, key-at, pixel-in, key-named, goes-block, key-maximal, key-block, key-listed, keys-distinct, keys_length}
 pub use Rattle.window.proofs.Counts.{rows-count, pixels-most, maximal-most, most-small, pixels-length, in-pixels}
 pub use Rattle.window.proofs.Parts.{counts-shared, counts-parted}

@@ -2,8 +2,8 @@
 use Rattle.window.proofs.Loops.{Walking, left}
 use Rattle.walk.proofs.next_block.Given as goal
 
-abbrev pub invariant-loop-c : goal.invariant-loop-c
-invariant-loop-c l = Walking l.window l.top (l.row, l.col) (l.r, l.c)
+abbrev pub invariant-loop-col : goal.invariant-loop-col
+invariant-loop-col l = Walking l.window l.top (l.initial.row, l.initial.col) (l.row, l.col)
 
-abbrev pub decreases-loop-c : goal.decreases-loop-c
-decreases-loop-c l = left l.window (l.r, l.c)
+abbrev pub decreases-loop-col : goal.decreases-loop-col
+decreases-loop-col l = left l.window (l.row, l.col)

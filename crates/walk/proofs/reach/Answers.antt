@@ -4,4 +4,4 @@ use Rattle.window.proofs.Loops.{reach_of}
 use Rattle.walk.proofs.reach.Goals as goal
 
 pub returns : goal.returns
-returns c = reach_of c.requires refl refl c.least.ensures
+returns c = reach_of c.requires refl refl c.min.ensures
