@@ -1,7 +1,6 @@
 -- A loop over the maximal blocks: those that are past, the next one, and what is told of it.
 -- Assumes nothing.
 use mathlib.Core.Path.{◌≡◌, refl, sym, ap, ◌∙◌}
-use mathlib.Core.List.Memᴰ
 use mathlib.Core.List.{List, [], ◌∷◌, ◌++◌, append_assoc, append-nil, Memᴰ}
 use Prim.Native.Nat.{ℕ, ◌<◌}
 use native.Mathlib.Omega.{arith}
@@ -12,7 +11,7 @@ use Rattle.key.specs.Picture.{Px}
 use Rattle.window.specs.declared.Window.{Window}
 use Rattle.window.specs.declared.Block.{Block}
 use Rattle.window.specs.Window.{In, Inside}
-use Rattle.window.specs.Blocks.{exponent, corner, is_corner, maximal}
+use Rattle.window.specs.Blocks.{corner, is_corner, maximal}
 use Rattle.window.specs.Walk.{pixels_from, blocks_from, corner_of, Walked, GoesOn, Ends}
 use Rattle.window.proofs.Listed.{corner-is}
 use Rattle.window.proofs.Onward.{from_all, from-corner}

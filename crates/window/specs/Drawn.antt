@@ -1,6 +1,7 @@
 -- What is asked of a window alone, with no map: refusals 1, 6 and 8, or an answer in a lent slice.
 -- Assumes nothing.
 use Rattle.std.specs.Prelude.{List, ◌++◌, ℕ, length}
+use Rattle.answers.specs.declared.Cause.{Cause}
 use Rattle.answers.specs.Refusals.{Refusal}
 use Rattle.answers.specs.Sizes.{picture_refusals}
 use Rattle.answers.specs.Cells.{overwrite}
@@ -13,5 +14,5 @@ unfoldable pub drawn_refusals : ℕ → Window → ℕ → ℕ → List Refusal
 drawn_refusals m W needed room = picture_refusals m ++ (window_refusals m W ++ room_refusals room needed)
 
 -- whatever answers `done` and writes `cells`; a refusal leaves the slice as it was
-unfoldable pub drawn_for : {A : Type 0} → (ℕ → ℕ → A) → A → List ℕ → ℕ → Window → List ℕ → After A (List ℕ)
+unfoldable pub drawn_for : {A : Type 0} → (Cause → ℕ → A) → A → List ℕ → ℕ → Window → List ℕ → After A (List ℕ)
 drawn_for refuse done cells m W out = unless refuse (drawn_refusals m W (length cells) (length out)) out (after done (overwrite cells out))
