@@ -8,43 +8,28 @@ ghost use Rattle.answers.specs.After.{after};
 ghost use Rattle.numbers.specs.Numbers.{numbers};
 ghost use Rattle.house.specs.File.{layout_refusals, read_in};
 
-use answers::Verdict;
-use house::Reading;
+use answers::{Cause, Refused};
+use house::Header;
 
 // What is wrong with the five fields of a header, in a file of so many bytes. Only a map that is to be whole must have a record.
-fn layout(size: usize, fields: [u32; 5], whole: bool) -> Verdict
+fn layout(size: usize, fields: [u32; 5], whole: bool) -> Result<(), Refused>
     ensures { result ≡ verdict (layout_refusals whole size fields) }
 {
     if fields[0] as usize != size {
-        return Verdict::Refused {
-            number: 9,
-            place: 0,
-        };
+        return Err(Cause::BadLayout.at(0));
     }
     let q = fields[2] as usize;
-    let sizes = answers::sizes(fields[1], q, q, whole);
-    if let Verdict::Refused { number, place } = sizes {
-        return Verdict::Refused { number, place };
-    }
+    answers::sizes(fields[1], q, q, whole)?;
     if size != 20 + 5 * q {
-        return Verdict::Refused {
-            number: 9,
-            place: 8,
-        };
+        return Err(Cause::BadLayout.at(8));
     }
     if fields[3] != 20 {
-        return Verdict::Refused {
-            number: 9,
-            place: 12,
-        };
+        return Err(Cause::BadLayout.at(12));
     }
     if fields[4] as usize != 20 + 4 * q {
-        return Verdict::Refused {
-            number: 9,
-            place: 16,
-        };
+        return Err(Cause::BadLayout.at(16));
     }
-    Verdict::Passed
+    Ok(())
 }
 
 // Fills the first q cells of each slice, from a file of q records.
@@ -59,38 +44,31 @@ fn get_parts(file: &[u8], q: usize, keys: &mut [u32], classes: &mut [u8])
 }
 
 // Reads the layout only: a map is checked by the call that uses it.
-pub fn read(file: &[u8], keys: &mut [u32], classes: &mut [u8], whole: bool) -> Reading
+pub fn read(
+    file: &[u8],
+    keys: &mut [u32],
+    classes: &mut [u8],
+    whole: bool,
+) -> Result<Header, Refused>
     ensures { after result (keys.new, classes.new) ≡ read_in whole file.now keys.old classes.old }
 {
     if file.len() < 20 {
-        return Reading::Refused {
-            number: 9,
-            place: 0,
-        };
+        return Err(Cause::BadLayout.at(0));
     }
     let mut fields = [0u32; 5];
     numbers::get_all(file, &mut fields);
-    let verdict = layout(file.len(), fields, whole);
-    if let Verdict::Refused { number, place } = verdict {
-        return Reading::Refused { number, place };
-    }
+    layout(file.len(), fields, whole)?;
     let count = fields[2];
     let q = count as usize;
     if keys.len() < q {
-        return Reading::Refused {
-            number: 8,
-            place: count,
-        };
+        return Err(Cause::ShortRoom.at(count));
     }
     if classes.len() < q {
-        return Reading::Refused {
-            number: 8,
-            place: count,
-        };
+        return Err(Cause::ShortRoom.at(count));
     }
     get_parts(file, q, keys, classes);
-    Reading::Read {
+    Ok(Header {
         m: fields[1],
         count,
-    }
+    })
 }
