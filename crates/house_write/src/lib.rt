@@ -5,11 +5,9 @@ ghost use Rattle.std.specs.Prelude.{◌≡◌, false, ◌+◌, ◌*◌, ◌≤�
 ghost use Rattle.answers.specs.Sizes.{SizedIn};
 ghost use Rattle.answers.specs.Cells.{overwrite};
 ghost use Rattle.answers.specs.After.{after};
-ghost use Rattle.numbers.specs.Numbers.{numbers};
 ghost use Rattle.house.specs.File.{file_of, write_in};
 
-use answers::Verdict;
-use house::Writing;
+use answers::{Cause, Refused};
 
 // Fills the first bytes of a slice that has room for the file.
 fn put_parts(m: u32, keys: &[u32], classes: &[u8], out: &mut [u8])
@@ -25,21 +23,20 @@ fn put_parts(m: u32, keys: &[u32], classes: &[u8], out: &mut [u8])
     numbers::copy(classes, &mut out[at..]);
 }
 
-pub fn write(m: u32, keys: &[u32], classes: &[u8], out: &mut [u8], whole: bool) -> Writing
+pub fn write(
+    m: u32,
+    keys: &[u32],
+    classes: &[u8],
+    out: &mut [u8],
+    whole: bool,
+) -> Result<u32, Refused>
     ensures { after result out.new ≡ write_in whole m keys.now classes.now out.old }
 {
-    let sizes = answers::sizes(m, keys.len(), classes.len(), whole);
-    if let Verdict::Refused { number, place } = sizes {
-        return Writing::Refused { number, place };
-    }
-    let q = keys.len();
-    let size = 20 + 5 * q;
+    answers::sizes(m, keys.len(), classes.len(), whole)?;
+    let size = 20 + 5 * keys.len();
     if out.len() < size {
-        return Writing::Refused {
-            number: 8,
-            place: size as u32,
-        };
+        return Err(Cause::ShortRoom.at(size as u32));
     }
     put_parts(m, keys, classes, out);
-    Writing::Written { bytes: size as u32 }
+    Ok(size as u32)
 }

@@ -1,31 +1,39 @@
-use Rattle.std.proofs.Common.{rules, ◌≡◌, ◌+◌, ◌*◌, ◌≤◌, length, take, drop, ℕ, ◌-◌, ◌<◌, ◌/◌, ◌%◌, Bool, true, false, nat_eq, nat_lt, List, [], ◌∷◌, ◌++◌, slice_index_or, slice_set, bit_and, bit_or, Fits, w8, w32, w64, Bor, MutBor}
-use Rattle.answers.specs.Refusals.{verdict}
-use Rattle.answers.specs.Cells.{overwrite}
-use Rattle.answers.specs.After.{after}
-use Rattle.numbers.specs.Numbers.{numbers}
-use Rattle.house.specs.File.{layout_refusals, read_in}
+-- `house_read::layout` meets its contract: each test decides what its law in `Tables` says.
+use mathlib.Core.Path.{sym, ◌∙◌}
+use native.Mathlib.Omega.{arith}
+use Rattle.answers.proofs.Laws.{sized, refusing, handed-on}
+use Rattle.house.proofs.Loops.{layout-total, layout-refused, layout-length, layout-keys, layout-classes, laid}
 use Rattle.house_read.proofs.layout.Goals as goal
 
--- src/lib.rt:19:9
 pub returns-then-fields-size : goal.returns-then-fields-size
-returns-then-fields-size c = ?
+returns-then-fields-size c = refusing c.at.ensures (layout-total _ _ _ (λ e. c.if-fields-size.true (omega (arith, e))))
 
--- src/lib.rt:22:5
 pub returns-in_err-sizes : goal.returns-in_err-sizes
-returns-in_err-sizes c = ?
+returns-in_err-sizes c = handed-on c.from_residual.ensures ∙ sym (layout-refused _ _ _ (omega (arith, c.if-fields-size.false)) (sym c.sizes.ensures ∙ c.in_err-sizes.was))
 
--- src/lib.rt:24:9
 pub returns-then-size-q : goal.returns-then-size-q
-returns-then-size-q c = ?
+returns-then-size-q c =
+    refusing c.at-then-size-q.ensures
+    (layout-length _ _ _ (omega (arith, c.if-fields-size.false)) (sym c.sizes.ensures ∙ c.in_ok-sizes.was) (λ e. c.if-size-q.true (omega (arith, e))))
 
--- src/lib.rt:27:9
 pub returns-then-fields-ne20 : goal.returns-then-fields-ne20
-returns-then-fields-ne20 c = ?
+returns-then-fields-ne20 c =
+    refusing c.at-then-fields-ne20.ensures
+    (layout-keys _ _ _ (omega (arith, c.if-fields-size.false)) (sym c.sizes.ensures ∙ c.in_ok-sizes.was) (omega (arith, c.if-size-q.false))
+    (λ e. c.if-fields-ne20.true (omega (arith, e))))
 
--- src/lib.rt:30:9
 pub returns-then-fields-q : goal.returns-then-fields-q
-returns-then-fields-q c = ?
+returns-then-fields-q c =
+    refusing c.at-then-fields-q.ensures
+    (layout-classes _ _ _ (omega (arith, c.if-fields-size.false)) (sym c.sizes.ensures ∙ c.in_ok-sizes.was) (omega (arith, c.if-size-q.false))
+    (omega (arith, c.if-fields-ne20.false)) (λ e. c.if-fields-q.true (omega (arith, e))))
 
--- src/lib.rt:15:1
 pub returns : goal.returns
-returns c = ?
+returns c =
+    sym ((laid _ _ _).1 (record {
+      total = omega (arith, c.if-fields-size.false);
+      size = sized.0 (sym c.sizes.ensures ∙ c.in_ok-sizes.was);
+      full = omega (arith, c.if-size-q.false);
+      keys = omega (arith, c.if-fields-ne20.false);
+      classes = omega (arith, c.if-fields-q.false);
+    }))

@@ -1,31 +1,30 @@
-use Rattle.std.proofs.Common.{rules, ◌≡◌, ◌+◌, ◌*◌, ◌≤◌, length, take, drop, ℕ, ◌-◌, ◌<◌, ◌/◌, ◌%◌, Bool, true, false, nat_eq, nat_lt, List, [], ◌∷◌, ◌++◌, slice_index_or, slice_set, bit_and, bit_or, Fits, w8, w32, w64, Bor, MutBor}
-use Rattle.answers.specs.Refusals.{verdict}
-use Rattle.answers.specs.Cells.{overwrite}
-use Rattle.answers.specs.After.{after}
-use Rattle.numbers.specs.Numbers.{numbers}
-use Rattle.house.specs.File.{layout_refusals, read_in}
+-- `house_read::read` meets its contract: each test decides what its law in `Tables` says.
+use mathlib.Core.Path.{sym, ◌∙◌}
+use native.Mathlib.Omega.{arith}
+use Rattle.answers.proofs.Laws.{refusing-after, handed-after}
+use Rattle.house.proofs.Loops.{laid, read_short, read-refused, read-no-room, read_done}
 use Rattle.house_read.proofs.read.Goals as goal
 
--- src/lib.rt:56:9
 pub returns-then-file-lt20 : goal.returns-then-file-lt20
-returns-then-file-lt20 c = ?
+returns-then-file-lt20 c = refusing-after c.at.ensures (read_short _ _ _ _ (omega (arith, c.if-file-lt20.true)))
 
--- src/lib.rt:60:5
 pub returns-in_err-layout : goal.returns-in_err-layout
-returns-in_err-layout c = ?
+returns-in_err-layout c = handed-after c.from_residual.ensures (read-refused _ _ _ _ c.get_all.ensures (omega (arith, c.if-file-lt20.false)) (sym c.layout.ensures ∙ c.in_err-layout.was))
 
--- src/lib.rt:64:9
 pub returns-then-keys-q : goal.returns-then-keys-q
-returns-then-keys-q c = ?
+returns-then-keys-q c =
+    refusing-after c.at-then-keys-q.ensures
+    (read-no-room _ _ _ _ c.get_all.ensures (omega (arith, c.if-file-lt20.false)) (sym c.layout.ensures ∙ c.in_ok-layout.was) (λ k l. omega (arith, c.if-keys-q.true)))
 
--- src/lib.rt:67:9
 pub returns-then-classes-q : goal.returns-then-classes-q
-returns-then-classes-q c = ?
+returns-then-classes-q c =
+    refusing-after c.at-then-classes-q.ensures
+    (read-no-room _ _ _ _ c.get_all.ensures (omega (arith, c.if-file-lt20.false)) (sym c.layout.ensures ∙ c.in_ok-layout.was) (λ k l. omega (arith, c.if-classes-q.true)))
 
--- src/lib.rt:69:5
 pub get_parts-requires : goal.get_parts-requires
-get_parts-requires c = ?
+get_parts-requires c = (((laid _ _ _).0 (sym c.layout.ensures ∙ c.in_ok-layout.was)).full, omega (arith, c.if-keys-q.false), omega (arith, c.if-classes-q.false))
 
--- src/lib.rt:47:1
 pub returns : goal.returns
-returns c = ?
+returns c =
+    read_done _ _ _ _ c.get_all.ensures (omega (arith, c.if-file-lt20.false)) (sym c.layout.ensures ∙ c.in_ok-layout.was) (omega (arith, c.if-keys-q.false))
+    (omega (arith, c.if-classes-q.false)) c.get_parts.ensures.keys_after c.get_parts.ensures.classes_after
