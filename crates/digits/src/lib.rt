@@ -1,24 +1,22 @@
 // The digits of keys: reading one, as a block by its span or as a square, and how far a block reaches around another. As in the crate `blocks`, m is at most 12.
 #![tactic(auto)]
 
-ghost use Rattle.std.specs.Prelude.{◌≡◌, cond, ◌*◌, ◌^◌, ◌≤◌, ◌<◌, eqb};
-ghost use Rattle.key.specs.Spread.{spreads};
-ghost use Rattle.key.specs.declared.Form.TheVariants.{Block, Malformed};
-ghost use Rattle.key.specs.Form.{form_of};
+ghost use Rattle.std.specs.Prelude.{MatchOption, ◌≡◌, cond, ◌*◌, ◌^◌, ◌≤◌, ◌<◌, eqb};
+ghost use Rattle.key.specs.Form.{span, form_of};
 ghost use Rattle.key.specs.Reading.{Strips, place_or16, pairs_table, EndsIn, start_up, starts_table};
 ghost use Rattle.key.specs.Blocks.{Names, SomeBlock, SquareOf, BelowBlock, Reaches};
 
-use key::{Form, Span, Square, Stripped};
+use key::{Span, Square, Stripped};
 
 // Two digits, for each number below 25: the place of the pixel of that key among 16, or 16 where one of them is 0.
-const PAIRS: [u8; 25] = [
+static PAIRS: [u8; 25] = [
     16, 16, 16, 16, 16, 16, 0, 1, 2, 3, 16, 4, 5, 6, 7, 16, 8, 9, 10, 11, 16, 12, 13, 14, 15,
 ];
 
-fn pairs_table() -> [u8; 25]
-    ensures { result ≡ pairs_table }
+fn pairs_table() -> &'static [u8; 25]
+    ensures { result.now ≡ pairs_table }
 {
-    PAIRS
+    &PAIRS
 }
 
 // A number without most of the zeros that it ends in, by 5^11 or 5^8, if it is as large as that, by 5^5 or by 5^2: at most two are left.
@@ -89,80 +87,77 @@ fn strip_zeros(key: u32) -> Stripped
     most
 }
 
-// Two digits, by the table.
-fn pair_place(pairs: &[u8; 25], two: u32) -> u32
-    requires { (pairs.now ≡ pairs_table) × (two < 25) }
-    ensures { result ≡ place_or16 (form_of 2 two) }
+// The place of the pixel whose key has the two digits, by the table: there is one unless one of them is 0.
+fn pair_place(two: u32) -> Option<u32>
+    requires { two < 25 }
+    ensures { MatchOption result (place_or16 (form_of 2 two) ≡ 16) (λ p. form_of 2 two ≡ Some (span 0 p)) }
 {
-    pairs[two as usize] as u32
+    let place = pairs_table()[two as usize] as u32;
+    if place == 16 {
+        return None;
+    }
+    Some(place)
 }
 
 // What a key is whose digits are read: malformed, unless it has m of them.
-fn form_of_digits(m: u32, digits: u32, exponent: u32, start: u32) -> Form
-    ensures { result ≡ cond (eqb digits m) (Block exponent start) Malformed }
+fn form_of_digits(m: u32, digits: u32, exponent: u32, start: u32) -> Option<Span>
+    ensures { result ≡ cond (eqb digits m) (Some (span exponent start)) None }
 {
     if digits != m {
-        return Form::Malformed;
+        return None;
     }
-    Form::Block { exponent, start }
+    Some(Span { exponent, start })
 }
 
 // Reads a number without the zeros that were taken off, two digits at a time from the small end. k digits are read, with the zeros: they are the key of a block in a picture of side
 // 2^k, at place `start` there. `rest` stands above them.
-fn read_digits(pairs: &[u8; 25], m: u32, low: Stripped) -> Form
-    requires { (pairs.now ≡ pairs_table) × Strips 1 (low.rest * 5 ^ low.zeros) low.zeros low.rest × (low.rest * 5 ^ low.zeros < 5 ^ 12) }
+fn read_digits(m: u32, low: Stripped) -> Option<Span>
+    requires { Strips 1 (low.rest * 5 ^ low.zeros) low.zeros low.rest × (low.rest * 5 ^ low.zeros < 5 ^ 12) }
     ensures { result ≡ form_of m (low.rest * 5 ^ low.zeros) }
 {
     let zeros = low.zeros;
     let mut rest = low.rest;
     let mut k = zeros;
-    let mut start: u32 = 0;
+    let mut start = 0;
     while rest >= 25 {
-        let place = pair_place(pairs, rest % 25);
-        if place == 16 {
-            return Form::Malformed;
-        }
+        let place = pair_place(rest % 25)?;
         start = place * blocks::pow4(k) + start;
-        rest = rest / 25;
+        rest /= 25;
         k += 2;
     }
     if rest < 5 {
         return form_of_digits(m, k + 1, zeros, (rest - 1) * blocks::pow4(k) + start);
     }
-    let place = pair_place(pairs, rest);
-    if place == 16 {
-        return Form::Malformed;
-    }
+    let place = pair_place(rest)?;
     form_of_digits(m, k + 2, zeros, place * blocks::pow4(k) + start)
 }
 
 // Takes the zeros off that the key ends in, in big steps, and reads the other digits from the small end. From 5^12 on a number has more digits than any key.
-pub fn read_key(m: u32, key: u32) -> Form
+pub fn read_key(m: u32, key: u32) -> Option<Span>
     requires { m ≤ 12 }
     ensures { result ≡ form_of m key }
 {
     if key == 0 {
-        return Form::Block {
+        return Some(Span {
             exponent: m,
             start: 0,
-        };
+        });
     }
     if key >= 244140625 {
-        return Form::Malformed;
+        return None;
     }
-    let pairs = pairs_table();
-    read_digits(&pairs, m, strip_zeros(key))
+    read_digits(m, strip_zeros(key))
 }
 
 // Two digits of a block's key, for each number below 25: where they say that its span starts, among 16 places. A zero counts as the first quadrant does.
-const STARTS: [u8; 25] = [
+static STARTS: [u8; 25] = [
     0, 0, 1, 2, 3, 0, 0, 1, 2, 3, 4, 4, 5, 6, 7, 8, 8, 9, 10, 11, 12, 12, 13, 14, 15,
 ];
 
-pub fn starts_table() -> [u8; 25]
-    ensures { result ≡ starts_table }
+pub fn starts_table() -> &'static [u8; 25]
+    ensures { result.now ≡ starts_table }
 {
-    STARTS
+    &STARTS
 }
 
 // How many zeros a number of m digits ends in.
@@ -171,31 +166,25 @@ pub fn zeros_of(m: u32, key: u32) -> u32
     ensures { EndsIn m key result }
 {
     let mut rest = key;
-    let mut zeros: u32 = 0;
-    while zeros < m {
+    for zeros in 0..m {
         if rest % 5 != 0 {
             return zeros;
         }
-        rest = rest / 5;
-        zeros += 1;
+        rest /= 5;
     }
-    zeros
+    m
 }
 
 // Where the span of the block of a key starts, by its digits: two at a time from the small end, and always twelve. Any number has such a start.
-pub fn start_of(starts: &[u8; 25], key: u32) -> u32
-    requires { starts.now ≡ starts_table }
+pub fn start_of(key: u32) -> u32
     ensures { result ≡ start_up 12 key }
 {
     let mut left = key;
-    let mut start: u32 = 0;
-    let mut k: u32 = 0;
-    while k < 12 {
-        let two = left % 25;
-        let pair = starts[two as usize] as u32;
-        start = pair * blocks::pow4(k) + start;
-        left = left / 25;
-        k += 2;
+    let mut start = 0;
+    for k in 0..6 {
+        let pair = starts_table()[(left % 25) as usize] as u32;
+        start = pair * blocks::pow4(2 * k) + start;
+        left /= 25;
     }
     start
 }
@@ -205,9 +194,8 @@ pub fn span_of(m: u32, key: u32) -> Span
     requires { (m ≤ 12) × SomeBlock m key }
     ensures { Names m key result.exponent result.start }
 {
-    let starts = starts_table();
     let exponent = zeros_of(m, key);
-    let start = start_of(&starts, key);
+    let start = start_of(key);
     Span { exponent, start }
 }
 
@@ -218,15 +206,13 @@ pub fn square_of(m: u32, key: u32) -> Square
     ensures { SquareOf m key result }
 {
     let mut rest = key;
-    let mut exponent: u32 = 0;
-    let mut row: u16 = 0;
-    let mut col: u16 = 0;
-    let mut k: u32 = 0;
-    while k < m {
+    let mut exponent = 0;
+    let mut row = 0;
+    let mut col = 0;
+    for k in 0..m {
         let side = blocks::side(k);
         let digit = (rest % 5) as u16;
-        rest = rest / 5;
-        k += 1;
+        rest /= 5;
         if digit == 0 {
             exponent += 1;
         } else {
@@ -239,8 +225,8 @@ pub fn square_of(m: u32, key: u32) -> Square
 
 // How far the block of a key reaches around the block of a larger key and its exponent i: its own exponent where it contains it, otherwise i. Where it does, it is as many digits
 // larger as the one key has over the other, and its own key ends in as many zeros.
-pub fn reach_over(table: &[u32; 256], m: u32, own: u32, key: u32, i: u32) -> u32
-    requires { (table.now ≡ spreads) × (m ≤ 12) × BelowBlock m own key i }
+pub fn reach_over(m: u32, own: u32, key: u32, i: u32) -> u32
+    requires { (m ≤ 12) × BelowBlock m own key i }
     ensures { Reaches m own key i result }
 {
     if own == 0 {
@@ -248,9 +234,9 @@ pub fn reach_over(table: &[u32; 256], m: u32, own: u32, key: u32, i: u32) -> u32
     }
     let over = key - own;
     let mut e = i;
-    let mut p = blocks::pow5(table, i);
+    let mut p = blocks::pow5(i);
     while p <= over {
-        p = 5 * p;
+        p *= 5;
         e += 1;
     }
     if own % p != 0 {

@@ -1,10 +1,10 @@
 -- `digits::pair_place` meets its contract, by the entry of the table.
-use native.Mathlib.Omega.{arith}
-use Rattle.key.proofs.Loops.{pairs-entry, place-most}
+use Rattle.std.proofs.Common.{sym, ◌∙◌}
+use Rattle.key.proofs.Loops.{pairs-entry, pixel-told}
 use Rattle.digits.proofs.pair_place.Goals as goal
 
-pub overflow_cast-result-2 : goal.overflow_cast-result-2
-overflow_cast-result-2 c = let s = c.before.before in omega (arith, pairs-entry s.args.two s.requires.0 s.requires.1, place-most s.args.two)
+pub returns-then-place-eq16 : goal.returns-then-place-eq16
+returns-then-place-eq16 c = sym (pairs-entry c.args.two c.pairs_table.ensures c.requires) ∙ c.if-place-eq16.true
 
 pub returns : goal.returns
-returns c = pairs-entry c.args.two c.requires.0 c.requires.1
+returns c = pixel-told c.args.two (pairs-entry c.args.two c.pairs_table.ensures c.requires) c.if-place-eq16.false

@@ -1,38 +1,29 @@
 -- `digits::reach_over` meets its contract, by the invariant beside this.
-use Prim.Native.Nat.{◌+◌, ◌-◌, ◌*◌, ◌≤◌}
-use native.Mathlib.Omega.{arith}
+use Rattle.std.proofs.Common.{◌≡◌, ◌+◌, ◌-◌, ◌*◌, ◌≤◌, arith}
 use Rattle.key.proofs.Laws.{pow-least, pow-most}
 use Rattle.key.proofs.Loops.{Grown, grown-first, grown-next, grown-most, below-room, reached, unreached, reached-all}
 use Rattle.digits.proofs.reach_over.Goals as goal
-use Rattle.digits.proofs.reach_over.Goals.{In-loop-p, Start}
+use Rattle.digits.proofs.reach_over.Goals.{In-loop-p}
 
 pub returns-then-own-eq0 : goal.returns-then-own-eq0
-returns-then-own-eq0 c = reached-all c.requires.2 c.if-own-eq0.true
-
-pub overflow_sub-over : goal.overflow_sub-over
-overflow_sub-over c = omega (arith, c.requires.2.less)
+returns-then-own-eq0 c = reached-all c.requires.1 c.if-own-eq0.true
 
 pub pow5-p-requires : goal.pow5-p-requires
-pow5-p-requires c = (c.requires.0, omega (arith, (below-room c.requires.2).small, c.requires.1))
+pow5-p-requires c = omega (arith, (below-room c.requires.1).small)
 
 pub loop-p-init : goal.loop-p-init
 loop-p-init c = grown-first c.pow5-p.ensures.is
 
 -- the state after the turn
 module _ (c : In-loop-p) where
-  abbrev start : Start
-  start = c.before.before.before.before
+  next : Grown c.args.i (c.args.key - c.args.own) (c.loop-p.p * 5) (c.loop-p.e + 1)
+  next = let times : c.loop-p.p * 5 ≡ 5 * c.loop-p.p = omega arith in rw times (grown-next c.loop-p.invariant c.loop-p-test.true)
 
-  next : Grown start.args.i (start.args.key - start.args.own) (5 * c.loop-p.p) (c.loop-p.e + 1)
-  next = grown-next c.loop-p.invariant (omega arith)
-
-  room : c.loop-p.e + 1 ≤ start.args.m
-  room = grown-most start.requires.2 next
+  room : c.loop-p.e + 1 ≤ c.args.m
+  room = grown-most c.requires.1 next
 
 pub overflow_mul-p : goal.overflow_mul-p
-overflow_mul-p c =
-    let s = start c in
-    omega (arith, c.loop-p-test.true, (below-room s.requires.2).keys, pow-least 4 s.args.i, pow-most 4 s.args.m s.requires.1)
+overflow_mul-p c = omega (arith, (below-room c.requires.1).keys, pow-least 4 c.args.i, pow-most 4 c.args.m c.requires.0)
 
 pub overflow_add-e : goal.overflow_add-e
 overflow_add-e c = omega (arith, room c)
@@ -43,15 +34,8 @@ loop-p-smaller c = omega (arith, room c)
 pub loop-p-preserved : goal.loop-p-preserved
 loop-p-preserved c = next c
 
-pub nonzero_rem-own : goal.nonzero_rem-own
-nonzero_rem-own c = omega (arith, c.loop-p.invariant.power, pow-least 4 c.loop-p.e)
-
 pub returns-then-own-p-ne0 : goal.returns-then-own-p-ne0
-returns-then-own-p-ne0 c =
-    let s = c.before.before.before.before.before in
-    unreached s.requires.2 c.loop-p.invariant (omega arith) c.if-own-p-ne0.true
+returns-then-own-p-ne0 c = unreached c.requires.1 c.loop-p.invariant (omega arith) c.if-own-p-ne0.true
 
 pub returns : goal.returns
-returns c =
-    let s = c.before.before.before.before.before in
-    reached s.requires.2 c.loop-p.invariant (omega arith) c.if-own-p-ne0.false
+returns c = reached c.requires.1 c.loop-p.invariant (omega arith) c.if-own-p-ne0.false

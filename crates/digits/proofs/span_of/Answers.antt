@@ -5,6 +5,5 @@ use Rattle.digits.proofs.span_of.Goals as goal
 
 pub returns : goal.returns
 returns c =
-    let e = c.before.before.before.before in
-    let n = e.requires.1.names in
-    rw (ends-exponent n c.zeros_of-exponent.ensures, c.start_of-start.ensures ∙ start-told e.requires.0 n) n
+    let n = c.requires.1.names in
+    rw (ends-exponent n c.zeros_of-exponent.ensures, c.start_of-start.ensures ∙ start-told c.requires.0 n) n

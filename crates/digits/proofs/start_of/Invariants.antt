@@ -1,10 +1,7 @@
--- `digits::start_of` meets its contract. The invariant is `Starting`, the measure the number of digits left.
-use Prim.Native.Nat.{◌-◌}
+-- `digits::start_of` meets its contract. The invariant is `Starting`.
+use Prim.Native.Nat.{◌*◌}
 use Rattle.key.proofs.Loops.{Starting}
 use Rattle.digits.proofs.start_of.Given as goal
 
 abbrev pub invariant-loop-k : goal.invariant-loop-k
-invariant-loop-k l = Starting l.key l.left l.start l.k
-
-abbrev pub decreases-loop-k : goal.decreases-loop-k
-decreases-loop-k l = 12 - l.k
+invariant-loop-k l = Starting l.key l.left l.start (2 * l.k)

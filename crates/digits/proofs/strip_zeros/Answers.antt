@@ -5,13 +5,13 @@ use Rattle.key.proofs.Loops.{strips-few, strips-off}
 use Rattle.digits.proofs.strip_zeros.Goals as goal
 
 pub overflow_add-result : goal.overflow_add-result
-overflow_add-result c = let s = c.before.before.before in omega (arith, strips-few 12 s.strip_most-most.ensures s.requires.1)
+overflow_add-result c = omega (arith, strips-few 12 c.strip_most-most.ensures c.requires.1)
 
 pub returns-then-two-rest : goal.returns-then-two-rest
 returns-then-two-rest c = strips-off 2 1 c.strip_most-most.ensures c.if-two-rest.true
 
 pub overflow_add-result-then-one-rest : goal.overflow_add-result-then-one-rest
-overflow_add-result-then-one-rest c = let s = c.before.before.before.before in omega (arith, strips-few 12 s.strip_most-most.ensures s.requires.1)
+overflow_add-result-then-one-rest c = omega (arith, strips-few 12 c.strip_most-most.ensures c.requires.1)
 
 pub returns-then-one-rest : goal.returns-then-one-rest
 returns-then-one-rest c =

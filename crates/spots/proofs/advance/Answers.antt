@@ -1,12 +1,9 @@
 -- `spots::advance` meets its contract: where a block's keys end, those of the largest block begin that starts where its span ends.
 use Rattle.std.proofs.Common.{◌≡◌, ◌+◌, ◌*◌, ◌^◌, ◌≤◌, refl, arith}
-use Rattle.key.proofs.Laws.{Lies, pow-most}
+use Rattle.key.proofs.Laws.{pow-most}
 use Rattle.key.proofs.Loops.{ones-pow, next-room, next-stands}
 use Rattle.spots.proofs.advance.Goals as goal
 use Rattle.spots.proofs.advance.Goals.{After-ones, Start}
-
-room : (c : Start) → Lies c.args.m c.args.key c.args.i c.args.start
-room c = next-room c.requires.0 c.requires.1
 
 pub pow4-requires : goal.pow4-requires
 pow4-requires c = omega (arith, (next-room c.requires.0 c.requires.1).small)
