@@ -4,6 +4,7 @@ use mathlib.Core.Path.{◌≡◌, refl, sym, ap, ◌∙◌}
 use mathlib.Core.Bool.{Bool, true, false, cond}
 use mathlib.Core.List.{List, [], ◌∷◌, ◌++◌}
 use Prim.Native.Nat.{ℕ, zero, suc, ◌+◌, ◌*◌, ◌/◌, ◌%◌, ◌^◌, ◌≤◌, ◌<◌}
+use native.Mathlib.Nat.{one-le-pow}
 use native.Mathlib.Numerals.{add-one}
 use native.Mathlib.Omega.{arith}
 use lib.Dec.{ltb, leb}
@@ -76,6 +77,17 @@ width_some x = digits-some 9 x
 pub width-most : (x : ℕ) → length (digits_of x) ≤ 10
 unfolding digits_of
 width-most x = digits-most 10 x
+
+-- by the power of ten that is the last one not above the number
+digits-by-power : (n k x : ℕ) → k < n → 10 ^ k ≤ x → x < 10 * 10 ^ k → length (digits n x) ≡ suc k
+digits-by-power zero k x l a b = absurd (omega arith)
+digits-by-power (suc n) zero x l a b = ap length (digits-one n x (omega arith))
+digits-by-power (suc n) (suc k) x l a b =
+    ap length (digits_more n x (omega (arith, one-le-pow k 10 (omega arith)))) ∙ simp length-append (omega (arith, digits-by-power n k (x / 10) (omega arith) (omega arith) (omega arith)))
+
+pub width-by-power : (k x : ℕ) → k < 10 → 10 ^ k ≤ x → x < 10 * 10 ^ k → length (digits_of x) ≡ k + 1
+unfolding digits_of
+width-by-power k x l a b = rw add-one (digits-by-power 10 k x l a b)
 
 -- ---- numbers with spaces
 

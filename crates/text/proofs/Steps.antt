@@ -1,11 +1,12 @@
 -- Digits, from the last on: what the loop does in a turn.
 -- Assumes nothing.
-use mathlib.Core.Path.{◌≡◌, sym, ap, ◌∙◌}
-use mathlib.Core.List.{List, [], ◌∷◌, ◌++◌, append-nil}
-use Prim.Native.Nat.{ℕ, ◌+◌, ◌-◌, ◌/◌, ◌%◌, ◌^◌, ◌≤◌, ◌<◌}
+use mathlib.Core.Path.{◌≡◌, refl, sym, ap, ◌∙◌}
+use mathlib.Core.List.{List, [], ◌∷◌, ◌++◌}
+use Prim.Native.Nat.{ℕ, zero, suc, ◌+◌, ◌-◌, ◌/◌, ◌%◌, ◌^◌, ◌≤◌, ◌<◌}
 use native.Mathlib.Numerals.{add-one}
+use native.Mathlib.Decide.{dec_lt}
 use native.Mathlib.Omega.{arith}
-use lib.ListN.{length, take, drop, set, length-set, drop_of_length-le}
+use lib.ListN.{length, take, drop, set, length-set}
 use lib.Seq.{set_split, append_snoc, drop_at, length-take-le}
 use Rattle.answers.specs.After.{after}
 use Rattle.answers.proofs.Laws.{overwrite-part}
@@ -15,41 +16,53 @@ use Rattle.text.proofs.Digits.{digits-small, digits-large, width_small, width-la
 drop-set : (cells : List ℕ) (i y : ℕ) → i < length cells → drop i (set cells i y) ≡ y ∷ drop (i + 1) cells
 drop-set cells i y l = ap (drop i) (set_split cells i y l) ∙ drop_at (take i cells) _ i (length-take-le i cells (omega arith)) ∙ rw add-one
 
--- behind place i stand the last digits of x, and `rest` is the number of those up to i
+-- the digits of `rest` that go before place i: none where there is no place
+abbrev pub ahead : ℕ → ℕ → List ℕ
+ahead zero rest = []
+ahead (suc n) rest = digits_of rest
+
+ahead-some : (i rest : ℕ) → 1 ≤ i → ahead i rest ≡ digits_of rest
+ahead-some zero rest l = absurd (omega arith)
+ahead-some (suc n) rest l = refl
+
+-- from place i on stand the last digits of x, and `rest` is the number of those before it
 pub record Spelling (x i rest : ℕ) (cells : List ℕ) : Type 0 where
-  pub is : digits_of rest ++ drop (i + 1) cells ≡ digits_of x
-  pub left : length (digits_of rest) ≡ i + 1
-  pub within : i < length cells
+  pub is : ahead i rest ++ drop i cells ≡ digits_of x
+  pub left : length (ahead i rest) ≡ i
+  pub within : i ≤ length cells
   pub small : rest < 2 ^ 32
 
-pub spell-first : (x i : ℕ) (cells : List ℕ) → x < 2 ^ 32 → i + 1 ≡ length cells → length cells ≡ length (digits_of x) → Spelling x i x cells
-spell-first x i cells s e l =
-    let all : length cells ≤ i + 1 = omega arith in
-    let behind : drop (i + 1) cells ≡ [] = drop_of_length-le cells all in
-    record { is = rw behind (append-nil (digits_of x)); left = sym l ∙ sym e; within = omega arith; small = s }
+module _ {x i rest : ℕ} {cells : List ℕ} (s : Spelling x i rest cells) (some : 1 ≤ i) where
+  now : ahead i rest ≡ digits_of rest
+  now = ahead-some i rest some
 
-module _ {x i rest : ℕ} {cells : List ℕ} (s : Spelling x i rest cells) where
-  pub spell-more : 10 ≤ rest → 1 ≤ i
-  spell-more l = omega (arith, s.left, width-large rest l s.small, width_some (rest / 10))
-
-  pub spell_next : 10 ≤ rest → Spelling x (i - 1) (rest / 10) (set cells i (48 + rest % 10))
-  spell_next l =
-      let y = 48 + rest % 10 in
-      let more = spell-more l in
+  behind : drop (i - 1) (set cells (i - 1) (48 + rest % 10)) ≡ (48 + rest % 10) ∷ drop i cells
+  behind =
       let e : i - 1 + 1 ≡ i = omega arith in
-      let behind : drop (i - 1 + 1) (set cells i y) ≡ y ∷ drop (i + 1) cells = rw e (drop-set cells i y s.within) in
-      record {
-        is = rw behind (sym (append_snoc (digits_of (rest / 10)) y _) ∙ rw (← digits-large rest l s.small) s.is);
-        left = omega (arith, s.left, width-large rest l s.small);
-        within = rw length-set (omega (arith, s.within));
-        small = omega (arith, s.small);
-      }
+      rw (drop-set cells (i - 1) (48 + rest % 10) (omega (arith, s.within)), e)
 
-  pub spell_last : rest < 10 → set cells i (48 + rest) ≡ digits_of x
-  spell_last l =
-      let first : i ≡ 0 = omega (arith, s.left, width_small rest l) in
-      let whole : set cells i (48 + rest) ≡ (48 + rest) ∷ drop (i + 1) cells = rw first (set_split cells 0 (48 + rest) (omega (arith, s.within))) in
-      whole ∙ rw (digits-small rest l) at s.is
+  -- what goes ahead and this digit are the digits of `rest`
+  digit : (ahead (i - 1) (rest / 10) ++ (48 + rest % 10) ∷ [] ≡ digits_of rest) × (length (ahead (i - 1) (rest / 10)) ≡ i - 1)
+  digit = go (dec_lt rest 10)
+    where
+      go : Dec (rest < 10) → (ahead (i - 1) (rest / 10) ++ (48 + rest % 10) ∷ [] ≡ digits_of rest) × (length (ahead (i - 1) (rest / 10)) ≡ i - 1)
+      go (yes l) =
+          let last : i - 1 ≡ 0 = omega (arith, rw now at s.left, width_small rest l) in
+          let whole : rest % 10 ≡ rest = omega arith in
+          (rw (last, whole, digits-small rest l), rw last)
+      go (no h) =
+          let large : 10 ≤ rest = omega (arith, h) in
+          let wide = width-large rest large s.small in
+          let ahead : ahead (i - 1) (rest / 10) ≡ digits_of (rest / 10) = ahead-some (i - 1) (rest / 10) (omega (arith, rw now at s.left, wide, width_some (rest / 10))) in
+          (rw (ahead, digits-large rest large s.small), rw ahead (omega (arith, rw now at s.left, wide)))
+
+  pub spell_next : Spelling x (i - 1) (rest / 10) (set cells (i - 1) (48 + rest % 10))
+  spell_next = record {
+    is = rw behind (sym (append_snoc (ahead (i - 1) (rest / 10)) (48 + rest % 10) (drop i cells)) ∙ rw (digit.0, ← now) s.is);
+    left = digit.1;
+    within = rw length-set (omega (arith, s.within));
+    small = omega (arith, s.small);
+  }
 
 -- the bytes that were put into the front of a slice
 pub put_front : (text out : List ℕ) {n : ℕ} {ys : List ℕ} → n ≡ length text → ys ≡ text → n ≤ length out → after n (ys ++ drop n out) ≡ put_of text out

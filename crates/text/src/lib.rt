@@ -9,13 +9,7 @@ ghost use Rattle.text.specs.Text.{digits_of, spaced, line_of, put_of};
 fn width(x: u32) -> usize
     ensures { result ≡ length (digits_of x) }
 {
-    let mut n: usize = 1;
-    let mut rest = x;
-    while 10 <= rest {
-        rest = rest / 10;
-        n += 1;
-    }
-    n
+    if x == 0 { 1 } else { x.ilog10() as usize + 1 }
 }
 
 // Fills just as many bytes as the number has digits, from the last on.
@@ -23,14 +17,11 @@ fn spell(x: u32, to: &mut [u8])
     requires { length to.old ≡ length (digits_of x) }
     ensures { to.new ≡ digits_of x }
 {
-    let mut i = to.len() - 1;
     let mut rest = x;
-    while 10 <= rest {
-        to[i] = 48 + (rest % 10) as u8;
-        rest = rest / 10;
-        i -= 1;
+    for i in (0..to.len()).rev() {
+        to[i] = b'0' + (rest % 10) as u8;
+        rest /= 10;
     }
-    to[i] = 48 + rest as u8;
 }
 
 pub fn put_number(x: u32, out: &mut [u8]) -> usize
@@ -49,14 +40,12 @@ fn span(numbers: &[u32], most: usize) -> usize
     ensures { result ≡ min (length (spaced numbers.now)) most }
 {
     let mut total: usize = 0;
-    let mut i: usize = 0;
-    while i < numbers.len() {
-        let n = width(numbers[i]);
+    for x in numbers {
+        let n = width(*x);
         if most - total <= n {
             return most;
         }
         total += n + 1;
-        i += 1;
     }
     total
 }
@@ -67,12 +56,10 @@ fn put_numbers(numbers: &[u32], out: &mut [u8]) -> usize
     ensures { after result out.new ≡ put_of (spaced numbers.now) out.old }
 {
     let mut at: usize = 0;
-    let mut i: usize = 0;
-    while i < numbers.len() {
+    for x in numbers {
         out[at] = b' ';
         at += 1;
-        at += put_number(numbers[i], &mut out[at..]);
-        i += 1;
+        at += put_number(*x, &mut out[at..]);
     }
     at
 }

@@ -9,14 +9,8 @@ use Rattle.text.proofs.put_number.Goals as goal
 pub returns-then-out-n : goal.returns-then-out-n
 returns-then-out-n c = sym (put-none _ _ (omega (arith, c.if-out-n.true)))
 
-pub slice_bounds-spell-end-2 : goal.slice_bounds-spell-end-2
-slice_bounds-spell-end-2 c = simp length-take (omega (arith, c.if-out-n.false))
-
 pub spell-requires : goal.spell-requires
 spell-requires c = simp length-take (omega (arith, c.if-out-n.false))
 
 pub returns : goal.returns
-returns c =
-    let spelt = c.before.before.before in
-    let test = spelt.before.before in
-    put_front _ _ test.width-n.ensures spelt.spell.ensures test.if-out-n.false
+returns c = put_front _ _ c.width-n.ensures c.spell.ensures c.if-out-n.false
