@@ -30,7 +30,7 @@ use Rattle.exist.specs.declared.Existence.TheVariants as existence
 use Rattle.exist.specs.Exist.{presence_by}
 use Rattle.exist.proofs.Laws.{presence-is, exist-by-lengths, exist-untouched}
 use Rattle.lutniorad.specs.declared.Answer.{Answer}
-use Rattle.lutniorad.specs.Numbers.{values, refused, of_checked, of_existence, of_reading, of_writing}
+use Rattle.lutniorad.specs.Numbers.{values, refused, of_count, of_existence, of_reading}
 use Rattle.lutniorad.specs.Calls.{CheckIn, ExistIn, ReadIn, WriteIn}
 use Rattle.lutniorad.proofs.Crossing.{both-slices}
 use Rattle.lutniorad.proofs.Told.{four, told-most, told-when, told-kept}
@@ -39,7 +39,7 @@ use Rattle.lutniorad.proofs.Told.{four, told-most, told-when, told-kept}
 
 module _ (whole : Bool) (m : ℕ) (keys classes : List ℕ) {r : Answer} (call : CheckIn whole m keys classes r) where
   pub check-says : r ≡ answer refused (map_refusals_in whole m keys (length classes)) (values (length keys) 0)
-  check-says = call.answer ∙ ap of_checked (check-is whole m keys (length classes)) ∙ answer-part of_checked checked.Refused (map_refusals_in whole m keys (length classes)) _
+  check-says = call.answer ∙ ap of_count (check-is whole m keys (length classes)) ∙ answer-part of_count checked.Refused (map_refusals_in whole m keys (length classes)) _
 
   pub check-numbered : r.refusal ≤ 5
   check-numbered = told-most four _ refl (numbered-map (omega arith) whole m keys (length classes)) check-says
@@ -106,8 +106,8 @@ module _ (whole : Bool) (m : ℕ) (keys classes out : List ℕ) {out' : List ℕ
   pub write-says : r ≡ answer refused (write_refusals_in whole m (length keys) (length classes) (length out)) (values (20 + 5 * length keys) 0)
   write-says =
       call.answer
-      ∙ ap of_writing (write-by-length whole m keys classes out)
-      ∙ answer-part of_writing writing.Refused (write_refusals_in whole m (length keys) (length classes) (length out)) _
+      ∙ ap of_count (write-by-length whole m keys classes out)
+      ∙ answer-part of_count writing.Refused (write_refusals_in whole m (length keys) (length classes) (length out)) _
 
   pub write-numbered : r.refusal ≤ 8
   write-numbered = told-most four _ refl (numbered-write whole m (length keys) (length classes) (length out)) write-says

@@ -27,7 +27,7 @@ use Rattle.exist.proofs.Laws.{presence-is, exist-leaves}
 use Rattle.report.specs.declared.Reported.TheVariants as reported-as
 use Rattle.report.proofs.Laws.{report-is}
 use Rattle.lutniorad.specs.declared.Answer.{Answer}
-use Rattle.lutniorad.specs.Numbers.{values, refused, of_existence, of_reported}
+use Rattle.lutniorad.specs.Numbers.{values, refused, of_existence, of_count}
 use Rattle.lutniorad.specs.Calls.{ExistIn, ReportIn}
 use Rattle.lutniorad.specs.Promises.{RefusalLeaves, ExistPromiseBy, ReportPromiseBy}
 use Rattle.lutniorad.proofs.Answered.{exist-says, exist-answered}
@@ -98,7 +98,7 @@ module _ (whole : Bool) (rule : ℕ → ℕ) (m : ℕ) (keys classes : List ℕ)
   reported : after r (border', out') ≡ used_in whole refused (values (W.h * W.w) 0) counts m keys (length classes) W border out
   reported =
       let done = reported-as.Done (W.h * W.w) in
-      used-crossed whole of_reported reported-as.Refused done counts m keys (length classes) W border out (report-is whole rule m keys (length classes) W border out) call
+      used-crossed whole of_count reported-as.Refused done counts m keys (length classes) W border out (report-is whole rule m keys (length classes) W border out) call
 
   pub report-says : r
       ≡ answer refused (use_refusals_in whole m keys (length classes) W (length border) ++ room_refusals (length out) (length counts)) (values (W.h * W.w) 0)

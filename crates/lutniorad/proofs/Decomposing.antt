@@ -25,7 +25,7 @@ use Rattle.window.proofs.Laws.{maximal-listed, listed-ordered, blocks-capped, bl
 use Rattle.decompose.specs.declared.Decomposed.TheVariants as decomposed-as
 use Rattle.decompose.proofs.Laws.{decompose-is, decompose-within}
 use Rattle.lutniorad.specs.declared.Answer.{Answer}
-use Rattle.lutniorad.specs.Numbers.{values, refused, of_decomposed}
+use Rattle.lutniorad.specs.Numbers.{values, refused, of_count}
 use Rattle.lutniorad.specs.Calls.{Decompose, DecomposeTiled}
 use Rattle.lutniorad.specs.Promises.{DecomposePromise}
 use Rattle.lutniorad.proofs.Crossing.{call-one, unless-crossed}
@@ -71,8 +71,8 @@ module _ (m top : ℕ) (W : Window) (out : List ℕ) {out' : List ℕ} {r : Answ
   -- the call in numbers
   decomposed : after r out' ≡ tiled_for refused m top out (drawn_for refused (values (length ks) 0) ks m W out)
   decomposed =
-      unless-crossed of_decomposed decomposed-as.Refused (tile_refusals m top) out _ (decompose-is m top W out) call
-      ∙ ap (tiled_for refused m top out) (drawn-said decomposed-as.Refused (decomposed-as.Done (length ks)) ks m W out of_decomposed)
+      unless-crossed of_count decomposed-as.Refused (tile_refusals m top) out _ (decompose-is m top W out) call
+      ∙ ap (tiled_for refused m top out) (drawn-said decomposed-as.Refused (decomposed-as.Done (length ks)) ks m W out of_count)
 
   -- the first of refusals 1 and 17, and of 1, 6 and 8, or the number of blocks; of the slice only the length counts
   pub decompose-says : r ≡ answer refused (tile_refusals m top ++ drawn_refusals m W (length ks) (length out)) (values (length ks) 0)
@@ -80,7 +80,7 @@ module _ (m top : ℕ) (W : Window) (out : List ℕ) {out' : List ℕ} {r : Answ
 
   -- with a tile no larger than the picture
   untiled : top ≤ m → after r out' ≡ drawn_for refused (values (length ks) 0) ks m W out
-  untiled cap = drawn-crossed of_decomposed decomposed-as.Refused (decomposed-as.Done (length ks)) ks m W out (decompose-within m top W out cap) call
+  untiled cap = drawn-crossed of_count decomposed-as.Refused (decomposed-as.Done (length ks)) ks m W out (decompose-within m top W out cap) call
 
   pub decompose-numbered : top ≤ m → r.refusal ≤ 8
   decompose-numbered cap = drawn-numbered (length ks) ks m W out (untiled cap)

@@ -12,7 +12,7 @@ use Rattle.house.specs.declared.Reading.{Reading}
 use Rattle.house.specs.declared.Writing.{Writing}
 use Rattle.house.proofs.Laws.{length-file, read-leaves, write-leaves, written-read-lent, read-written}
 use Rattle.lutniorad.specs.declared.Answer.{Answer}
-use Rattle.lutniorad.specs.Numbers.{values, of_reading, of_writing}
+use Rattle.lutniorad.specs.Numbers.{values, of_reading, of_count}
 use Rattle.lutniorad.specs.Calls.{ReadIn, WriteIn}
 use Rattle.lutniorad.specs.Promises.{ReadPromise, WritePromise}
 use Rattle.lutniorad.proofs.Answered.{read-answered, write-answered}
@@ -37,7 +37,7 @@ module _ (whole : Bool) (file keys classes : List ℕ) {keys' classes' : List �
       let second = ap (λ (x : Answer). x.second) p.numbers in
       let e = read-written whole file keys classes low (read-leaves whole file keys classes ((read-answered whole file keys classes call).0 z)) out room in
       let back = rw (← first, ← second, ← p.keys-are, ← p.classes-are) at e in
-      (again.answer ∙ ap (λ (x : After Writing (List ℕ)). of_writing x.answer) back, again.cells ∙ ap (λ (x : After Writing (List ℕ)). x.lent) back)
+      (again.answer ∙ ap (λ (x : After Writing (List ℕ)). of_count x.answer) back, again.cells ∙ ap (λ (x : After Writing (List ℕ)). x.lent) back)
 
 module _ (whole : Bool) (m : ℕ) (keys classes out : List ℕ) {out' : List ℕ} {r : Answer} (call : WriteIn whole m keys classes out r out') (z : r.refusal ≡ 0) where
   pub write-promise : WritePromise m keys classes out r out'
@@ -45,7 +45,7 @@ module _ (whole : Bool) (m : ℕ) (keys classes out : List ℕ) {out' : List ℕ
       let t = (write-answered whole m keys classes out call).0 z in
       let e = write-leaves whole m keys classes out t in
       record {
-        number = call.answer ∙ ap (λ (x : After Writing (List ℕ)). of_writing x.answer) e;
+        number = call.answer ∙ ap (λ (x : After Writing (List ℕ)). of_count x.answer) e;
         long = length-file m keys classes (sym t.0.same);
         cells = call.cells ∙ ap (λ (x : After Writing (List ℕ)). x.lent) e;
       }

@@ -24,7 +24,7 @@ use Rattle.month.specs.Promises.{Addable}
 use Rattle.month.proofs.Laws.{clear-is, empty-length, numbered-add, add-addable, map-length, add_is, add-table}
 use Rattle.month.proofs.Laws.{month-none, next-m, next-window, next-maps, next_row, sane-next}
 use Rattle.lutniorad.specs.declared.Answer.{Answer}
-use Rattle.lutniorad.specs.Numbers.{values, refused, of_cleared, of_added}
+use Rattle.lutniorad.specs.Numbers.{values, refused, of_cleared, of_count}
 use Rattle.lutniorad.specs.Calls.{MonthClear, MonthAdd}
 use Rattle.lutniorad.specs.MonthPromises.{MonthClearPromise, MonthAddPromise}
 use Rattle.lutniorad.proofs.Drawing.{drawn-crossed, drawn-says, drawn-numbered, drawn-answered, drawn-kept, drawn-done}
@@ -67,7 +67,7 @@ module _ (m : ℕ) (keys classes border table : List ℕ) {border' table' : List
   -- the call in numbers
   adds : ◌≡◌ {A = After Answer (List ℕ × List ℕ)} (after r (border', table'))
       (unless refused rs (border, table) (after (values (maps_in table + 1) 0) (spent (window_in table) border, overwrite (add_map m keys classes table) table)))
-  adds = unless-crossed of_added added-as.Refused rs (border, table) _ (add_is m keys classes border table) call
+  adds = unless-crossed of_count added-as.Refused rs (border, table) _ (add_is m keys classes border table) call
 
   -- the first refusal that holds, or the number of maps; of the border only the length counts
   pub month-add-says : r ≡ answer refused (add_refusals m keys (length classes) (length border) table) (values (maps_in table + 1) 0)

@@ -29,7 +29,7 @@ use Rattle.overlay.specs.Select.{class_selection}
 use Rattle.overlay.specs.Overlay.{exist_over, report_over, select_over}
 use Rattle.overlay.proofs.Laws.{exist-over-is, report-over-is, select-over-is, selection-flat, class-blockwise, class-most, class-rising, class-makes, class-least}
 use Rattle.lutniorad.specs.declared.Answer.{Answer}
-use Rattle.lutniorad.specs.Numbers.{refused_by, of_exist_over, of_report_over, of_select_over}
+use Rattle.lutniorad.specs.Numbers.{refused_by, of_exist_over, of_count_over}
 use Rattle.lutniorad.specs.Calls.{Check, SparseCheck, ExistIn, ReportIn, SelectIn, OverlayExist, OverlayReport, OverlaySelect}
 use Rattle.lutniorad.specs.Promises.{RefusalLeaves, ExistPromiseBy, ReportPromiseBy}
 use Rattle.lutniorad.specs.OverlayPromises.{Overlayable, OverlayRefusals, OverlaySelectPromise}
@@ -44,10 +44,10 @@ abbrev existing : Layers Existence ExistOver Answer
 existing = record { say = of_exist_over; refuse = exist-over.Refused; tell = exist-over.Told; number = λ (x : Answer). x.refusal; tells = λ map n p. refl }
 
 abbrev reporting : Layers Reported ReportOver Answer
-reporting = record { say = of_report_over; refuse = report-over.Refused; tell = report-over.Told; number = λ (x : Answer). x.refusal; tells = λ map n p. refl }
+reporting = record { say = of_count_over; refuse = report-over.Refused; tell = report-over.Told; number = λ (x : Answer). x.refusal; tells = λ map n p. refl }
 
 abbrev selecting : Layers Selected SelectOver Answer
-selecting = record { say = of_select_over; refuse = select-over.Refused; tell = select-over.Told; number = λ (x : Answer). x.refusal; tells = λ map n p. refl }
+selecting = record { say = of_count_over; refuse = select-over.Refused; tell = select-over.Told; number = λ (x : Answer). x.refusal; tells = λ map n p. refl }
 
 -- where no lent slice was written, and the refusal is not 8
 kept-all : {W : Window} {border out : List ℕ} {r : Answer} {border' out' : List ℕ} → ¬ (r.refusal ≡ 8) → ◌≡◌ {A = List ℕ × List ℕ} (border', out') (border, out)

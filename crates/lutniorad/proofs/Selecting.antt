@@ -23,7 +23,7 @@ use Rattle.select.specs.Select.{selection}
 use Rattle.select.proofs.Laws.{select-is, selection-pixels, selection-one, selection-once, selection-capped, selection-few}
 use Rattle.sparse_select.proofs.Laws.{Blockwise, laid-pixels, laid_one, laid-once}
 use Rattle.lutniorad.specs.declared.Answer.{Answer}
-use Rattle.lutniorad.specs.Numbers.{values, refused, of_selected}
+use Rattle.lutniorad.specs.Numbers.{values, refused, of_count}
 use Rattle.lutniorad.specs.Calls.{SelectIn, Select, SelectTiled}
 use Rattle.lutniorad.specs.Promises.{RefusalLeaves, SelectStates, SelectPromise}
 use Rattle.lutniorad.proofs.Crossing.{call-one}
@@ -36,7 +36,7 @@ module _ (whole : Bool) (ks : List ℕ) (m top : ℕ) (keys classes : List ℕ) 
   selects : after r (border', out') ≡ tiled_for refused m top (border, out) (used_in whole refused (values (length ks) 0) ks m keys (length classes) W border out)
   selects =
       let numbers = selected-as.Done (length ks) in
-      tiled-use-crossed whole of_selected selected-as.Refused numbers ks m top keys (length classes) W border out (select-is whole ks m top keys (length classes) W border out) call
+      tiled-use-crossed whole of_count selected-as.Refused numbers ks m top keys (length classes) W border out (select-is whole ks m top keys (length classes) W border out) call
 
   pub select-says : r
       ≡ answer refused (tile_refusals m top ++ (use_refusals_in whole m keys (length classes) W (length border) ++ room_refusals (length out) (length ks))) (values (length ks) 0)

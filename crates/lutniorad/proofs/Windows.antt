@@ -21,7 +21,7 @@ use Rattle.many.specs.Promises.{InFours, Askable}
 use Rattle.many.proofs.Laws.{line_refused, lines-length, lines_at, widest-wider, left-length, left-cell}
 use Rattle.many.proofs.Laws.{many-askable, many-25, numbered-many, many_is}
 use Rattle.lutniorad.specs.declared.Answer.{Answer}
-use Rattle.lutniorad.specs.Numbers.{values, refused, of_many}
+use Rattle.lutniorad.specs.Numbers.{values, refused, of_count}
 use Rattle.lutniorad.specs.Calls.{Windows}
 use Rattle.lutniorad.specs.ManyPromises.{WindowsPromise}
 use Rattle.lutniorad.proofs.Crossing.{both-slices, unless-crossed}
@@ -38,7 +38,7 @@ module _ (m : ℕ) (keys classes windows border out : List ℕ) {r : Answer} {bo
   -- the call in numbers
   counted : ◌≡◌ {A = After Answer (List ℕ × List ℕ)} (after r (border', out'))
       (unless refused rs (border, out) (after (values (length Ws) 0) (left_by m Ws border, overwrite (lines_of m keys Ws) out)))
-  counted = unless-crossed of_many many-as.Refused rs (border, out) _ (many_is m keys (length classes) windows border out) call
+  counted = unless-crossed of_count many-as.Refused rs (border, out) _ (many_is m keys (length classes) windows border out) call
 
   -- the first refusal that holds, or the number of windows; of the two lent slices only the lengths count
   pub windows-says : r ≡ answer refused (many_refusals m keys (length classes) windows (length border) (length out)) (values (length (windows_in windows)) 0)

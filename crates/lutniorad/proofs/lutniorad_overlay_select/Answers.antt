@@ -4,4 +4,4 @@ use Rattle.lutniorad.proofs.Crossing.{crossing}
 use Rattle.lutniorad.proofs.lutniorad_overlay_select.Goals as goal
 
 pub returns : goal.returns
-returns c = crossing refl c.of_select_over.ensures c.select.ensures
+returns c = crossing refl c.of_count_over.ensures c.select.ensures

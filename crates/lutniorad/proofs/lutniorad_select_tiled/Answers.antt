@@ -4,4 +4,4 @@ use Rattle.lutniorad.proofs.Crossing.{crossing}
 use Rattle.lutniorad.proofs.lutniorad_select_tiled.Goals as goal
 
 pub returns : goal.returns
-returns c = crossing refl c.of_selected.ensures c.select.ensures
+returns c = crossing refl c.of_count.ensures c.select.ensures

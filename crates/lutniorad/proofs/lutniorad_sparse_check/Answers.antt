@@ -4,4 +4,4 @@ use Rattle.lutniorad.proofs.Crossing.{crossing-alone}
 use Rattle.lutniorad.proofs.lutniorad_sparse_check.Goals as goal
 
 pub returns : goal.returns
-returns c = crossing-alone refl c.of_checked.ensures c.check.ensures
+returns c = crossing-alone refl c.of_count.ensures c.check.ensures

@@ -4,4 +4,4 @@ use Rattle.lutniorad.proofs.Crossing.{crossing}
 use Rattle.lutniorad.proofs.lutniorad_sparse_report.Goals as goal
 
 pub returns : goal.returns
-returns c = crossing refl c.of_reported.ensures c.report.ensures
+returns c = crossing refl c.of_count.ensures c.report.ensures

@@ -4,4 +4,4 @@ use Rattle.lutniorad.proofs.Crossing.{crossing}
 use Rattle.lutniorad.proofs.lutniorad_sparse_write.Goals as goal
 
 pub returns : goal.returns
-returns c = crossing refl c.of_writing.ensures c.write.ensures
+returns c = crossing refl c.of_count.ensures c.write.ensures
