@@ -13,13 +13,13 @@ use Rattle.map.specs.Sound.{SoundIn}
 use Rattle.map.proofs.Order.{recorded-spaced}
 use Rattle.map.proofs.Tables.{sound-map}
 
-module _ {m : ℕ} {keys : List ℕ} {classes : ℕ} where
-  -- of a value of the type: m is at most 12, keys and classes are as many and no more than 65,536, and the records are spaced
-  pub checked-sound : verdict (map_refusals_in false m keys classes) ≡ Ok tt → SoundIn false m keys classes
-  checked-sound e = (sound-map m keys classes).0 e
+-- of a value of the type: m is at most 12, keys and classes are as many and no more than 65,536, and the records are spaced
+pub checked-sound : {m : ℕ} {keys : List ℕ} {classes : ℕ} → verdict (map_refusals_in false m keys classes) ≡ Ok tt → SoundIn false m keys classes
+checked-sound {m} {keys} {classes} e = (sound-map m keys classes).0 e
 
-  -- what the literal `Map { .. }` asks, behind a check of either kind
-  pub checked-map : (whole : Bool) → verdict (map_refusals_in whole m keys classes) ≡ Ok tt → verdict (map_refusals_in false m keys classes) ≡ Ok tt
-  checked-map whole e =
-      let s = (sound-map {whole = whole} m keys classes).0 e in
-      (sound-map m keys classes).1 (record { sizes = sized-sparse s.sizes; records = recorded-spaced whole s.records })
+-- what the literal `Map { .. }` asks, behind a check of either kind
+pub checked-map : (whole : Bool) (m : ℕ) (keys : List ℕ) (classes : ℕ) → verdict (map_refusals_in whole m keys classes) ≡ Ok tt
+    → verdict (map_refusals_in false m keys classes) ≡ Ok tt
+checked-map whole m keys classes e =
+    let s = (sound-map {whole = whole} m keys classes).0 e in
+    (sound-map m keys classes).1 (record { sizes = sized-sparse s.sizes; records = recorded-spaced whole s.records })
