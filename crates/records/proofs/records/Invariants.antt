@@ -5,8 +5,8 @@ use Rattle.key.specs.Along.{Stands}
 use Rattle.map.proofs.Loops.{CheckedTo}
 use Rattle.records.proofs.records.Given as goal
 
-abbrev pub invariant-loop-ones : goal.invariant-loop-ones
-invariant-loop-ones l = CheckedTo l.whole l.m l.keys l.spot.place l.n × Stands l.m l.spot
+abbrev pub invariant-loop-m : goal.invariant-loop-m
+invariant-loop-m l = CheckedTo l.whole l.m l.keys l.spot.place l.n × Stands l.m l.spot
 
-abbrev pub decreases-loop-ones : goal.decreases-loop-ones
-decreases-loop-ones l = length l.keys - l.n
+abbrev pub decreases-loop-m : goal.decreases-loop-m
+decreases-loop-m l = length l.keys - l.n
