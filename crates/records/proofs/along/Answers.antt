@@ -1,5 +1,4 @@
 -- `records::along` meets its contract, by the invariant beside this.
-use native.Mathlib.Omega.{arith}
 use Rattle.key.proofs.Laws.{fits-block}
 use Rattle.map.specs.Walk.{none, more}
 use Rattle.records.proofs.along.Goals as goal

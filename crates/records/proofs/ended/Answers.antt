@@ -15,7 +15,7 @@ returns-then-at-pow4 c = refusing c.at.ensures (step-short _ _ _ _ (rw c.if-whol
 pub returns : goal.returns
 returns c =
     let full : late c.args.whole c.args.at (4 ^ c.args.m) ≡ false = elim c.else-whole.branch [
-      else-whole-via-then-whole+else-at-pow4 w ↦ late-not _ (omega (arith, w.if-at-pow4.false, w.pow4.ensures.is))
+      | else-whole-via-then-whole+else-at-pow4 w ↦ late-not _ (omega (arith, w.if-at-pow4.false, w.pow4.ensures.is))
       | else-whole-via-else-whole w ↦ rw w.if-whole.false (late-never _ _)
     ] in
     sym (step-full _ _ _ _ full)
