@@ -14,10 +14,7 @@ fn beyond(m: u32, start: u16, count: u16) -> bool
     requires { m ≤ 12 }
     ensures { result ≡ beyond m start count }
 {
-    if count == 0 {
-        return true;
-    }
-    (blocks::side(m) as u32) < (start as u32) + (count as u32)
+    count == 0 || (blocks::side(m) as u32) < (start as u32) + (count as u32)
 }
 
 // Refusal 6: the window is empty or not inside the picture.
@@ -25,10 +22,7 @@ pub fn outside(m: u32, window: Window) -> bool
     requires { m ≤ 12 }
     ensures { result ≡ outside m window }
 {
-    if beyond(m, window.r0, window.h) {
-        return true;
-    }
-    beyond(m, window.c0, window.w)
+    beyond(m, window.r0, window.h) || beyond(m, window.c0, window.w)
 }
 
 // As many maximal blocks of exponent up to `top` as a window of its size can have: whoever has room for them need not count them first.
