@@ -1,7 +1,7 @@
 // Maps: what they are, and their laws. A map may have gaps, unless it is to be whole. Of keys it knows only the laws of the crate `key`.
 #![tactic(auto)]
 
-ghost use Rattle.std.specs.Prelude.{◌≡◌, false, length, Ok};
+ghost use Rattle.std.specs.Prelude.{◌≡◌, true, false, length, Ok};
 ghost use Rattle.answers.specs.Refusals.{verdict};
 ghost use Rattle.map.specs.Check.{map_refusals_in};
 
@@ -17,6 +17,13 @@ pub struct Map<'a> {
     pub keys: &'a [u32],
     pub classes: &'a [u8],
     ghost checked: { verdict (map_refusals_in false m keys.now (length classes.now)) ≡ Ok tt },
+}
+
+// One that it has passed as a whole map: without gaps.
+#[derive(Clone, Copy)]
+pub struct Whole<'a> {
+    pub map: Map<'a>,
+    ghost gapless: { verdict (map_refusals_in true map.m map.keys.now (length map.classes.now)) ≡ Ok tt },
 }
 
 // How far a walk along the records has come: where it stands, and the next record.
