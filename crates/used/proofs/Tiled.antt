@@ -5,9 +5,10 @@ use mathlib.Core.Bool.{Bool, true, false}
 use mathlib.Core.List.{List}
 use Prim.Native.Nat.{ℕ, ◌≤◌}
 use lib.ListN.{length}
-use Rattle.answers.specs.declared.Verdict.{Verdict}
-use Rattle.answers.specs.declared.Verdict.TheVariants.{Passed, Refused}
-use Rattle.answers.specs.Refusals.{verdict}
+use Rattle.std.specs.Prelude.{Result, Ok, Err}
+use Rattle.answers.specs.declared.Cause.{Cause}
+use Rattle.answers.specs.declared.Refused.{Refused}
+use Rattle.answers.specs.Refusals.{refuse, verdict}
 use Rattle.answers.specs.Sizes.{tile_refusals}
 use Rattle.answers.specs.After.{after, tiled_for}
 use Rattle.answers.proofs.Laws.{append-passed, append-refused, passed-append, on-passed, on-refused, answer-same, tile-passed, tiled-within}
@@ -20,41 +21,41 @@ use Rattle.used.proofs.Use.{use-capped}
 use Rattle.used.proofs.Used.{used-refused, used_over, used-gapless}
 
 module _ (whole : Bool) (m top : ℕ) (keys : List ℕ) (classes : ℕ) (W : Window) (cells : ℕ) where
-  pub tiled-first : {n p : ℕ} → verdict (tile_refusals m top) ≡ Refused n p → verdict (tiled_refusals whole m top keys classes W cells) ≡ Refused n p
+  pub tiled-first : {e : Refused} → verdict (tile_refusals m top) ≡ Err e → verdict (tiled_refusals whole m top keys classes W cells) ≡ Err e
   unfolding tiled_refusals
-  tiled-first e = append-refused Refused (tile_refusals m top) _ _ e
+  tiled-first e = append-refused refuse (tile_refusals m top) _ _ e
 
-  pub tiled-next : verdict (tile_refusals m top) ≡ Passed → verdict (tiled_refusals whole m top keys classes W cells) ≡ verdict (use_refusals_in whole m keys classes W cells)
+  pub tiled-next : verdict (tile_refusals m top) ≡ Ok tt → verdict (tiled_refusals whole m top keys classes W cells) ≡ verdict (use_refusals_in whole m keys classes W cells)
   unfolding tiled_refusals
-  tiled-next e = append-passed Refused (tile_refusals m top) _ _ e
+  tiled-next e = append-passed refuse (tile_refusals m top) _ _ e
 
   -- what a call may take for granted behind them
-  module _ (e : verdict (tiled_refusals whole m top keys classes W cells) ≡ Passed) where
-    both : (verdict (tile_refusals m top) ≡ Passed) × (verdict (use_refusals_in whole m keys classes W cells) ≡ Passed)
+  module _ (e : verdict (tiled_refusals whole m top keys classes W cells) ≡ Ok tt) where
+    both : (verdict (tile_refusals m top) ≡ Ok tt) × (verdict (use_refusals_in whole m keys classes W cells) ≡ Ok tt)
     unfolding tiled_refusals
     both = (passed-append (tile_refusals m top) (use_refusals_in whole m keys classes W cells)).0 e
 
     pub tiled-cap : top ≤ m
     tiled-cap = ((tile-passed m top).0 both.0).1
 
-    pub tiled-usable : verdict (use_refusals_in whole m keys classes W cells) ≡ Passed
+    pub tiled-usable : verdict (use_refusals_in whole m keys classes W cells) ≡ Ok tt
     tiled-usable = both.1
 
     pub tiled-known : Usable m top keys W cells
     tiled-known = use-capped whole m keys classes W cells both.1 tiled-cap
 
-module _ (whole : Bool) {A : Type 0} (refuse : ℕ → ℕ → A) (done : A) (cells : List ℕ) (m top : ℕ) (keys : List ℕ) (classes : ℕ) (W : Window) (border out : List ℕ) where
-  pub used-tiled : {n p : ℕ} → verdict (tiled_refusals whole m top keys classes W (length border)) ≡ Refused n p
-      → tiled_for refuse m top (border, out) (used_in whole refuse done cells m keys classes W border out) ≡ after (refuse n p) (border, out)
-  used-tiled {n} {p} e = go (verdict (tile_refusals m top)) refl
+module _ (whole : Bool) {A : Type 0} (refuse : Cause → ℕ → A) (done : A) (cells : List ℕ) (m top : ℕ) (keys : List ℕ) (classes : ℕ) (W : Window) (border out : List ℕ) where
+  pub used-tiled : {e : Refused} → verdict (tiled_refusals whole m top keys classes W (length border)) ≡ Err e
+      → tiled_for refuse m top (border, out) (used_in whole refuse done cells m keys classes W border out) ≡ after (refuse e.cause e.place) (border, out)
+  used-tiled {e} refused = go (verdict (tile_refusals m top)) refl
     where
-      go : (v : Verdict) → verdict (tile_refusals m top) ≡ v
-          → tiled_for refuse m top (border, out) (used_in whole refuse done cells m keys classes W border out) ≡ after (refuse n p) (border, out)
-      go Passed q =
+      go : (v : Result Unit Refused) → verdict (tile_refusals m top) ≡ v
+          → tiled_for refuse m top (border, out) (used_in whole refuse done cells m keys classes W border out) ≡ after (refuse e.cause e.place) (border, out)
+      go (Ok tt) q =
           on-passed _ (tile_refusals m top) _ q
-          ∙ used-refused whole refuse done cells m keys classes W border out (sym (tiled-next whole m top keys classes W (length border) q) ∙ e)
-      go (Refused n' p') q =
-          let same = sym (tiled-first whole m top keys classes W (length border) q) ∙ e in
+          ∙ used-refused whole refuse done cells m keys classes W border out (sym (tiled-next whole m top keys classes W (length border) q) ∙ refused)
+      go (Err e') q =
+          let same = sym (tiled-first whole m top keys classes W (length border) q) ∙ refused in
           on-refused _ (tile_refusals m top) _ (q ∙ same)
 
   -- a cap that is no larger than m refuses nothing
@@ -63,7 +64,7 @@ module _ (whole : Bool) {A : Type 0} (refuse : ℕ → ℕ → A) (done : A) (ce
 
 -- on a map whose gaps are not refused, a use that may have gaps and one of a whole map are the same, if they are so where the map is sound, the cap no larger than m and the window inside
 pub tiled-gapless : {m : ℕ} {keys : List ℕ} {classes : ℕ} → Gapless m keys classes
-    → {A : Type 0} (refuse : ℕ → ℕ → A) (done done' : A) (cells cells' : List ℕ) (top : ℕ) (W : Window) (border out : List ℕ)
+    → {A : Type 0} (refuse : Cause → ℕ → A) (done done' : A) (cells cells' : List ℕ) (top : ℕ) (W : Window) (border out : List ℕ)
     → (SoundMap m keys classes → top ≤ m → Inside m W → (done ≡ done') × (cells ≡ cells'))
     → tiled_for refuse m top (border, out) (used_in false refuse done cells m keys classes W border out)
     ≡ tiled_for refuse m top (border, out) (used_in true refuse done' cells' m keys classes W border out)

@@ -5,32 +5,26 @@ ghost use Rattle.std.specs.Prelude.{◌≡◌, ◌≤◌, length};
 ghost use Rattle.answers.specs.Refusals.{verdict};
 ghost use Rattle.used.specs.Used.{border_refusals, view_refusals, use_refusals_in, tiled_refusals};
 
-use answers::Verdict;
+use answers::{Cause, Refused};
 use window::Window;
 
 // Refusal 7: a border of so many cells is shorter than a window of w columns is wide.
-pub fn wide_enough(w: u16, cells: usize) -> Verdict
+pub fn wide_enough(w: u16, cells: usize) -> Result<(), Refused>
     ensures { result ≡ verdict (border_refusals w cells) }
 {
     if cells < w as usize {
-        return Verdict::Refused {
-            number: 7,
-            place: w as u32,
-        };
+        return Err(Cause::ShortBorder.at(w as u32));
     }
-    Verdict::Passed
+    Ok(())
 }
 
 // Refusals 6 and 7.
-pub fn in_view(m: u32, window: Window, cells: usize) -> Verdict
+pub fn in_view(m: u32, window: Window, cells: usize) -> Result<(), Refused>
     requires { m ≤ 12 }
     ensures { result ≡ verdict (view_refusals m window cells) }
 {
     if walk::outside(m, window) {
-        return Verdict::Refused {
-            number: 6,
-            place: 0,
-        };
+        return Err(Cause::BadWindow.at(0));
     }
     wide_enough(window.w, cells)
 }
@@ -43,13 +37,10 @@ pub fn usable(
     window: Window,
     cells: usize,
     whole: bool,
-) -> Verdict
+) -> Result<(), Refused>
     ensures { result ≡ verdict (use_refusals_in whole m keys.now (length classes.now) window cells) }
 {
-    let sound = checks::sound(m, keys, classes, whole);
-    if let Verdict::Refused { number, place } = sound {
-        return Verdict::Refused { number, place };
-    }
+    checks::sound(m, keys, classes, whole)?;
     in_view(m, window, cells)
 }
 
@@ -62,12 +53,9 @@ pub fn usable_tiled(
     window: Window,
     cells: usize,
     whole: bool,
-) -> Verdict
+) -> Result<(), Refused>
     ensures { result ≡ verdict (tiled_refusals whole m top keys.now (length classes.now) window cells) }
 {
-    let tile = answers::tile(m, top);
-    if let Verdict::Refused { number, place } = tile {
-        return Verdict::Refused { number, place };
-    }
+    answers::tile(m, top)?;
     usable(m, keys, classes, window, cells, whole)
 }
