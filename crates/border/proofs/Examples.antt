@@ -4,6 +4,7 @@ use mathlib.Core.Path.{◌≡◌, refl}
 use mathlib.Core.List.{List, [], ◌∷◌}
 use Prim.Native.Nat.{ℕ}
 use Rattle.lists.specs.Lists.{up_from, any, keep, before, how_many, greatest}
+use Rattle.std.specs.Prelude.{None, Some}
 use Rattle.answers.specs.After.{after}
 use Rattle.answers.proofs.P1.{keys, classes, glare, keys-cut, classes-cut, keys-west, classes-west}
 use Rattle.key.specs.Spread.{spread_to, spread}
@@ -16,13 +17,12 @@ use Rattle.window.proofs.P1.{W, columns}
 use Rattle.map.specs.Spans as spans
 use Rattle.map.specs.Spans.{within}
 use Rattle.map.specs.Records.{record_of, exponent_of}
-use Rattle.map.specs.Runs.{run_of}
-use Rattle.border.specs.declared.Stepped.TheVariants as stepped
+use Rattle.map.specs.Runs.{run, run_of}
 use Rattle.border.specs.Openings.{is_handed, made, opening, open_from, openings, handed_count, cells_of}
 use Rattle.border.specs.Promises.{openings_in, bringing}
 use Rattle.border.specs.ViewPromises.{overlapping, view, SameView, brought_from, brought_by}
 use Rattle.border.specs.Cells.{filled, pushed, closed}
-use Rattle.border.specs.Step.{step_of}
+use Rattle.border.specs.Step.{opened, step_of}
 use Rattle.border.proofs.Gone.{handed_after}
 
 abbrev gapped : List ℕ
@@ -32,9 +32,9 @@ pub record Examples : Type 0 where
   -- one record over all: the first block opens it, and all others are skipped
   pub single : openings 2 2 (0 ∷ []) W ≡ made 7 0 1 ∷ []
   -- P1's first steps: block 7 pushes the cell of its column to the bottom of record 0; block 9, after block 10, is skipped
-  pub step-7 : step_of 2 2 keys W (0, 1) (0 ∷ 0 ∷ 0 ∷ []) ≡ after (stepped.Opened 7 0 1 1 0) (2 ∷ 0 ∷ 0 ∷ [])
-  pub step-10 : step_of 2 2 keys W (0, 2) (2 ∷ 0 ∷ 0 ∷ []) ≡ after (stepped.Opened 10 1 4 1 0) (2 ∷ 2 ∷ 2 ∷ [])
-  pub step-9 : step_of 2 2 keys W (1, 1) (2 ∷ 2 ∷ 2 ∷ []) ≡ after stepped.Skipped (2 ∷ 2 ∷ 2 ∷ [])
+  pub step-7 : step_of 2 2 keys W (0, 1) (0 ∷ 0 ∷ 0 ∷ []) ≡ after (Some (opened 7 (run 0 1 1) 0)) (2 ∷ 0 ∷ 0 ∷ [])
+  pub step-10 : step_of 2 2 keys W (0, 2) (2 ∷ 0 ∷ 0 ∷ []) ≡ after (Some (opened 10 (run 1 4 1) 0)) (2 ∷ 2 ∷ 2 ∷ [])
+  pub step-9 : step_of 2 2 keys W (1, 1) (2 ∷ 2 ∷ 2 ∷ []) ≡ after None (2 ∷ 2 ∷ 2 ∷ [])
   -- the openings that stand in those cells; and three border cells are enough, two are not
   pub in_cells : openings_in (7 ∷ 0 ∷ 1 ∷ 10 ∷ 1 ∷ 4 ∷ 17 ∷ 5 ∷ 1 ∷ 21 ∷ 6 ∷ 1 ∷ []) ≡ openings 2 2 keys W
   -- a map with gaps, of the records 11 and 20 alone: blocks 7, 9 and 17 meet no record and are opened empty, and block 22 lies in record 1
@@ -42,7 +42,7 @@ pub record Examples : Type 0 where
   -- two of them bring a record
   pub two : bringing (openings 2 2 gapped W) ≡ made 10 0 1 ∷ made 21 1 1 ∷ []
   -- an empty block pushes its own column
-  pub step-none : step_of 2 2 gapped W (0, 1) (0 ∷ 0 ∷ 0 ∷ []) ≡ after (stepped.Opened 7 0 0 0 0) (1 ∷ 0 ∷ 0 ∷ [])
+  pub step-none : step_of 2 2 gapped W (0, 1) (0 ∷ 0 ∷ 0 ∷ []) ≡ after (Some (opened 7 (run 0 0 0) 0)) (1 ∷ 0 ∷ 0 ∷ [])
   -- with blocks of one pixel and no larger, P1's records 1 to 4 take an opening each, and record 6 one still
   pub pixels : openings 2 0 keys W ≡ made 7 0 1 ∷ made 11 1 1 ∷ made 12 2 1 ∷ made 13 3 1 ∷ made 14 4 1 ∷ made 17 5 1 ∷ made 21 6 1 ∷ []
 

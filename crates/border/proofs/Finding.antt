@@ -7,9 +7,10 @@ use Prim.Native.Nat.{ℕ, ◌+◌, ◌≤◌, ◌<◌}
 use native.Mathlib.Omega.{arith}
 use lib.ListN.{length, replicate, length-replicate, take-append-drop}
 use Rattle.answers.proofs.Laws.{overwrite-part}
+use Rattle.std.specs.Prelude.{None, Some}
 use Rattle.window.specs.declared.Window.{Window}
 use Rattle.window.specs.Blocks.{exponent, maximal}
-use Rattle.window.specs.Walk.{Walked}
+use Rattle.window.specs.Walk.{Walked, corner_of}
 use Rattle.window.specs.Keys.{key_of}
 use Rattle.window.proofs.Laws.{walked-first}
 use Rattle.map.specs.Runs.{run_of}
@@ -17,8 +18,7 @@ use Rattle.map.specs.Runs as runs
 use Rattle.used.specs.Used.{Usable, spent}
 use Rattle.used.proofs.Laws.{spent-is}
 use Rattle.border.specs.declared.Walk.{Walk}
-use Rattle.border.specs.declared.Found.{Found}
-use Rattle.border.specs.declared.Found.TheVariants as found
+use Rattle.border.specs.declared.Opening as found
 use Rattle.border.specs.Openings.{Opening, made, opening, openings}
 use Rattle.border.specs.Border.{Stated, Covered}
 use Rattle.border.specs.Cells.{filled}
@@ -93,37 +93,33 @@ module _ {m top : ℕ} {keys : List ℕ} {W : Window} {border₀ border : List �
       let l = (finding-usable U).wide in
       (e ∙ filled-spent W border l ∙ spent-kept F.kept, rw e (filled-length 0 W.w (W.r0 + W.h) border (omega arith) l) ∙ F.kept.same)
 
-  ended : {border' : List ℕ} → Finds m top keys W at border found.End border' → (openings m top keys W ≡ done) × (border' ≡ spent W border₀) × Kept W border₀ border'
-  ended (finds.end k e l) = (F.all ∙ rw (e, append-nil), sym l ∙ F.left, kept_more F.kept k)
-
-  pub finding-last : {answer : Found} {border' : List ℕ} → Finds m top keys W at border answer border' → answer ≡ found.End
+  pub finding-last : {on : Walk} {border' : List ℕ} → Finds m top keys W at border None on border'
       → (openings m top keys W ≡ done) × (border' ≡ spent W border₀) × Kept W border₀ border'
-  finding-last f e = ended (rw e at f)
+  finding-last (finds.end k e l) = (F.all ∙ rw (e, append-nil), sym l ∙ F.left, kept_more F.kept k)
 
--- What is found is an opening: of a block's corner, its exponent and key, the `count` records from `first` on, how far they reach, and from where the walk goes on. The block is opened
--- with these records, and with the opening behind it the walk stands there, with fewer ahead.
+-- What is found is an opening, and the walk stands behind its block then. The block is a maximal one, its run is that of its key, and with the opening behind it the walk has fewer ahead.
 pub record Opens {m top : ℕ} {keys : List ℕ} {W : Window} {border₀ border : List ℕ} {at : Walk} {done : List Opening} (F : Finding m top keys W border₀ border at done)
-    {answer : Found} {row col i key first count far : ℕ} {on : Walk} (is : answer ≡ found.Opening row col i key first count far on) (border' : List ℕ) : Type 0 where
-  pub corner : Corner W top (row, col)
-  pub size : i ≡ exponent W top (row, col)
-  pub named : key ≡ key_of m top W (row, col)
-  pub run : run_of m keys key ≡ runs.run first count far
-  pub room : first + count ≤ length keys
-  pub next : Finding m top keys W border₀ border' on (done ++ (made key first count ∷ []))
+    (o : found.Opening) (on : Walk) (border' : List ℕ) : Type 0 where
+  pub corner : Corner W top (corner_of o.block)
+  pub size : o.block.exponent ≡ exponent W top (corner_of o.block)
+  pub named : o.key ≡ key_of m top W (corner_of o.block)
+  pub run : run_of m keys o.key ≡ o.run
+  pub room : o.run.first + o.run.count ≤ length keys
+  pub next : Finding m top keys W border₀ border' on (done ++ (made o.key o.run.first o.run.count ∷ []))
   pub fewer : length (walk_makes m top keys W border' (spot on)) < length (walk_makes m top keys W border (spot at))
 
 module _ {m top n : ℕ} {keys : List ℕ} {W : Window} (U : Usable m top keys W n)
     {border₀ border : List ℕ} {at : Walk} {done : List Opening} (F : Finding m top keys W border₀ border at done)
-    {answer : Found} {row col i key first count far : ℕ} {on : Walk} (is : answer ≡ found.Opening row col i key first count far on) {border' : List ℕ} where
-  tell : Finds m top keys W at border (found.Opening row col i key first count far on) border' → Opens F is border'
+    {o : found.Opening} {on : Walk} {border' : List ℕ} where
+  pub finds-opens : Finds m top keys W at border (Some o) on border' → Opens F o on border'
   unfolding opening
-  tell (finds.opening K x n f R k e l) =
+  finds-opens (finds.opening K x n f R k e l) =
       let rest = walk_makes m top keys W border' (spot on) in
-      let listed : Memᴰ (made key first count) (openings m top keys W) = rw (F.all, e) (Memᴰ.append_right done (Memᴰ.head {xs = rest} refl)) in
+      let listed : Memᴰ (made o.key o.run.first o.run.count) (openings m top keys W) = rw (F.all, e) (Memᴰ.append_right done (Memᴰ.head {xs = rest} refl)) in
       let t = opening-block m top keys W listed in
-      let d : key_of m top W t.0 ≡ key_of m top W (row, col) = sym (ap (λ (o : Opening). o.key) t.2) ∙ n in
+      let d : key_of m top W t.0 ≡ key_of m top W (corner_of o.block) = sym (ap (λ (o : Opening). o.key) t.2) ∙ n in
       let far-own = far-is U.spaced U.inside U.cap K in
-      let r : run_of m keys (key_of m top W (row, col)) ≡ runs.run first count far =
+      let r : run_of m keys (key_of m top W (corner_of o.block)) ≡ o.run =
       rw (f ∙ sym far-own, ← d) (ap (λ (o : Opening). runs.run o.first o.count (run_of m keys (key_of m top W t.0)).reach) (sym t.2)) in
       record {
         corner = K;
@@ -134,6 +130,3 @@ module _ {m top n : ℕ} {keys : List ℕ} {W : Window} (U : Usable m top keys W
         next = record { reached = R; kept = kept_more F.kept k; all = F.all ∙ rw e (sym (append_assoc done _ _)); left = sym l ∙ F.left };
         fewer = rw e (omega arith);
       }
-
-  pub finds-opens : Finds m top keys W at border answer border' → Opens F is border'
-  finds-opens f = tell (rw is at f)

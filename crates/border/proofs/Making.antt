@@ -10,6 +10,7 @@ use native.Mathlib.Omega.{arith}
 use lib.ListN.{get_or}
 use borrow.Author.Tests.{lt-ltb, le-ltb}
 use Rattle.lists.proofs.Laws.{refuted}
+use Rattle.std.specs.Prelude.{Option, None, Some}
 use Rattle.answers.specs.After.{After, after}
 use Rattle.key.specs.Picture.{Px}
 use Rattle.window.specs.declared.Window.{Window}
@@ -18,14 +19,13 @@ use Rattle.window.specs.Blocks.{maximal}
 use Rattle.window.specs.Keys.{key_of}
 use Rattle.map.specs.Sound.{Spaced}
 use Rattle.map.specs.Records.{pixel_exponent}
-use Rattle.map.specs.Runs.{run_of}
+use Rattle.map.specs.Runs.{run, run_of}
 use Rattle.map.proofs.Laws.{pixel_tile, tiles}
-use Rattle.border.specs.declared.Stepped.{Stepped}
-use Rattle.border.specs.declared.Stepped.TheVariants as stepped
+use Rattle.border.specs.declared.Opened.{Opened}
 use Rattle.border.specs.Openings.{is_handed, Opening, opening, open_from, all_hands}
 use Rattle.border.specs.Border.{Stated, opened_by, CoveredBy, Covered}
 use Rattle.border.specs.Cells.{pushed, closed}
-use Rattle.border.specs.Step.{reach, step_of, made_by, Step}
+use Rattle.border.specs.Step.{reach, opened, step_of, made_by, Step}
 use Rattle.border.proofs.Gone.{handed_by, hands_by}
 use Rattle.border.proofs.Sweep.{Out, Now}
 use Rattle.border.proofs.Stays.{skip-iff}
@@ -41,12 +41,12 @@ module _ (m top : ℕ) (keys : List ℕ) (W : Window) (b : Px) (cells : List ℕ
   size = reach W top (pixel_exponent m keys) b
 
   pub low-is : get_or cells (b.1 - W.c0) 0 ≤ b.0
-      → let run = run_of m keys (key_of m top W b) in
-      step_of m top keys W b cells ≡ after (stepped.Opened (key_of m top W b) run.first run.count size (closed W size b)) (pushed W size b cells)
+      → let met = run_of m keys (key_of m top W b) in
+      step_of m top keys W b cells ≡ after (Some (opened (key_of m top W b) (run met.first met.count size) (closed W size b))) (pushed W size b cells)
   unfolding step_of
   low-is l = rw (le-ltb b.0 (get_or cells (b.1 - W.c0) 0) l)
 
-  pub high_is : b.0 < get_or cells (b.1 - W.c0) 0 → step_of m top keys W b cells ≡ after stepped.Skipped cells
+  pub high_is : b.0 < get_or cells (b.1 - W.c0) 0 → step_of m top keys W b cells ≡ after None cells
   unfolding step_of
   high_is l = rw (lt-ltb b.0 (get_or cells (b.1 - W.c0) 0) l)
 
@@ -62,7 +62,7 @@ module _ {m top : ℕ} {keys : List ℕ} (F : Spaced m 0 keys) {W : Window} (I :
       let z = skip-test F I small before b later split in
       (λ l. z.1 (a.0 l), λ e. a.1 (z.0 e))
 
-  module _ {answer : Stepped} {border : List ℕ} (is : after answer border ≡ step_of m top keys W b cells) where
+  module _ {answer : Option Opened} {border : List ℕ} (is : after answer border ≡ step_of m top keys W b cells) where
     pub made-is : made_by answer ≡ open_from m keys (handed_by m top keys W before) (key_of m top W b ∷ [])
     unfolding made_by opening
     made-is = go (dec_lt b.0 (get_or cells (b.1 - W.c0) 0))
@@ -75,10 +75,10 @@ module _ {m top : ℕ} {keys : List ℕ} (F : Spaced m 0 keys) {W : Window} (I :
 
         go : Dec (b.0 < get_or cells (b.1 - W.c0) 0) → made_by answer ≡ open_from m keys handed (key ∷ [])
         go (yes l) =
-            let e : answer ≡ stepped.Skipped = ap (λ (x : After Stepped (List ℕ)). x.answer) (is ∙ high_is m top keys W b cells l) in
+            let e : answer ≡ None = ap (λ (x : After (Option Opened) (List ℕ)). x.answer) (is ∙ high_is m top keys W b cells l) in
             rw (e, skip-opens m keys handed key [] (told.0 l), opens-none)
         go (no h) =
-            let e : answer ≡ _ = ap (λ (x : After Stepped (List ℕ)). x.answer) (is ∙ low-is m top keys W b cells (omega (arith, h))) in
+            let e : answer ≡ _ = ap (λ (x : After (Option Opened) (List ℕ)). x.answer) (is ∙ low-is m top keys W b cells (omega (arith, h))) in
             rw (e, take-opens m keys handed key [] (refuted _ (λ t. h (told.1 t))), opens-none)
 
     -- behind the block the openings made are those made before it and what the step has made
@@ -103,5 +103,5 @@ module _ {m top : ℕ} {keys : List ℕ} (F : Spaced m 0 keys) {W : Window} (I :
     stated-made now = rw (← opened-step) (stated-now F I small before b later split now)
 
   -- so the cells that a step leaves are stated by what the fold covers behind the block
-  pub stated-step : {answer : Stepped} {border : List ℕ} → Step m top keys W b cells answer border → Stated W (Covered m top keys W (before ++ b ∷ [])) border
+  pub stated-step : {answer : Option Opened} {border : List ℕ} → Step m top keys W b cells answer border → Stated W (Covered m top keys W (before ++ b ∷ [])) border
   stated-step S = rw (opened-step S.is) (S.stays before later split st)

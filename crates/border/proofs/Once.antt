@@ -15,7 +15,7 @@ use Rattle.window.specs.Promises.{Before}
 use Rattle.window.specs.Keys.{key_of}
 use Rattle.map.specs.Sound.{Spaced}
 use Rattle.map.proofs.Laws.{pixel_tile, tiles}
-use Rattle.border.specs.Openings.{met, Opening, openings, hands, all_hands}
+use Rattle.border.specs.Openings.{met, Opening, openings, all_hands}
 use Rattle.border.specs.Promises.{Overlaps, opening_at, HandedOut, Apart}
 use Rattle.border.specs.Step.{Corner}
 use Rattle.border.proofs.Gone.{handed_by}

@@ -2,12 +2,11 @@
 -- Assumes nothing.
 use mathlib.Core.Path.{◌≡◌, sym, ap, ◌∙◌}
 use mathlib.Core.List.{List, [], ◌++◌}
-use Prim.Native.Nat.{ℕ, ◌+◌, ◌*◌, ◌/◌, ◌≤◌}
+use Prim.Native.Nat.{ℕ, ◌*◌, ◌/◌, ◌≤◌}
 use native.Mathlib.Omega.{arith}
 use lib.ListN.{length, take, length-take}
 use lib.Seq.{take_all}
 use Rattle.answers.specs.Cells.{overwrite}
-use Rattle.answers.proofs.Laws as Answers
 use Rattle.answers.proofs.Laws.{overwrite-length, overwrite-part}
 use Rattle.window.specs.declared.Window.{Window}
 use Rattle.used.proofs.Laws.{spent-length}

@@ -4,10 +4,10 @@ use mathlib.Core.Path.{◌≡◌, refl, sym, ap, ◌∙◌}
 use mathlib.Core.Logic.{◌⊎◌, inl, inr}
 use mathlib.Core.Bool.{Bool, true, false}
 use mathlib.Core.List.Memᴰ
-use mathlib.Core.List.{List, [], ◌∷◌, ◌++◌, map, Memᴰ}
-use Prim.Native.Nat.{ℕ, ◌≤◌, ◌<◌}
+use mathlib.Core.List.{List, [], ◌∷◌, ◌++◌, Memᴰ}
+use Prim.Native.Nat.{ℕ, ◌≤◌}
 use native.Mathlib.Omega.{arith}
-use lib.ListN.{length, get_or}
+use lib.ListN.{length}
 use Rattle.lists.specs.Promises.{Nth, here, later}
 use Rattle.lists.specs.Lists.{Ordered, none, more}
 use Rattle.lists.proofs.Laws.{ordered-front, Split, split, nth_of, nth_in, nth-less, nth-one, nth-front, nth-middle}
@@ -22,7 +22,7 @@ use Rattle.window.proofs.Laws.{keys-of, pixel-in, key-named, keys-distinct}
 use Rattle.map.specs.Sound.{Follow}
 use Rattle.map.specs.Records.{record_of}
 use Rattle.map.specs.Runs.{run_of}
-use Rattle.map.proofs.Laws.{Holder, record_of_lem, pixel_tile, tile-of, pixel-holder, spaced}
+use Rattle.map.proofs.Laws.{Holder, record_of_lem, tile-of, pixel-holder, spaced}
 use Rattle.border.specs.Openings.{met, is_handed, Opening, opening, open_from, openings, hands}
 use Rattle.border.specs.Promises.{HandedOut, HandedBy, OpenedAs, SkippedFor, Apart}
 use Rattle.border.specs.Step.{Corner}

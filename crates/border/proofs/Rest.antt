@@ -4,13 +4,14 @@ use mathlib.Core.Path.{◌≡◌, sym, ◌∙◌}
 use mathlib.Core.List.{List, [], ◌∷◌, ◌++◌, map, map-append, append_assoc, append-nil}
 use Prim.Native.Nat.{ℕ}
 use lib.ListN.{length}
+use Rattle.std.specs.Prelude.{Option}
 use Rattle.key.specs.Picture.{Px}
 use Rattle.window.specs.declared.Window.{Window}
 use Rattle.window.specs.Blocks.{maximal}
 use Rattle.window.specs.Keys.{key_of}
 use Rattle.used.specs.Used.{Usable}
-use Rattle.border.specs.declared.Stepped.{Stepped}
-use Rattle.border.specs.Openings.{open_from, openings}
+use Rattle.border.specs.declared.Opened.{Opened}
+use Rattle.border.specs.Openings.{open_from}
 use Rattle.border.specs.Border.{Stated, Covered}
 use Rattle.border.specs.Step.{Corner, Step}
 use Rattle.border.specs.Found.{steps_make, steps_leave, Kept}
@@ -39,7 +40,7 @@ ahead-is {m} {top} {keys} {W} past (b ∷ bs) cells U split st = go (stepped-on 
     K : Corner W top b
     K = own-corner past b bs split
 
-    go : (answer : Stepped) × (border : List ℕ) × Step m top keys W b cells answer border
+    go : (answer : Option Opened) × (border : List ℕ) × Step m top keys W b cells answer border
         → ((border : List ℕ) → Usable m top keys W (length border) → maximal W top ≡ (past ++ (b ∷ [])) ++ bs → Stated W (Covered m top keys W (past ++ (b ∷ []))) border
         → Ahead m top keys W (past ++ (b ∷ [])) bs border)
         → Ahead m top keys W past (b ∷ bs) cells

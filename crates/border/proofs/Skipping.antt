@@ -6,17 +6,17 @@ use mathlib.Core.List.{List, [], ◌∷◌, ◌++◌, Memᴰ}
 use Prim.Native.Nat.{ℕ, ◌+◌, ◌≤◌}
 use native.Mathlib.Omega.{arith}
 use lib.ListN.{length}
+use Rattle.std.specs.Prelude.{Option, None, Some}
 use Rattle.key.specs.Picture.{Px}
 use Rattle.window.specs.declared.Window.{Window}
-use Rattle.window.specs.declared.Next.TheVariants.{Block, End}
+use Rattle.window.specs.declared.Block.{Block}
 use Rattle.window.specs.Window.{In}
-use Rattle.window.specs.Walk.{blocks_from, Goes, block, end}
-use Rattle.window.proofs.Laws.{walked_next, walked-split, goes_in, goes-corner, goes-exponent}
+use Rattle.window.specs.Walk.{blocks_from, corner_of, GoesOn, Ends}
+use Rattle.window.proofs.Laws.{walked_next, walked-split, goes-corner}
 use Rattle.used.specs.Used.{Usable}
-use Rattle.border.specs.declared.Stepped.{Stepped}
-use Rattle.border.specs.declared.Stepped.TheVariants as stepped
+use Rattle.border.specs.declared.Opened.{Opened}
 use Rattle.border.specs.declared.Walk.{Walk}
-use Rattle.border.specs.declared.Found.TheVariants as found
+use Rattle.border.specs.declared.Opening.{Opening}
 use Rattle.border.specs.Step.{made_by, Corner, Ready, Step}
 use Rattle.border.specs.Found.{steps_make, steps_leave, walk_makes, walk_leaves, columns_left, walk, spot, Reached, Kept, Finds}
 use Rattle.border.specs.Found as finds
@@ -41,43 +41,42 @@ module _ (m top : ℕ) (keys : List ℕ) {W : Window} {cells : List ℕ} (none :
 
 module _ {m top : ℕ} {keys : List ℕ} {W : Window} {at : Walk} {cells : List ℕ} (R : Reached m top keys W at cells) where
   -- where all is out, nothing is found
-  pub reached-done : at.left ≡ 0 → Finds m top keys W at cells found.End cells
+  pub reached-done : {on : Walk} → at.left ≡ 0 → Finds m top keys W at cells None on cells
   reached-done e =
       let n : columns_left W cells ≡ 0 = omega (arith, R.left) in
       let t = all-skipped m top keys n (blocks_from W top (spot at)) (λ b h. (listed-corner {top = top} (rw R.walked.all (Memᴰ.append_right R.past h))).inside) in
       finds.end kept-none t.0 t.1
 
-  module _ {r c i d : ℕ} (g : Goes W top (spot at) (Block r c i d)) {border : List ℕ} {answer : Stepped}
-      (U : Usable m top keys W (length cells)) (S : Step m top keys W (r, c) cells answer border) where
+  module _ {b : Block} {t : Px} (g : GoesOn W top (spot at) b t) {border : List ℕ} {answer : Option Opened}
+      (U : Usable m top keys W (length cells)) (S : Step m top keys W (corner_of b) cells answer border) where
     fewer : columns_left W border + shut_by answer ≡ columns_left W cells
-    fewer = step_left R.past (blocks_from W top (r, d)) U (record { inside = goes_in g; own = goes-corner g }) (walked-split R.walked g) R.stated S
+    fewer = step_left R.past (blocks_from W top t) U (record { inside = g.inside; own = goes-corner g }) (walked-split R.walked g) R.stated S
 
     pub reached-room : shut_by answer ≤ at.left
     reached-room = omega (arith, fewer, R.left)
 
-    pub reached-next : {left : ℕ} → left + shut_by answer ≡ at.left → Reached m top keys W (walk r d left) border
+    pub reached-next : {left : ℕ} → left + shut_by answer ≡ at.left → Reached m top keys W (walk t.0 t.1 left) border
     reached-next e = record {
-      past = R.past ++ ((r, c) ∷ []);
+      past = R.past ++ (corner_of b ∷ []);
       walked = walked_next R.walked g;
-      stated = stated-step U.spaced U.inside U.cap R.past (r, c) (blocks_from W top (r, d)) (walked-split R.walked g) R.stated S;
+      stated = stated-step U.spaced U.inside U.cap R.past (corner_of b) (blocks_from W top t) (walked-split R.walked g) R.stated S;
       left = omega (arith, fewer, R.left);
     }
 
 -- ---- one block on
 
 module _ (m top : ℕ) (keys : List ℕ) {W : Window} (cells : List ℕ) {s : Px} where
-  none-next : Goes W top s End → (walk_makes m top keys W cells s ≡ []) × (walk_leaves m top keys W cells s ≡ cells)
+  none-next : {t : Px} → Ends W top s t → (walk_makes m top keys W cells s ≡ []) × (walk_leaves m top keys W cells s ≡ cells)
   unfolding steps_make steps_leave
-  none-next (end e) = (rw e, rw e)
+  none-next g = (rw g.none, rw g.none)
 
 module _ {m top : ℕ} {keys : List ℕ} {W : Window} {cells : List ℕ} {s : Px} where
-  module _ {r c i d : ℕ} {border : List ℕ} {answer : Stepped} where
-    made-next : Goes W top s (Block r c i d) → Step m top keys W (r, c) cells answer border
-        → walk_makes m top keys W cells s ≡ made_by answer ++ walk_makes m top keys W border (r, d)
-    made-next (block v e f k split) S = rw split (made-step S _)
+  module _ {b : Block} {t : Px} {border : List ℕ} {answer : Option Opened} (g : GoesOn W top s b t) (S : Step m top keys W (corner_of b) cells answer border) where
+    made-next : walk_makes m top keys W cells s ≡ made_by answer ++ walk_makes m top keys W border t
+    made-next = rw g.blocks (made-step S _)
 
-    left-next : Goes W top s (Block r c i d) → Step m top keys W (r, c) cells answer border → walk_leaves m top keys W cells s ≡ walk_leaves m top keys W border (r, d)
-    left-next (block v e f k split) S = rw split (left_step S _)
+    left-next : walk_leaves m top keys W cells s ≡ walk_leaves m top keys W border t
+    left-next = rw g.blocks (left_step S _)
 
 -- the blocks from one place of the walk up to another were skipped
 pub record Skipping (m top : ℕ) (keys : List ℕ) (W : Window) (cells border : List ℕ) (at to : Walk) : Type 0 where
@@ -94,24 +93,24 @@ module _ {m top : ℕ} {keys : List ℕ} {W : Window} {cells : List ℕ} {at : W
     pub skipping-usable : Usable m top keys W (length cells) → Usable m top keys W (length border)
     skipping-usable U = rw P.kept.same U
 
-    pub skipping-end : Goes W top (spot to) End → Finds m top keys W at cells found.End border
+    pub skipping-end : {t : Px} {on : Walk} → Ends W top (spot to) t → Finds m top keys W at cells None on border
     skipping-end g = let n = none-next m top keys border g in finds.end P.kept (P.made_as ∙ n.0) (P.left_as ∙ n.1)
 
-    module _ (U : Usable m top keys W (length cells)) {r c i d : ℕ} (g : Goes W top (spot to) (Block r c i d)) where
-      K : Corner W top (r, c)
-      K = record { inside = goes_in g; own = goes-corner g }
+    module _ (U : Usable m top keys W (length cells)) {b : Block} {t : Px} (g : GoesOn W top (spot to) b t) where
+      K : Corner W top (corner_of b)
+      K = record { inside = g.inside; own = goes-corner g }
 
-      pub skipping-ready : Ready m top keys W (r, c) i (length border)
-      skipping-ready = record { given = skipping-usable U; corner = K; size = goes-exponent g }
+      pub skipping-ready : Ready m top keys W (corner_of b) b.exponent (length border)
+      skipping-ready = record { given = skipping-usable U; corner = K; size = g.largest }
 
-      module _ {border' : List ℕ} {answer : Stepped} (S : Step m top keys W (r, c) border answer border') where
+      module _ {border' : List ℕ} {answer : Option Opened} (S : Step m top keys W (corner_of b) border answer border') where
         pub skipping-kept : Kept W cells border'
         skipping-kept = kept_more P.kept (step_kept S K (omega (arith, U.wide, P.kept.same)))
 
-        on : {left : ℕ} → left + shut_by answer ≡ to.left → Reached m top keys W (walk r d left) border'
+        on : {left : ℕ} → left + shut_by answer ≡ to.left → Reached m top keys W (walk t.0 t.1 left) border'
         on = reached-next P.reached g (skipping-usable U) S
 
-        pub skipping-next : answer ≡ stepped.Skipped → Skipping m top keys W cells border' at (walk r d to.left)
+        pub skipping-next : answer ≡ None → Skipping m top keys W cells border' at (walk t.0 t.1 to.left)
         unfolding made_by shut_by
         skipping-next e = record {
           reached = on (rw e (omega arith));
@@ -120,13 +119,16 @@ module _ {m top : ℕ} {keys : List ℕ} {W : Window} {cells : List ℕ} {at : W
           left_as = P.left_as ∙ left-next g S;
         }
 
-        module _ {key first count far shut : ℕ} (e : answer ≡ stepped.Opened key first count far shut) where
-          pub skipping-room : shut ≤ to.left
+        module _ {o : Opened} (e : answer ≡ Some o) where
+          abbrev found : Opening
+          found = record { block = b; key = o.key; run = o.run }
+
+          pub skipping-room : o.closed ≤ to.left
           unfolding shut_by
           skipping-room = rw e at (reached-room P.reached g (skipping-usable U) S)
 
-          pub skipping-found : {left : ℕ} → left + shut ≡ to.left → Finds m top keys W at cells (found.Opening r c i key first count far (walk r d left)) border'
+          pub skipping-found : {left : ℕ} → left + o.closed ≡ to.left → Finds m top keys W at cells (Some found) (walk t.0 t.1 left) border'
           unfolding made_by shut_by
           skipping-found {left} l =
-              finds.opening {first = first} {count = count} {on = walk r d left} K (goes-exponent g) (step-key S e).0 (step-key S e).1 (on (rw e l)) skipping-kept
+              finds.opening {o = found} {on = walk t.0 t.1 left} K g.largest (step-key S e).0 (step-key S e).1 (on (rw e l)) skipping-kept
               (P.made_as ∙ made-next g S ∙ rw e) (P.left_as ∙ left-next g S)

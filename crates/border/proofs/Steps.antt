@@ -5,6 +5,7 @@ use mathlib.Core.List.{List}
 use Prim.Native.Nat.{ℕ, ◌-◌, ◌≤◌, ◌<◌}
 use native.Mathlib.Omega.{arith}
 use lib.ListN.{length, get_or}
+use Rattle.std.specs.Prelude.{None, Some}
 use Rattle.answers.specs.After.{after}
 use Rattle.key.specs.Picture.{Pixel, Px}
 use Rattle.key.specs.Key.{block_key}
@@ -14,17 +15,18 @@ use Rattle.window.proofs.Laws.{exponent-le, pixel-in, key-at}
 use Rattle.map.specs.declared.Run.{Run}
 use Rattle.map.specs.Records.{pixel_exponent}
 use Rattle.map.specs.Runs.{run_of, BlockOf}
+use Rattle.map.specs.Runs as runs
 use Rattle.map.proofs.Laws.{pixel_tile, tiles}
-use Rattle.border.specs.declared.Stepped.TheVariants.{Skipped, Opened}
+use Rattle.border.specs.declared.Opened.{Opened}
 use Rattle.border.specs.Cells.{pushed, closed}
-use Rattle.border.specs.Step.{reach, step_of, Ready, Step}
+use Rattle.border.specs.Step.{reach, opened, step_of, Ready, Step}
 use Rattle.border.proofs.Sweep.{Out}
 use Rattle.border.proofs.Stays.{skip-iff, skips, pushes}
 use Rattle.border.proofs.Overlaps.{block-key, far-is}
 use Rattle.border.proofs.Earlier.{stated-out}
 use Rattle.border.proofs.Making.{high_is, low-is, stated-made}
 
-pub opened-not-skipped : {k f n r x : ℕ} → Opened k f n r x ≡ Skipped → ⊥
+pub opened-not-skipped : {o : Opened} → Some o ≡ None → ⊥
 opened-not-skipped e = let z : ◌≡◌ {A = ℕ} 0 1 = cc in omega arith
 
 module _ {m top : ℕ} {keys : List ℕ} {W : Window} {b : Px} {i room : ℕ} (K : Ready m top keys W b i room) where
@@ -56,9 +58,9 @@ module _ {m top : ℕ} {keys : List ℕ} {W : Window} {b : Px} {i room : ℕ} (K
   -- ---- what it does
 
   module _ (cells : List ℕ) where
-    pub step-skipped : b.0 < get_or cells (b.1 - W.c0) 0 → Step m top keys W b cells Skipped cells
+    pub step-skipped : b.0 < get_or cells (b.1 - W.c0) 0 → Step m top keys W b cells None cells
     step-skipped l =
-        let is : after Skipped cells ≡ step_of m top keys W b cells = sym (high_is m top keys W b cells l) in
+        let is : after None cells ≡ step_of m top keys W b cells = sym (high_is m top keys W b cells l) in
         record {
           is = is;
           skips = (λ e. l, λ h. refl);
@@ -70,12 +72,15 @@ module _ {m top : ℕ} {keys : List ℕ} {W : Window} {b : Px} {i room : ℕ} (K
 
     pub step-opened : {key : ℕ} {run : Run} {shut : ℕ} {cells' : List ℕ} → get_or cells (b.1 - W.c0) 0 ≤ b.0 → W.w ≤ length cells
         → key ≡ key_of m top W b → run ≡ run_of m keys key
-        → shut ≡ closed W run.reach b → cells' ≡ pushed W run.reach b cells → Step m top keys W b cells (Opened key run.first run.count run.reach shut) cells'
+        → shut ≡ closed W run.reach b → cells' ≡ pushed W run.reach b cells → Step m top keys W b cells (Some (opened key run shut)) cells'
     step-opened {key} {run} {shut} {cells'} l wide name e x f =
         let d = step-reach name e in
         let up : _ ≡ pushed W (reach W top (pixel_exponent m keys) b) b cells = f ∙ ap (λ (x : ℕ). pushed W x b cells) d in
         let shuts : _ ≡ closed W (reach W top (pixel_exponent m keys) b) b = x ∙ ap (λ (y : ℕ). closed W y b) d in
-        let is : after (Opened key run.first run.count run.reach shut) cells' ≡ step_of m top keys W b cells = rw (low-is m top keys W b cells l, up, shuts, d, found name e, name) in
+        let own = run_of m keys (key_of m top W b) in
+        let met : run ≡ runs.run own.first own.count (reach W top (pixel_exponent m keys) b) =
+        found name e ∙ ap (runs.run own.first own.count) (sym (ap (λ (r : Run). r.reach) (found name e)) ∙ d) in
+        let is : after (Some (opened key run shut)) cells' ≡ step_of m top keys W b cells = rw (low-is m top keys W b cells l, up, shuts, met, name) in
         record {
           is = is;
           skips = (λ z. absurd (opened-not-skipped z), λ h. absurd (omega arith));

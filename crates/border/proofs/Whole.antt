@@ -6,6 +6,7 @@ use mathlib.Core.List.{List, [], ◌∷◌, ◌++◌, Memᴰ}
 use Prim.Native.Nat.{ℕ, ◌≤◌}
 use native.Mathlib.Omega.{arith}
 use lib.ListN.{length}
+use Rattle.std.specs.Prelude.{Option}
 use Rattle.key.specs.Picture.{Px}
 use Rattle.window.specs.declared.Window.{Window}
 use Rattle.window.specs.Window.{In, Inside}
@@ -13,7 +14,7 @@ use Rattle.window.specs.Blocks.{maximal}
 use Rattle.window.proofs.Laws.{pixel-in, key-named}
 use Rattle.map.specs.Sound.{Follow}
 use Rattle.map.proofs.Laws.{spaced, some-records, record_of_lem, pixel-holder}
-use Rattle.border.specs.declared.Stepped.{Stepped}
+use Rattle.border.specs.declared.Opened.{Opened}
 use Rattle.border.specs.Openings.{Opening, opening, openings}
 use Rattle.border.specs.Promises.{Touches, HandedOut, bringing, Enough}
 use Rattle.border.specs.Border.{Stated, Handed, Covered}
@@ -40,7 +41,7 @@ module _ {m top : ℕ} {keys : List ℕ} (F : Follow m 0 keys) {W : Window} (I :
   )
 
   -- so cells that are stated by the records handed out before a step are so after it, by those and the ones that the step hands out
-  pub stays-whole : {b : Px} {cells border : List ℕ} {answer : Stepped} → Step m top keys W b cells answer border → (before later : List Px) → maximal W top ≡ before ++ b ∷ later
+  pub stays-whole : {b : Px} {cells border : List ℕ} {answer : Option Opened} → Step m top keys W b cells answer border → (before later : List Px) → maximal W top ≡ before ++ b ∷ later
       → Stated W (Handed m keys (handed_by m top keys W before)) cells → Stated W (Handed m keys (handed_by m top keys W before ++ hands_by answer)) border
   stays-whole {b} S before later split st =
       let c = stated-as (λ p v. let h = covered_whole before (earlier-corner before b later split) v in (h.1, h.0)) st in
