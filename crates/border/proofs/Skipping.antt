@@ -110,25 +110,25 @@ module _ {m top : ℕ} {keys : List ℕ} {W : Window} {cells : List ℕ} {at : W
         on : {left : ℕ} → left + shut_by answer ≡ to.left → Reached m top keys W (walk t.0 t.1 left) border'
         on = reached-next P.reached g (skipping-usable U) S
 
-        pub skipping-next : answer ≡ None → Skipping m top keys W cells border' at (walk t.0 t.1 to.left)
+      pub skipping-next : {border' : List ℕ} → Step m top keys W (corner_of b) border None border' → Skipping m top keys W cells border' at (walk t.0 t.1 to.left)
+      unfolding made_by shut_by
+      skipping-next S = record {
+        reached = on S (omega arith);
+        kept = skipping-kept S;
+        made_as = P.made_as ∙ made-next g S;
+        left_as = P.left_as ∙ left-next g S;
+      }
+
+      module _ {border' : List ℕ} {o : Opened} (S : Step m top keys W (corner_of b) border (Some o) border') where
+        abbrev found : Opening
+        found = record { block = b; key = o.key; run = o.run }
+
+        pub skipping-room : o.closed ≤ to.left
+        unfolding shut_by
+        skipping-room = reached-room P.reached g (skipping-usable U) S
+
+        pub skipping-found : {left : ℕ} → left + o.closed ≡ to.left → Finds m top keys W at cells (Some found) (walk t.0 t.1 left) border'
         unfolding made_by shut_by
-        skipping-next e = record {
-          reached = on (rw e (omega arith));
-          kept = skipping-kept;
-          made_as = P.made_as ∙ made-next g S ∙ rw e;
-          left_as = P.left_as ∙ left-next g S;
-        }
-
-        module _ {o : Opened} (e : answer ≡ Some o) where
-          abbrev found : Opening
-          found = record { block = b; key = o.key; run = o.run }
-
-          pub skipping-room : o.closed ≤ to.left
-          unfolding shut_by
-          skipping-room = rw e at (reached-room P.reached g (skipping-usable U) S)
-
-          pub skipping-found : {left : ℕ} → left + o.closed ≡ to.left → Finds m top keys W at cells (Some found) (walk t.0 t.1 left) border'
-          unfolding made_by shut_by
-          skipping-found {left} l =
-              finds.opening {o = found} {on = walk t.0 t.1 left} K g.largest (step-key S e).0 (step-key S e).1 (on (rw e l)) skipping-kept
-              (P.made_as ∙ made-next g S ∙ rw e) (P.left_as ∙ left-next g S)
+        skipping-found {left} l =
+            finds.opening {o = found} {on = walk t.0 t.1 left} K g.largest (step-key S refl).0 (step-key S refl).1 (on S l) (skipping-kept S)
+            (P.made_as ∙ made-next g S) (P.left_as ∙ left-next g S)

@@ -2,77 +2,53 @@
 #![tactic(auto)]
 
 ghost use Rattle.std.specs.Prelude.{◌≡◌, length};
-ghost use Rattle.key.specs.Spread.{spreads};
 ghost use Rattle.border.specs.Found.{walk, Reached, Finds};
 ghost use Rattle.used.specs.Used.{Usable};
 
-use border::{Found, Stepped, Walk};
-use window::{Next, Window};
-
-fn walk_from(row: u16, col: u16, left: u16) -> Walk
-    ensures { result ≡ walk row col left }
-{
-    Walk { row, col, left }
-}
+use border::{Opening, Walk};
+use window::Window;
 
 // The walk stands at the window's first pixel, and all columns are left.
 pub fn start(window: Window) -> Walk
     ensures { result ≡ walk window.r0 window.c0 window.w }
 {
-    walk_from(window.r0, window.c0, window.w)
+    Walk {
+        row: window.r0,
+        col: window.c0,
+        left: window.w,
+    }
 }
 
-// The next opening: skips blocks until one is opened. Where no column is left, all is out, and the walk ends.
+// The next opening: skips blocks until one is opened, and the walk stands behind it then. Where no column is left, all is out, and the walk ends.
 pub fn next_opening(
-    table: &[u32; 256],
     m: u32,
     top: u32,
     keys: &[u32],
     window: Window,
-    at: Walk,
+    at: &mut Walk,
     border: &mut [u16],
-) -> Found
-    requires { (table.now ≡ spreads) × Usable m top keys.now window (length border.old) × Reached m top keys.now window at border.old }
-    ensures { Finds m top keys.now window at border.old result border.new }
+) -> Option<Opening>
+    requires { Usable m top keys.now window (length border.old) × Reached m top keys.now window at.old border.old }
+    ensures { Finds m top keys.now window at.old border.old result at.new border.new }
 {
-    let left = at.left;
-    if left == 0 {
-        return Found::End;
+    if at.left == 0 {
+        return None;
     }
-    let mut r = at.row;
-    let mut c = at.col;
-    loop {
-        let next = walk::next_block(window, top, r, c);
-        let Next::Block {
-            row,
-            col,
-            exponent,
-            after,
-        } = next
-        else {
-            return Found::End;
-        };
-        let stepped = step::step(table, m, top, keys, window, row, col, exponent, border);
-        if let Stepped::Opened {
-            key,
-            first,
-            count,
-            reach,
-            closed,
-        } = stepped
-        {
-            return Found::Opening {
-                row,
-                col,
-                exponent,
-                key,
-                first,
-                count,
-                reach,
-                on: walk_from(row, after, left - closed),
+    let mut ahead = walk::blocks_from(window, top, at.row, at.col);
+    // No `for`: where the iterator stands behind an opened block is told to the caller.
+    while let Some(block) = ahead.next() {
+        if let Some(opened) = step::step(m, top, keys, window, block, border) {
+            *at = Walk {
+                row: ahead.row,
+                col: ahead.col,
+                left: at.left - opened.closed,
             };
+            return Some(Opening {
+                block,
+                key: opened.key,
+                run: opened.run,
+            });
         }
-        r = row;
-        c = after;
     }
+    None
 }

@@ -4,8 +4,8 @@ use Rattle.border.specs.Found.{walk_makes, spot}
 use Rattle.border.proofs.Loops.{Passing}
 use Rattle.passes.proofs.pass.Given as goal
 
-abbrev pub invariant-loop-key : goal.invariant-loop-key
-invariant-loop-key l = Passing l.m l.top l.keys l.window l.initial.border l.initial.out l.border l.out l.at l.openings l.records
+abbrev pub invariant-loop-opening : goal.invariant-loop-opening
+invariant-loop-opening l = Passing l.m l.top l.keys l.window l.initial.border l.initial.out l.border l.out l.at l.openings l.records
 
-abbrev pub decreases-loop-key : goal.decreases-loop-key
-decreases-loop-key l = length (walk_makes l.m l.top l.keys l.window l.border (spot l.at))
+abbrev pub decreases-loop-opening : goal.decreases-loop-opening
+decreases-loop-opening l = length (walk_makes l.m l.top l.keys l.window l.border (spot l.at))
