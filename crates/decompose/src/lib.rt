@@ -35,7 +35,7 @@ pub fn decompose(m: u32, top: u32, window: Window, out: &mut [u32]) -> Result<u3
         return Err(Cause::BadWindow.at(0));
     }
     if out.len() < walk::most_blocks(window, top) {
-        let needed = list_blocks(m, window, top, &mut out[..0]);
+        let needed = list_blocks(m, window, top, &mut []);
         if out.len() < needed as usize {
             return Err(Cause::ShortRoom.at(needed));
         }

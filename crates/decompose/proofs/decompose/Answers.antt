@@ -1,11 +1,11 @@
 -- `decompose::decompose` meets its contract. Each test decides what its law in `Tables` says; where keys are written there is room for all.
-use mathlib.Core.Path.{◌≡◌, sym, ap, ◌∙◌}
+use mathlib.Core.Path.{sym, ap, ◌∙◌}
 use Prim.Native.Nat.{◌≤◌}
 use native.Mathlib.Omega.{arith}
 use lib.ListN.{length}
 use Rattle.std.specs.Prelude.{Err}
 use Rattle.answers.specs.After.{after}
-use Rattle.answers.proofs.Laws.{handed-on, listed-count, listed-nothing, tile-passed}
+use Rattle.answers.proofs.Laws.{handed-on, listed-count, tile-passed}
 use Rattle.window.specs.Keys.{keys_of}
 use Rattle.window.proofs.Laws.{inside, inside-12, keys_length, blocks-most}
 use Rattle.decompose.proofs.Tables.{decompose-tile, decompose-outside, decompose-short, decompose-done}
@@ -34,10 +34,8 @@ list_blocks-needed-requires c =
 
 pub returns-then-out-needed : goal.returns-then-out-needed
 returns-then-out-needed c =
-    let L = c.list_blocks-needed.ensures in
-    let same = listed-nothing L c.args.out.now in
-    ap (after _) same ∙ ap (λ e. after (Err e) c.args.out.now) c.at-then-out-needed.ensures
-    ∙ sym (decompose-short _ _ _ _ (sym c.tile.ensures ∙ c.in_ok-tile.was) (sym c.outside.ensures ∙ c.if-outside.false) (listed-count L) (omega (arith, c.if-out-needed.true, ap length same)))
+    ap (λ e. after (Err e) c.args.out.now) c.at-then-out-needed.ensures
+    ∙ sym (decompose-short _ _ _ _ (sym c.tile.ensures ∙ c.in_ok-tile.was) (sym c.outside.ensures ∙ c.if-outside.false) (listed-count c.list_blocks-needed.ensures) c.if-out-needed.true)
 
 pub list_blocks-requires : goal.list_blocks-requires
 list_blocks-requires c =
@@ -47,15 +45,13 @@ list_blocks-requires c =
 pub returns : goal.returns
 returns c =
     let within = sym c.outside.ensures ∙ c.if-outside.false in
-    -- the slice is as it was, and has room for all
-    let ready : (c.if-out-most_blocks.out ≡ c.args.out.now) × (length (keys_of c.args.m c.args.top c.args.window) ≤ length c.args.out.now) =
+    -- the slice has room for all
+    let room : length (keys_of c.args.m c.args.top c.args.window) ≤ length c.args.out.now =
     elim c.if-out-most_blocks.branch [
-      | goal.then-out-most_blocks+else-out-needed w ↦
-          let same = listed-nothing w.list_blocks-needed.ensures c.args.out.now in
-          (w.out-is ∙ same, omega (arith, listed-count w.list_blocks-needed.ensures, w.if-out-needed.false, ap length same))
+      | goal.then-out-most_blocks+else-out-needed w ↦ omega (arith, listed-count w.list_blocks-needed.ensures, w.if-out-needed.false)
       | goal.else-out-most_blocks w ↦
           let few = blocks-most c.args.window c.args.top (inside _ _ within) in
-          (w.out-is, omega (arith, keys_length c.args.m c.args.top c.args.window, few, c.most_blocks.ensures, w.if-out-most_blocks.false))
+          omega (arith, keys_length c.args.m c.args.top c.args.window, few, c.most_blocks.ensures, w.if-out-most_blocks.false)
     ]
     in
-    sym (decompose-done _ _ _ _ (sym c.tile.ensures ∙ c.in_ok-tile.was) within (rw ready.0 at c.list_blocks.ensures) ready.1)
+    sym (decompose-done _ _ _ _ (sym c.tile.ensures ∙ c.in_ok-tile.was) within c.list_blocks.ensures room)
