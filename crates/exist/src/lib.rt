@@ -36,15 +36,11 @@ fn look(classes: &[u8], class: u8, first: u32, count: u32) -> Looked
     ensures { (result.has ≡ any (classed classes.now class) (up_from first count)) × (result.unseen ≡ any (classed classes.now not_seen) (up_from first count)) }
 {
     let from = first as usize;
-    let count = count as usize;
     let mut has = false;
     let mut unseen = false;
-    let mut n = 0;
-    while n < count {
-        let here = classes[from + n];
-        has = has | (here == class);
-        unseen = unseen | (here == map::NOT_SEEN);
-        n += 1;
+    for here in &classes[from..from + count as usize] {
+        has = has | (*here == class);
+        unseen = unseen | (*here == map::NOT_SEEN);
     }
     Looked { has, unseen }
 }

@@ -14,12 +14,7 @@ fn shared(a: u16, n: u16, b: u16, k: u16) -> u16
     requires { (a + n ≤ 65535) × (b + k ≤ 65535) }
     ensures { result ≡ shared a n b k }
 {
-    let high = walk::least(a + n, b + k);
-    if a < b {
-        step::ahead(high, b)
-    } else {
-        step::ahead(high, a)
-    }
+    (a + n).min(b + k).saturating_sub(a.max(b))
 }
 
 // How many pixels the window shares with the block of side 2^e around one of its pixels.
@@ -51,16 +46,13 @@ fn gather_run(
     requires { (ones.now ≡ ones_table) × TellsOnes digits.now × Fills m keys.now (length classes.now) window key exponent first count × Gathering m keys.now classes.now window first count totals.old }
     ensures { totals.new ≡ gathered m keys.now classes.now window (up_from first count) totals.old }
 {
-    let end = first + count;
+    let from = first as usize;
     let mut spot = spots::first_spot(exponent);
-    let mut n = first;
-    while n < end {
-        let at = n as usize;
-        let inner = keys[at] - key;
+    for n in from..from + count as usize {
+        let inner = keys[n] - key;
         let e = spots::exponent_here(ones, digits, exponent, spot, inner);
-        totals[classes[at] as usize] += blocks::pow4(e);
+        totals[classes[n] as usize] += blocks::pow4(e);
         spot = spots::advance(ones, exponent, inner, e, spot.place);
-        n += 1;
     }
 }
 

@@ -25,18 +25,6 @@ pub enum Added {
     Refused { number: u32, place: u32 },
 }
 
-// Zeros behind the first five cells.
-fn wipe(table: &mut [u64])
-    requires { 1030 ≤ length table.old }
-    ensures { table.new ≡ overwrite (take 5 table.old ++ replicate 1025 0) table.old }
-{
-    let mut i: usize = 5;
-    while i < 1030 {
-        table[i] = 0;
-        i += 1;
-    }
-}
-
 // Makes the table of a window with no map.
 pub fn clear(m: u32, window: Window, table: &mut [u64]) -> Cleared
     ensures { after result table.new ≡ clear_of m window table.old }
@@ -59,12 +47,14 @@ pub fn clear(m: u32, window: Window, table: &mut [u64]) -> Cleared
             place: 1030,
         };
     }
-    table[0] = m as u64;
-    table[1] = window.r0 as u64;
-    table[2] = window.c0 as u64;
-    table[3] = window.h as u64;
-    table[4] = window.w as u64;
-    wipe(table);
+    table[..5].copy_from_slice(&[
+        m as u64,
+        window.r0 as u64,
+        window.c0 as u64,
+        window.h as u64,
+        window.w as u64,
+    ]);
+    table[5..1030].fill(0);
     Cleared::Done
 }
 
@@ -72,7 +62,7 @@ pub fn clear(m: u32, window: Window, table: &mut [u64]) -> Cleared
 fn narrow(x: u64) -> u16
     ensures { result ≡ min x 65535 }
 {
-    if x < 65535 { x as u16 } else { 65535 }
+    x.min(65535) as u16
 }
 
 // The table's window, exact where it lies inside a picture.

@@ -22,11 +22,7 @@ pub fn put_totals(totals: &[u32; 256], out: &mut [u32])
     requires { (length totals.now ≡ 256) × (256 ≤ length out.old) }
     ensures { out.new ≡ overwrite totals.now out.old }
 {
-    let mut k: usize = 0;
-    while k < 256 {
-        out[k] = totals[k];
-        k += 1;
-    }
+    out[..256].copy_from_slice(totals);
 }
 
 // How many pixels of the window each class has.
