@@ -5,8 +5,9 @@ use mathlib.Core.Bool.{Bool, true, false, cond}
 use mathlib.Core.List.{List}
 use Prim.Native.Nat.{ℕ}
 use lib.ListN.{length}
-use Rattle.answers.specs.declared.Verdict.TheVariants as verdict-of
-use Rattle.answers.specs.Refusals.{verdict, answer}
+use Rattle.std.specs.Prelude.{Result, Ok, Err}
+use Rattle.answers.specs.declared.Refused.{Refused}
+use Rattle.answers.specs.Refusals.{refuse, verdict, answer}
 use Rattle.answers.specs.After.{After, after}
 use Rattle.answers.proofs.Laws.{on-passed, on-refused, unless-answer, unless-kept}
 use Rattle.window.specs.declared.Window.{Window}
@@ -27,46 +28,46 @@ unfolding presence_by
 presence-is rule W class = refl
 
 module _ (whole : Bool) (rule : ℕ → ℕ) (m : ℕ) (keys : List ℕ) (classes : ℕ) (W : Window) (class : ℕ) (border : List ℕ) where
-  pub exist-refused : {n p : ℕ} → verdict (use_refusals_in whole m keys classes W (length border)) ≡ verdict-of.Refused n p
-      → exist_in whole rule m keys classes W class border ≡ after (existence.Refused n p) border
+  pub exist-refused : {r : Refused} → verdict (use_refusals_in whole m keys classes W (length border)) ≡ Err r
+      → exist_in whole rule m keys classes W class border ≡ after (Err r) border
   unfolding exist_in
   exist-refused e = on-refused _ (use_refusals_in whole m keys classes W (length border)) _ e
 
-  pub exist-done : verdict (use_refusals_in whole m keys classes W (length border)) ≡ verdict-of.Passed
+  pub exist-done : verdict (use_refusals_in whole m keys classes W (length border)) ≡ Ok tt
       → exist_in whole rule m keys classes W class border ≡ existing_by rule W class border
   unfolding exist_in
   exist-done e = on-passed _ (use_refusals_in whole m keys classes W (length border)) _ e
 
   -- an accepted call spends the border
-  pub exist-leaves : verdict (use_refusals_in whole m keys classes W (length border)) ≡ verdict-of.Passed
+  pub exist-leaves : verdict (use_refusals_in whole m keys classes W (length border)) ≡ Ok tt
       → (exist_in whole rule m keys classes W class border).lent ≡ spent W border
   unfolding existing_by
-  exist-leaves e = ap (λ (x : After Existence (List ℕ)). x.lent) (exist-done e)
+  exist-leaves e = ap (λ (x : After (Result Existence Refused) (List ℕ)). x.lent) (exist-done e)
 
   -- and a refused one leaves it as it was
-  pub exist-untouched : (verdict (use_refusals_in whole m keys classes W (length border)) ≡ verdict-of.Passed → ⊥)
+  pub exist-untouched : (verdict (use_refusals_in whole m keys classes W (length border)) ≡ Ok tt → ⊥)
       → (exist_in whole rule m keys classes W class border).lent ≡ border
   unfolding exist_in
-  exist-untouched held = unless-kept existence.Refused (use_refusals_in whole m keys classes W (length border)) border _ held
+  exist-untouched held = unless-kept refuse (use_refusals_in whole m keys classes W (length border)) border _ held
 
   -- of the border only the length counts
   pub exist-by-lengths : (exist_in whole rule m keys classes W class border).answer
-      ≡ answer existence.Refused (use_refusals_in whole m keys classes W (length border)) (presence_by rule W class)
+      ≡ answer refuse (use_refusals_in whole m keys classes W (length border)) (Ok (presence_by rule W class))
   unfolding exist_in existing_by
-  exist-by-lengths = unless-answer existence.Refused (use_refusals_in whole m keys classes W (length border)) border _
+  exist-by-lengths = unless-answer refuse (use_refusals_in whole m keys classes W (length border)) border _
 
-pub existing-is : (rule : ℕ → ℕ) (W : Window) (class : ℕ) (border : List ℕ) → existing_by rule W class border ≡ after (presence_by rule W class) (spent W border)
+pub existing-is : (rule : ℕ → ℕ) (W : Window) (class : ℕ) (border : List ℕ) → existing_by rule W class border ≡ after (Ok (presence_by rule W class)) (spent W border)
 unfolding existing_by
 existing-is rule W class border = refl
 
 -- each answer, by what is known of the class and of 255
 module _ (rule : ℕ → ℕ) (W : Window) (class : ℕ) (border : List ℕ) {left : List ℕ} where
-  pub existing-yes : exists_by rule W class ≡ true → left ≡ spent W border → after existence.Yes left ≡ existing_by rule W class border
+  pub existing-yes : exists_by rule W class ≡ true → left ≡ spent W border → after (Ok existence.Yes) left ≡ existing_by rule W class border
   unfolding presence_by existing_by
   existing-yes e d = rw (e, d)
 
   pub existing-none : {unseen : Bool} → exists_by rule W class ≡ false → exists_by rule W not_seen ≡ unseen → left ≡ spent W border
-      → after (cond unseen existence.CannotTell existence.No) left ≡ existing_by rule W class border
+      → after (Ok (cond unseen existence.CannotTell existence.No)) left ≡ existing_by rule W class border
   unfolding presence_by existing_by
   existing-none e u d = rw (e, u, d)
 
@@ -76,7 +77,7 @@ pub exist-gapless : {m : ℕ} {keys : List ℕ} {classes : ℕ} → Gapless m ke
     → exist_in false rule m keys classes W class border ≡ exist_in true rule' m keys classes W class border
 unfolding exist_in existing_by
 exist-gapless G rule rule' W class border h =
-    use-gapless G W (length border) (λ n p. after (existence.Refused n p) border) _ _ (λ S I. ap (λ (x : Existence). after x (spent W border)) (h S I))
+    use-gapless G W (length border) (λ c p. after (refuse c p) border) _ _ (λ S I. ap (λ (x : Existence). after (Ok x) (spent W border)) (h S I))
 
 -- on two sound maps, with gaps or without, two rules that say the same of a window inside answer alike
 pub exist-maps : {whole whole' : Bool} {m : ℕ} {keys keys' : List ℕ} {classes classes' : ℕ} → SoundIn whole m keys classes → SoundIn whole' m keys' classes'
@@ -84,4 +85,4 @@ pub exist-maps : {whole whole' : Bool} {m : ℕ} {keys keys' : List ℕ} {classe
     → exist_in whole rule m keys classes W class border ≡ exist_in whole' rule' m keys' classes' W class border
 unfolding exist_in existing_by presence_by
 exist-maps S S' rule rule' W class border h =
-    use-alike S S' W (length border) (λ n p. after (existence.Refused n p) border) _ _ (λ I. rw (h I class, h I not_seen))
+    use-alike S S' W (length border) (λ c p. after (refuse c p) border) _ _ (λ I. rw (h I class, h I not_seen))

@@ -4,23 +4,20 @@
 ghost use Rattle.std.specs.Prelude.{◌≡◌, ◌+◌, ◌≤◌, length};
 ghost use Rattle.lists.specs.Lists.{up_from, any};
 ghost use Rattle.answers.specs.After.{after};
-ghost use Rattle.key.specs.Spread.{spreads};
 ghost use Rattle.map.specs.Sound.{Follow};
 ghost use Rattle.map.specs.Classes.{classed, not_seen};
 ghost use Rattle.used.specs.Used.{Usable};
 ghost use Rattle.exist.specs.Exist.{existing, exist_of};
 
-use answers::Verdict;
-use border::Found;
+use answers::Refused;
 use window::Window;
 
-// What exist answers: whether some pixel has the class, or a refusal. It cannot tell where none has it and some were not seen.
-#[derive(Clone, Copy)]
+// What exist answers: whether some pixel has the class. It cannot tell where none has it and some were not seen.
+#[derive(Clone, Copy, Debug, PartialEq, Eq)]
 pub enum Existence {
     Yes,
     No,
     CannotTell,
-    Refused { number: u32, place: u32 },
 }
 
 // Some records, looked through: one has the class, one was not seen.
@@ -47,7 +44,6 @@ fn look(classes: &[u8], class: u8, first: u32, count: u32) -> Looked
 
 // Goes from opening to opening until a record has the class, and remembers whether one was not seen. In a whole map, the record of each pixel is handed out.
 fn seek(
-    table: &[u32; 256],
     m: u32,
     keys: &[u32],
     classes: &[u8],
@@ -55,35 +51,25 @@ fn seek(
     class: u8,
     border: &mut [u16],
 ) -> Existence
-    requires { (table.now ≡ spreads) × Usable m m keys.now window (length border.old) × (length keys.now ≡ length classes.now) × Follow m 0 keys.now }
-    ensures { after result border.new ≡ existing m keys.now classes.now window class border.old }
+    requires { Usable m m keys.now window (length border.old) × (length keys.now ≡ length classes.now) × Follow m 0 keys.now }
+    ensures { after (Ok result) border.new ≡ existing m keys.now classes.now window class border.old }
 {
     let w = window.w as usize;
     step::fill(border, 0, w, window.r0);
     let mut at = openings::start(window);
     let mut unseen = false;
-    loop {
-        let found = openings::next_opening(table, m, m, keys, window, at, border);
-        let Found::Opening {
-            first,
-            count,
-            on,
-            ..
-        } = found
-        else {
-            return if unseen {
-                Existence::CannotTell
-            } else {
-                Existence::No
-            };
-        };
-        let looked = look(classes, class, first, count);
+    while let Some(opening) = openings::next_opening(m, m, keys, window, &mut at, border) {
+        let looked = look(classes, class, opening.run.first, opening.run.count);
         if looked.has {
             step::fill(border, 0, w, window.r0 + window.h);
             return Existence::Yes;
         }
         unseen = unseen | looked.unseen;
-        at = on;
+    }
+    if unseen {
+        Existence::CannotTell
+    } else {
+        Existence::No
     }
 }
 
@@ -95,13 +81,9 @@ pub fn exist(
     window: Window,
     class: u8,
     border: &mut [u16],
-) -> Existence
+) -> Result<Existence, Refused>
     ensures { after result border.new ≡ exist_of m keys.now classes.now window class border.old }
 {
-    let verdict = used::usable(m, keys, classes, window, border.len(), true);
-    if let Verdict::Refused { number, place } = verdict {
-        return Existence::Refused { number, place };
-    }
-    let table = blocks::spread_table();
-    seek(&table, m, keys, classes, window, class, border)
+    used::usable(m, keys, classes, window, border.len(), true)?;
+    Ok(seek(m, keys, classes, window, class, border))
 }

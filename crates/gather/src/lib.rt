@@ -3,10 +3,10 @@
 
 ghost use Rattle.std.specs.Prelude.{◌≡◌, ◌+◌, ◌≤◌, length};
 ghost use Rattle.lists.specs.Lists.{up_from};
-ghost use Rattle.key.specs.Along.{ones_table, TellsOnes};
 ghost use Rattle.window.specs.Window.{In, Inside};
 ghost use Rattle.totals.specs.Gather.{shared, clipped, gathered, Hands, Fills, Gathering};
 
+use border::Opening;
 use window::Window;
 
 // How many numbers the n from a on and the k from b on share.
@@ -28,61 +28,48 @@ fn clipped(window: Window, e: u32, row: u16, col: u16) -> u32
     (rows as u32) * (cols as u32)
 }
 
-// Adds the pixels of several records, which fill the block of this key and exponent, to the totals of their classes. The block is gone through as the check goes through a picture,
-// and what a record has over the block's key is its key there. m and the window are there for the contract alone.
+// Adds the pixels of several records, which fill the opened block, to the totals of their classes. The block is gone through as the check goes through a picture, and what a record
+// has over the block's key is its key there. m and the window are there for the contract alone.
 fn gather_run(
-    ones: &[u32; 13],
-    digits: &[u8; 16],
     m: u32,
     keys: &[u32],
     classes: &[u8],
     window: Window,
-    key: u32,
-    exponent: u32,
-    first: u32,
-    count: u32,
+    opening: Opening,
     totals: &mut [u32; 256],
 )
-    requires { (ones.now ≡ ones_table) × TellsOnes digits.now × Fills m keys.now (length classes.now) window key exponent first count × Gathering m keys.now classes.now window first count totals.old }
-    ensures { totals.new ≡ gathered m keys.now classes.now window (up_from first count) totals.old }
+    requires { Fills m keys.now (length classes.now) window opening × Gathering m keys.now classes.now window opening.run.first opening.run.count totals.old }
+    ensures { totals.new ≡ gathered m keys.now classes.now window (up_from opening.run.first opening.run.count) totals.old }
 {
-    let from = first as usize;
+    let exponent = opening.block.exponent;
+    let first = opening.run.first as usize;
     let mut spot = spots::first_spot(exponent);
-    for n in from..from + count as usize {
-        let inner = keys[n] - key;
-        let e = spots::exponent_here(ones, digits, exponent, spot, inner);
+    for n in first..first + opening.run.count as usize {
+        let inner = keys[n] - opening.key;
+        let e = spots::exponent_here(exponent, spot, inner);
         totals[classes[n] as usize] += blocks::pow4(e);
-        spot = spots::advance(ones, exponent, inner, e, spot.place);
+        spot = spots::advance(exponent, inner, e, spot.place);
     }
 }
 
 // Adds the parts of the records that an opening hands out to the totals of their classes. One that reaches beyond the block contains it and may stick out of the window, and
 // otherwise they fill the block.
 pub fn gather(
-    ones: &[u32; 13],
-    digits: &[u8; 16],
     m: u32,
     keys: &[u32],
     classes: &[u8],
     window: Window,
-    row: u16,
-    col: u16,
-    key: u32,
-    exponent: u32,
-    first: u32,
-    count: u32,
-    reach: u32,
+    opening: Opening,
     totals: &mut [u32; 256],
 )
-    requires { (ones.now ≡ ones_table) × TellsOnes digits.now × Hands m keys.now (length classes.now) window (row, col) key exponent first count reach × Gathering m keys.now classes.now window first count totals.old }
-    ensures { totals.new ≡ gathered m keys.now classes.now window (up_from first count) totals.old }
+    requires { Hands m keys.now (length classes.now) window opening × Gathering m keys.now classes.now window opening.run.first opening.run.count totals.old }
+    ensures { totals.new ≡ gathered m keys.now classes.now window (up_from opening.run.first opening.run.count) totals.old }
 {
-    if exponent < reach {
-        let area = clipped(window, reach, row, col);
-        totals[classes[first as usize] as usize] += area;
+    let Opening { block, run, .. } = opening;
+    if block.exponent < run.reach {
+        let area = clipped(window, run.reach, block.row, block.col);
+        totals[classes[run.first as usize] as usize] += area;
         return;
     }
-    gather_run(
-        ones, digits, m, keys, classes, window, key, exponent, first, count, totals,
-    );
+    gather_run(m, keys, classes, window, opening, totals);
 }

@@ -10,7 +10,9 @@ use lib.ListN.{length, get_or, set, take, drop, length-set, length-map}
 use lib.Seq.{get_or-set_other, drop-set-lt}
 use Rattle.lists.specs.Lists.{up_from}
 use Rattle.lists.proofs.Laws.{up_in, up-length, map_same}
-use Rattle.answers.specs.Refusals.{answer}
+use Rattle.std.specs.Prelude.{Result, Ok}
+use Rattle.answers.specs.declared.Refused.{Refused}
+use Rattle.answers.specs.Refusals.{answer, refuse}
 use Rattle.answers.specs.Cells.{overwrite}
 use Rattle.answers.specs.After.{After, after, unless}
 use Rattle.answers.proofs.Laws.{answer-part, overwrite-same}
@@ -19,8 +21,6 @@ use Rattle.window.proofs.Laws.{inside-12, pixels-most}
 use Rattle.used.specs.Used.{spent}
 use Rattle.totals.specs.Totals.{total, totals}
 use Rattle.totals.proofs.Laws.{totals-length, totals-at, total-most}
-use Rattle.month.specs.declared.Added.{Added}
-use Rattle.month.specs.declared.Added.TheVariants.{Done, Refused}
 use Rattle.rows.specs.Rows.{Row, row_cells, row_in, with_map}
 use Rattle.month.specs.Month.{head_of, table_of, m_in, window_in, maps_in, add_map, add_refusals, add_of}
 use Rattle.rows.specs.Growing.{grown, grow_rows, AllFit}
@@ -107,14 +107,14 @@ module _ (m : ℕ) (keys classes table : List ℕ) (long : 1030 ≤ length table
 module _ (m : ℕ) (keys classes border table : List ℕ) where
   -- all behind one table of refusals
   pub add_is : add_of m keys classes border table
-      ≡ unless Refused (add_refusals m keys (length classes) (length border) table) (border, table)
-      (after (Done (maps_in table + 1)) (spent (window_in table) border, overwrite (add_map m keys classes table) table))
+      ≡ unless refuse (add_refusals m keys (length classes) (length border) table) (border, table)
+      (after (Ok (maps_in table + 1)) (spent (window_in table) border, overwrite (add_map m keys classes table) table))
   unfolding add_of
   add_is = refl
 
   -- of the border only the length counts for the table
   pub add-table : (add_of m keys classes border table).lent.1
-      ≡ answer (λ (n p : ℕ). table) (add_refusals m keys (length classes) (length border) table) (overwrite (add_map m keys classes table) table)
+      ≡ answer (λ c p. table) (add_refusals m keys (length classes) (length border) table) (overwrite (add_map m keys classes table) table)
   add-table =
-      ap (λ (x : After Added (List ℕ × List ℕ)). x.lent.1) add_is
-      ∙ answer-part (λ (x : After Added (List ℕ × List ℕ)). x.lent.1) (λ n p. after (Refused n p) (border, table)) (add_refusals m keys (length classes) (length border) table) _
+      ap (λ (x : After (Result ℕ Refused) (List ℕ × List ℕ)). x.lent.1) add_is
+      ∙ answer-part (λ (x : After (Result ℕ Refused) (List ℕ × List ℕ)). x.lent.1) (λ c p. after (refuse c p) (border, table)) (add_refusals m keys (length classes) (length border) table) _

@@ -8,6 +8,9 @@ use native.Mathlib.Omega.{arith}
 use lib.ListN.{length, drop, replicate, length-append, length-replicate}
 use lib.Seq.{take_at, drop_at, drop-drop}
 use borrow.Rule.Slice.PartMut.{put_mid}
+use Rattle.std.specs.Prelude.{Ok}
+use Rattle.answers.specs.declared.Cause.TheVariants.{BadM, BadWindow, ShortRoom}
+use Rattle.answers.specs.Refusals.{refuse}
 use Rattle.answers.specs.Cells.{overwrite}
 use Rattle.answers.specs.After.{after}
 use Rattle.answers.proofs.Laws.{overwrite-part}
@@ -15,7 +18,6 @@ use Rattle.window.specs.declared.Window.{Window}
 use Rattle.window.specs.Window.{outside}
 use Rattle.window.specs.Drawn.{drawn_for}
 use Rattle.window.proofs.Laws.{drawn-over, drawn-outside, drawn-short, drawn-done}
-use Rattle.month.specs.declared.Cleared.TheVariants.{Done, Refused}
 use Rattle.month.specs.Month.{head_of, clear_of}
 
 -- ---- what is written
@@ -36,25 +38,25 @@ module _ (m : ℕ) (W : Window) where
   empty-length = omega (arith, length-replicate {A = ℕ} 1025 0)
 
   module _ (table : List ℕ) where
-    pub clear-is : clear_of m W table ≡ drawn_for Refused Done (head_of m W ++ replicate 1025 0) m W table
+    pub clear-is : clear_of m W table ≡ drawn_for refuse (Ok tt) (head_of m W ++ replicate 1025 0) m W table
     unfolding clear_of
     clear-is = refl
 
-    pub clear-over : 12 < m → clear_of m W table ≡ after (Refused 1 0) table
-    clear-over l = clear-is ∙ drawn-over Refused Done empty m W table l
+    pub clear-over : 12 < m → clear_of m W table ≡ after (refuse BadM 0) table
+    clear-over l = clear-is ∙ drawn-over refuse (Ok tt) empty m W table l
 
     module _ (l : m ≤ 12) where
-      pub clear-outside : outside m W ≡ true → clear_of m W table ≡ after (Refused 6 0) table
-      clear-outside e = clear-is ∙ drawn-outside Refused Done empty m W table l e
+      pub clear-outside : outside m W ≡ true → clear_of m W table ≡ after (refuse BadWindow 0) table
+      clear-outside e = clear-is ∙ drawn-outside refuse (Ok tt) empty m W table l e
 
       module _ (e : outside m W ≡ false) where
-        pub clear-short : length table < 1030 → clear_of m W table ≡ after (Refused 8 1030) table
-        clear-short h = clear-is ∙ rw empty-length at (drawn-short Refused Done empty m W table l e (rw empty-length h))
+        pub clear-short : length table < 1030 → clear_of m W table ≡ after (refuse ShortRoom 1030) table
+        clear-short h = clear-is ∙ rw empty-length at (drawn-short refuse (Ok tt) empty m W table l e (rw empty-length h))
 
         -- the first five cells are stored, and behind them zeros
         pub clear-done : 1030 ≤ length table → {head zeros : List ℕ} → head ≡ head_of m W → zeros ≡ replicate 1025 0
-            → clear_of m W table ≡ after Done (put_mid 5 1025 (head ++ drop 5 table) zeros)
+            → clear_of m W table ≡ after (Ok tt) (put_mid 5 1025 (head ++ drop 5 table) zeros)
         clear-done h d w =
             clear-is
-            ∙ drawn-done Refused Done empty m W table l e (omega (arith, empty-length))
-            ∙ ap (after Done) (sym (rw (d, w) (stored (head_of m W) (replicate 1025 0) table 5 1025 refl (length-replicate {A = ℕ} 1025 0))))
+            ∙ drawn-done refuse (Ok tt) empty m W table l e (omega (arith, empty-length))
+            ∙ ap (after (Ok tt)) (sym (rw (d, w) (stored (head_of m W) (replicate 1025 0) table 5 1025 refl (length-replicate {A = ℕ} 1025 0))))

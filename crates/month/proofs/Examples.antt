@@ -8,8 +8,9 @@ use lib.ListN.{take, replicate}
 use Rattle.lists.specs.Promises as numbers
 use Rattle.lists.specs.Promises.{least_of}
 use Rattle.lists.specs.Lists.{up_from, greatest_of, any, before, how_many}
-use Rattle.answers.specs.declared.Verdict.TheVariants as verdict-of
-use Rattle.answers.specs.Refusals.{answer, verdict}
+use Rattle.std.specs.Prelude.{Ok}
+use Rattle.answers.specs.declared.Cause.TheVariants.{BadKey, BadWindow, ShortBorder, ShortRoom, OtherM, MonthFull, BadTable}
+use Rattle.answers.specs.Refusals.{refuse, answer, verdict}
 use Rattle.answers.specs.Sizes.{wrong_count, size_refusals_in, picture_refusals, count_refusals}
 use Rattle.answers.specs.Cells.{overwrite}
 use Rattle.answers.specs.After.{after, room_refusals}
@@ -27,8 +28,6 @@ use Rattle.map.specs.Check.{late, refusals_from, map_refusals_in}
 use Rattle.map.specs.Records.{record_of}
 use Rattle.used.specs.Used.{spent, border_refusals}
 use Rattle.rows.specs.Promises.{row_of}
-use Rattle.month.specs.declared.Cleared.TheVariants as cleared
-use Rattle.month.specs.declared.Added.TheVariants as added
 use Rattle.rows.specs.Rows.{row_cells, with_map, over, any_over}
 use Rattle.month.specs.Month.{table_of, clear_of, add_map, spoiled, table_refusals, add_refusals, add_of}
 use Rattle.month.specs.Promises.{counts_of, month_of}
@@ -39,12 +38,12 @@ abbrev other : ℕ → ℕ → ℕ → List ℕ
 other maps sum in-maps = 2 ∷ 0 ∷ 1 ∷ 3 ∷ 3 ∷ maps ∷ 7 ∷ 5 ∷ sum ∷ in-maps ∷ replicate 1020 0
 
 pub record Examples : Type 0 where
-  pub clears : clear_of 2 W (old 1031) ≡ after cleared.Done (empty ++ 99 ∷ [])
+  pub clears : clear_of 2 W (old 1031) ≡ after (Ok tt) (empty ++ 99 ∷ [])
   -- 6 before 8
-  pub clear-outside : clear_of 2 (window 2 0 3 1) (old 2) ≡ after (cleared.Refused 6 0) (old 2)
-  pub clear-short : clear_of 2 W (old 1029) ≡ after (cleared.Refused 8 1030) (old 1029)
+  pub clear-outside : clear_of 2 (window 2 0 3 1) (old 2) ≡ after (refuse BadWindow 0) (old 2)
+  pub clear-short : clear_of 2 W (old 1029) ≡ after (refuse ShortRoom 1030) (old 1029)
   -- the first map sets the least; cells beyond the table and beyond the border's first w keep their content
-  pub adds : add_of 2 keys classes (old 4) (empty ++ 99 ∷ []) ≡ after (added.Done 1) (3 ∷ 3 ∷ 3 ∷ 99 ∷ [], first-day ++ 99 ∷ [])
+  pub adds : add_of 2 keys classes (old 4) (empty ++ 99 ∷ []) ≡ after (Ok 1) (3 ∷ 3 ∷ 3 ∷ 99 ∷ [], first-day ++ 99 ∷ [])
   -- so it does where something stands there already
   pub sets : take 10 (add_map 2 keys classes (other 0 0 0)) ≡ 2 ∷ 0 ∷ 1 ∷ 3 ∷ 3 ∷ 1 ∷ 0 ∷ 0 ∷ 0 ∷ 0 ∷ []
   -- a map of one record of class 3: the others count as 0 pixels
@@ -59,13 +58,13 @@ pub record Examples : Type 0 where
   pub maps-over : spoiled 2 (other 1 9 2) ≡ true
   pub count-over : spoiled 2 (other 1001 0 0) ≡ true
   -- 3 before 8 before 15 before 26, and 26 before 16 before 7
-  pub record-first : verdict (add_refusals 2 (1 ∷ []) 1 0 []) ≡ verdict-of.Refused 3 0
-  pub refuses : add_of 2 (1 ∷ []) (3 ∷ []) (old 3) (first-day ++ 99 ∷ []) ≡ after (added.Refused 3 0) (old 3, first-day ++ 99 ∷ [])
-  pub short-first : verdict (add_refusals 2 keys 7 0 (old 1029)) ≡ verdict-of.Refused 8 1030
-  pub size-first : verdict (add_refusals 2 keys 7 0 (old 1030)) ≡ verdict-of.Refused 15 0
-  pub spoiled-first : verdict (add_refusals 2 keys 7 0 (other 1000 9001 0)) ≡ verdict-of.Refused 26 0
-  pub full-first : verdict (add_refusals 2 keys 7 0 (other 1000 9000 0)) ≡ verdict-of.Refused 16 0
-  pub narrow-last : verdict (add_refusals 2 keys 7 2 (other 999 0 0)) ≡ verdict-of.Refused 7 3
+  pub record-first : verdict (add_refusals 2 (1 ∷ []) 1 0 []) ≡ refuse BadKey 0
+  pub refuses : add_of 2 (1 ∷ []) (3 ∷ []) (old 3) (first-day ++ 99 ∷ []) ≡ after (refuse BadKey 0) (old 3, first-day ++ 99 ∷ [])
+  pub short-first : verdict (add_refusals 2 keys 7 0 (old 1029)) ≡ refuse ShortRoom 1030
+  pub size-first : verdict (add_refusals 2 keys 7 0 (old 1030)) ≡ refuse OtherM 0
+  pub spoiled-first : verdict (add_refusals 2 keys 7 0 (other 1000 9001 0)) ≡ refuse BadTable 0
+  pub full-first : verdict (add_refusals 2 keys 7 0 (other 1000 9000 0)) ≡ refuse MonthFull 0
+  pub narrow-last : verdict (add_refusals 2 keys 7 2 (other 999 0 0)) ≡ refuse ShortBorder 3
 
 pub examples : Examples
 unfolding picture_refusals count_refusals border_refusals room_refusals answer wrong_count size_refusals_in overwrite up_from spread_to spread place from form_of beyond outside

@@ -9,9 +9,10 @@ use native.Mathlib.Omega.{arith}
 use lib.Dec.{eqb}
 use lib.ListN.{length}
 use borrow.Author.Tests.{eqb-true, eqb-false}
-use Rattle.answers.specs.declared.Verdict.{Verdict}
-use Rattle.answers.specs.declared.Verdict.TheVariants.{Passed, Refused}
-use Rattle.answers.specs.Refusals.{Refusal, verdict}
+use Rattle.std.specs.Prelude.{Result, Ok, Err}
+use Rattle.answers.specs.declared.Cause.TheVariants.{ShortBorder, OtherM, MonthFull}
+use Rattle.answers.specs.declared.Refused.{Refused}
+use Rattle.answers.specs.Refusals.{Refusal, number, refuse, verdict}
 use Rattle.answers.proofs.Laws.{refused-most, refused-not-passed}
 use Rattle.map.specs.Check.{map_refusals}
 use Rattle.map.specs.Sound.{SoundMap}
@@ -21,19 +22,19 @@ use Rattle.month.specs.Promises.{Sane}
 use Rattle.month.proofs.Sanity.{spoiled-sane}
 use Rattle.month.proofs.Tables.{table-other, table-full, table-open, add-unsound, add-unfit, add-narrow, add-passes}
 
-pub data Outcome (m : ℕ) (keys : List ℕ) (classes border : ℕ) (table : List ℕ) : Verdict → Type 0 where
-  unsound : {n p : ℕ} → n ≤ 5 → ¬ SoundMap m keys classes → Outcome m keys classes border table (Refused n p)
-  other : ¬ (m_in table ≡ m) → Outcome m keys classes border table (Refused 15 0)
-  full : SoundMap m keys classes → m_in table ≡ m → maps_in table ≡ 1000 → Outcome m keys classes border table (Refused 16 0)
-  narrow : {p : ℕ} → maps_in table < 1000 → Outcome m keys classes border table (Refused 7 p)
-  taken : maps_in table < 1000 → Outcome m keys classes border table Passed
+pub data Outcome (m : ℕ) (keys : List ℕ) (classes border : ℕ) (table : List ℕ) : Result Unit Refused → Type 0 where
+  unsound : {e : Refused} → number e.cause ≤ 5 → ¬ SoundMap m keys classes → Outcome m keys classes border table (Err e)
+  other : ¬ (m_in table ≡ m) → Outcome m keys classes border table (refuse OtherM 0)
+  full : SoundMap m keys classes → m_in table ≡ m → maps_in table ≡ 1000 → Outcome m keys classes border table (refuse MonthFull 0)
+  narrow : {p : ℕ} → maps_in table < 1000 → Outcome m keys classes border table (refuse ShortBorder p)
+  taken : maps_in table < 1000 → Outcome m keys classes border table (Ok tt)
 
 module _ (m : ℕ) (keys : List ℕ) (classes border : ℕ) (table : List ℕ) (long : 1030 ≤ length table) (s : Sane (m_in table) table) where
   abbrev vs : List Refusal
   vs = add_refusals m keys classes border table
 
   -- where the map is sound
-  module _ (e : verdict (map_refusals m keys classes) ≡ Passed) where
+  module _ (e : verdict (map_refusals m keys classes) ≡ Ok tt) where
     sound : SoundMap m keys classes
     sound = (sound-map m keys classes).0 e
 
@@ -42,7 +43,7 @@ module _ (m : ℕ) (keys : List ℕ) (classes border : ℕ) (table : List ℕ) (
       sane : spoiled m table ≡ false
       sane = (spoiled-sane m table).1 (subst (λ (k : ℕ). Sane k table) same s)
 
-      fit : maps_in table < 1000 → verdict (table_refusals m table) ≡ Passed
+      fit : maps_in table < 1000 → verdict (table_refusals m table) ≡ Ok tt
       fit few = table-open m table long same sane (λ f. omega (arith, few))
 
       by-border : maps_in table < 1000 → Dec (border < (window_in table).w) → Outcome m keys classes border table (verdict vs)
@@ -64,8 +65,8 @@ module _ (m : ℕ) (keys : List ℕ) (classes border : ℕ) (table : List ℕ) (
   pub outcome : Outcome m keys classes border table (verdict (add_refusals m keys classes border table))
   outcome = go (verdict (map_refusals m keys classes)) refl
     where
-      go : (v : Verdict) → verdict (map_refusals m keys classes) ≡ v → Outcome m keys classes border table (verdict vs)
-      go Passed e = by_size e (eqb (m_in table) m) refl
-      go (Refused n p) e =
+      go : (v : Result Unit Refused) → verdict (map_refusals m keys classes) ≡ v → Outcome m keys classes border table (verdict vs)
+      go (Ok tt) e = by_size e (eqb (m_in table) m) refl
+      go (Err r) e =
           let small = refused-most (numbered-map {most = 5} (omega arith) true m keys classes) e in
           rw (add-unsound m keys classes border table e) (unsound small (λ S. refused-not-passed (sym e ∙ (sound-map m keys classes).1 S)))

@@ -1,8 +1,10 @@
 -- A month: a running table of what maps have in one window. Its first 1,030 cells are m, r0, c0, h, w, the number of maps, and then four for each class.
 -- Assumes nothing.
-use Rattle.std.specs.Prelude.{Bool, not, ◌||◌, List, [], ◌∷◌, ◌++◌, map, ℕ, ◌+◌, ◌*◌, eqb, ltb, length, get_or, replicate}
+use Rattle.std.specs.Prelude.{Bool, not, ◌||◌, List, [], ◌∷◌, ◌++◌, map, ℕ, ◌+◌, ◌*◌, eqb, ltb, length, get_or, replicate, Result, Ok}
 use Rattle.lists.specs.Lists.{up_from}
-use Rattle.answers.specs.Refusals.{Refusal, refusal}
+use Rattle.answers.specs.declared.Cause.TheVariants.{OtherM, MonthFull, BadTable}
+use Rattle.answers.specs.declared.Refused.{Refused}
+use Rattle.answers.specs.Refusals.{Refusal, refusal, refuse}
 use Rattle.answers.specs.Cells.{overwrite}
 use Rattle.answers.specs.After.{After, after, unless, room_refusals}
 use Rattle.window.specs.declared.Window.{Window}
@@ -12,10 +14,6 @@ use Rattle.map.specs.Check.{map_refusals}
 use Rattle.used.specs.Used.{border_refusals, spent}
 use Rattle.totals.specs.Totals.{total}
 use Rattle.rows.specs.Rows.{Row, row_cells, row_in, with_map, any_over}
-use Rattle.month.specs.declared.Cleared.{Cleared}
-use Rattle.month.specs.declared.Cleared.TheVariants as cleared
-use Rattle.month.specs.declared.Added.{Added}
-use Rattle.month.specs.declared.Added.TheVariants as added
 
 -- ---- the table
 
@@ -40,8 +38,8 @@ maps_in table = get_or table 5 0
 -- ---- clearing
 
 -- a table of no map: m and the window, and zero in the rest
-unfoldable pub clear_of : ℕ → Window → List ℕ → After Cleared (List ℕ)
-clear_of m W = drawn_for cleared.Refused cleared.Done (head_of m W ++ replicate 1025 0) m W
+unfoldable pub clear_of : ℕ → Window → List ℕ → After (Result Unit Refused) (List ℕ)
+clear_of m W = drawn_for refuse (Ok tt) (head_of m W ++ replicate 1025 0) m W
 
 -- ---- adding
 
@@ -61,14 +59,14 @@ spoiled m table =
 unfoldable pub table_refusals : ℕ → List ℕ → List Refusal
 table_refusals m table =
     room_refusals (length table) 1030
-    ++ refusal (not (eqb (m_in table) m)) 15 0 ∷ refusal (spoiled m table) 26 0 ∷ refusal (eqb (maps_in table) 1000) 16 0 ∷ []
+    ++ refusal (not (eqb (m_in table) m)) OtherM 0 ∷ refusal (spoiled m table) BadTable 0 ∷ refusal (eqb (maps_in table) 1000) MonthFull 0 ∷ []
 
 -- the refusals of adding: those of the map, of the table, and of the border, by the table's window
 unfoldable pub add_refusals : ℕ → List ℕ → ℕ → ℕ → List ℕ → List Refusal
 add_refusals m keys classes border table = map_refusals m keys classes ++ (table_refusals m table ++ border_refusals (window_in table).w border)
 
 -- adding: how many maps there are now; the border spent and the table with the map. A refusal leaves both as they were
-unfoldable pub add_of : ℕ → List ℕ → List ℕ → List ℕ → List ℕ → After Added (List ℕ × List ℕ)
+unfoldable pub add_of : ℕ → List ℕ → List ℕ → List ℕ → List ℕ → After (Result ℕ Refused) (List ℕ × List ℕ)
 add_of m keys classes border table =
-    unless added.Refused (add_refusals m keys (length classes) (length border) table) (border, table)
-    (after (added.Done (maps_in table + 1)) (spent (window_in table) border, overwrite (add_map m keys classes table) table))
+    unless refuse (add_refusals m keys (length classes) (length border) table) (border, table)
+    (after (Ok (maps_in table + 1)) (spent (window_in table) border, overwrite (add_map m keys classes table) table))

@@ -8,44 +8,21 @@ ghost use Rattle.answers.specs.After.{after};
 ghost use Rattle.month.specs.Month.{clear_of, window_in, spoiled, table_refusals, add_refusals, add_of};
 ghost use Rattle.month.specs.Narrow.{narrowed};
 
-use answers::Verdict;
+use answers::{Cause, Refused};
 use window::Window;
 
-// What clearing answers.
-#[derive(Clone, Copy)]
-pub enum Cleared {
-    Done,
-    Refused { number: u32, place: u32 },
-}
-
-// What adding answers: how many maps the table has now, or a refusal.
-#[derive(Clone, Copy)]
-pub enum Added {
-    Done { maps: u32 },
-    Refused { number: u32, place: u32 },
-}
-
 // Makes the table of a window with no map.
-pub fn clear(m: u32, window: Window, table: &mut [u64]) -> Cleared
+pub fn clear(m: u32, window: Window, table: &mut [u64]) -> Result<(), Refused>
     ensures { after result table.new ≡ clear_of m window table.old }
 {
     if 12 < m {
-        return Cleared::Refused {
-            number: 1,
-            place: 0,
-        };
+        return Err(Cause::BadM.at(0));
     }
     if walk::outside(m, window) {
-        return Cleared::Refused {
-            number: 6,
-            place: 0,
-        };
+        return Err(Cause::BadWindow.at(0));
     }
     if table.len() < 1030 {
-        return Cleared::Refused {
-            number: 8,
-            place: 1030,
-        };
+        return Err(Cause::ShortRoom.at(1030));
     }
     table[..5].copy_from_slice(&[
         m as u64,
@@ -55,7 +32,7 @@ pub fn clear(m: u32, window: Window, table: &mut [u64]) -> Cleared
         window.w as u64,
     ]);
     table[5..1030].fill(0);
-    Cleared::Done
+    Ok(())
 }
 
 // A number in 16 bits; one that is too great becomes their greatest, which lies outside every picture too.
@@ -96,66 +73,55 @@ fn spoiled(m: u32, table: &[u64]) -> bool
 }
 
 // Refusals 8, 15, 26 and 16.
-fn ongoing(m: u32, table: &[u64]) -> Verdict
+fn ongoing(m: u32, table: &[u64]) -> Result<(), Refused>
     requires { m ≤ 12 }
     ensures { result ≡ verdict (table_refusals m table.now) }
 {
     if table.len() < 1030 {
-        return Verdict::Refused {
-            number: 8,
-            place: 1030,
-        };
+        return Err(Cause::ShortRoom.at(1030));
     }
     if table[0] != (m as u64) {
-        return Verdict::Refused {
-            number: 15,
-            place: 0,
-        };
+        return Err(Cause::OtherM.at(0));
     }
     if spoiled(m, table) {
-        return Verdict::Refused {
-            number: 26,
-            place: 0,
-        };
+        return Err(Cause::BadTable.at(0));
     }
     if table[5] == 1000 {
-        return Verdict::Refused {
-            number: 16,
-            place: 0,
-        };
+        return Err(Cause::MonthFull.at(0));
     }
-    Verdict::Passed
+    Ok(())
 }
 
 // All refusals of adding, with a border of so many cells.
-fn addable(m: u32, keys: &[u32], classes: &[u8], cells: usize, table: &[u64]) -> Verdict
+fn addable(
+    m: u32,
+    keys: &[u32],
+    classes: &[u8],
+    cells: usize,
+    table: &[u64],
+) -> Result<(), Refused>
     ensures { result ≡ verdict (add_refusals m keys.now (length classes.now) cells table.now) }
 {
-    let sound = checks::sound(m, keys, classes, true);
-    if let Verdict::Refused { number, place } = sound {
-        return Verdict::Refused { number, place };
-    }
-    let fits = ongoing(m, table);
-    if let Verdict::Refused { number, place } = fits {
-        return Verdict::Refused { number, place };
-    }
+    checks::sound(m, keys, classes, true)?;
+    ongoing(m, table)?;
     used::wide_enough(window_in(table).w, cells)
 }
 
-// Adds a map to the table.
-pub fn add(m: u32, keys: &[u32], classes: &[u8], border: &mut [u16], table: &mut [u64]) -> Added
+// Adds a map to the table. How many it has now.
+pub fn add(
+    m: u32,
+    keys: &[u32],
+    classes: &[u8],
+    border: &mut [u16],
+    table: &mut [u64],
+) -> Result<u32, Refused>
     ensures { after result (border.new, table.new) ≡ add_of m keys.now classes.now border.old table.old }
 {
-    let verdict = addable(m, keys, classes, border.len(), table);
-    if let Verdict::Refused { number, place } = verdict {
-        return Added::Refused { number, place };
-    }
-    let mut counts: [u32; 256] = [0; 256];
+    addable(m, keys, classes, border.len(), table)?;
+    let mut counts = [0; 256];
     sums::count(m, keys, classes, window_in(table), border, &mut counts);
     let maps = table[5];
     table[5] = maps + 1;
     rows::add_rows(table, &counts, maps == 0);
-    Added::Done {
-        maps: (maps + 1) as u32,
-    }
+    Ok((maps + 1) as u32)
 }

@@ -7,15 +7,8 @@ ghost use Rattle.answers.specs.After.{after};
 ghost use Rattle.totals.specs.Totals.{totals};
 ghost use Rattle.report.specs.Report.{report_of};
 
-use answers::Verdict;
+use answers::{Cause, Refused};
 use window::Window;
-
-// What report answers: how many pixels the window has, or a refusal.
-#[derive(Clone, Copy)]
-pub enum Reported {
-    Done { pixels: u32 },
-    Refused { number: u32, place: u32 },
-}
 
 // Writes the totals into the lent slice.
 pub fn put_totals(totals: &[u32; 256], out: &mut [u32])
@@ -25,7 +18,7 @@ pub fn put_totals(totals: &[u32; 256], out: &mut [u32])
     out[..256].copy_from_slice(totals);
 }
 
-// How many pixels of the window each class has.
+// How many pixels of the window each class has; and how many it has in all.
 pub fn report(
     m: u32,
     keys: &[u32],
@@ -33,24 +26,16 @@ pub fn report(
     window: Window,
     border: &mut [u16],
     out: &mut [u32],
-) -> Reported
+) -> Result<u32, Refused>
     ensures { after result (border.new, out.new) ≡ report_of m keys.now classes.now window border.old out.old }
 {
-    let verdict = used::usable(m, keys, classes, window, border.len(), true);
-    if let Verdict::Refused { number, place } = verdict {
-        return Reported::Refused { number, place };
-    }
+    used::usable(m, keys, classes, window, border.len(), true)?;
     if out.len() < 256 {
         step::fill(border, 0, window.w as usize, window.r0 + window.h);
-        return Reported::Refused {
-            number: 8,
-            place: 256,
-        };
+        return Err(Cause::ShortRoom.at(256));
     }
-    let mut totals: [u32; 256] = [0; 256];
+    let mut totals = [0; 256];
     sums::count(m, keys, classes, window, border, &mut totals);
     put_totals(&totals, out);
-    Reported::Done {
-        pixels: (window.h as u32) * (window.w as u32),
-    }
+    Ok((window.h as u32) * (window.w as u32))
 }
