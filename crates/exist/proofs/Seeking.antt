@@ -3,6 +3,7 @@
 use mathlib.Core.Path.{◌≡◌, ◌∙◌}
 use mathlib.Core.Bool.{Bool, true, false, ◌||◌, or-false}
 use mathlib.Core.List.{List, [], ◌∷◌, ◌++◌, append_assoc}
+use Rattle.std.specs.Prelude.{None}
 use Prim.Native.Nat.{ℕ, ◌+◌}
 use Rattle.lists.specs.Lists.{up_from, any}
 use Rattle.lists.proofs.Laws.{up_none, up_one, up-append, any_none, any_next, any_append}
@@ -10,8 +11,7 @@ use Rattle.window.specs.declared.Window.{Window}
 use Rattle.map.specs.Sound.{Follow}
 use Rattle.map.specs.Classes.{classed, not_seen}
 use Rattle.border.specs.declared.Walk.{Walk}
-use Rattle.border.specs.declared.Found.{Found}
-use Rattle.border.specs.declared.Found.TheVariants as found
+use Rattle.border.specs.declared.Opening as found
 use Rattle.border.specs.Openings.{Opening, made, openings, all_hands}
 use Rattle.border.specs.Found.{walk_makes, spot, Finds}
 use Rattle.border.proofs.Laws.{Finding, Opens, finding-last}
@@ -49,24 +49,24 @@ module _ {m : ℕ} {keys : List ℕ} (classes : List ℕ) {W : Window} (class : 
     whole : (k : ℕ) → exists m keys classes W k ≡ any (classed classes k) (all_hands (openings m m keys W))
     whole = exists-hands F U.inside U.cap classes
 
-    module _ {answer : Found} {row col i key first count far : ℕ} {on : Walk} {is : answer ≡ found.Opening row col i key first count far on}
-        {border' : List ℕ} (O : Opens S.finding is border') where
-      pub seeking-next : {new : Bool} → any (classed classes class) (up_from first count) ≡ false → new ≡ any (classed classes not_seen) (up_from first count)
-          → Seeking m keys classes W class border₀ border' on (unseen || new)
+    module _ {o : found.Opening} {on : Walk} {border' : List ℕ} (O : Opens S.finding o on border') where
+      abbrev new : Opening
+      new = made o.key o.run.first o.run.count
+
+      pub seeking-next : {glare : Bool} → any (classed classes class) (up_from o.run.first o.run.count) ≡ false
+          → glare ≡ any (classed classes not_seen) (up_from o.run.first o.run.count) → Seeking m keys classes W class border₀ border' on (unseen || glare)
       seeking-next e d = record {
-        done = S.done ++ (made key first count ∷ []);
+        done = S.done ++ (new ∷ []);
         finding = O.next;
-        none = any-opening (classed classes class) S.done (made key first count) ∙ rw S.none e;
-        known = any-opening (classed classes not_seen) S.done (made key first count) ∙ rw (S.known, d);
+        none = any-opening (classed classes class) S.done new ∙ rw S.none e;
+        known = any-opening (classed classes not_seen) S.done new ∙ rw (S.known, d);
       }
 
-      pub seeking-found : any (classed classes class) (up_from first count) ≡ true → exists m keys classes W class ≡ true
+      pub seeking-found : any (classed classes class) (up_from o.run.first o.run.count) ≡ true → exists m keys classes W class ≡ true
       seeking-found e =
           let rest = walk_makes m m keys W border' (spot on) in
-          let new = made key first count in
           whole class ∙ rw (O.next.all, append_assoc S.done (new ∷ []) rest) (opening-any (classed classes class) S.done new rest e)
 
     -- where nothing is left to be found: no pixel has the class, and whether one was not seen is known
-    pub seeking-last : {answer : Found} {border' : List ℕ} → Finds m m keys W at border answer border' → answer ≡ found.End
-        → (exists m keys classes W class ≡ false) × (exists m keys classes W not_seen ≡ unseen)
-    seeking-last f d = let all = (finding-last S.finding f d).0 in (whole class ∙ rw all S.none, whole not_seen ∙ rw all S.known)
+    pub seeking-last : {on : Walk} {border' : List ℕ} → Finds m m keys W at border None on border' → (exists m keys classes W class ≡ false) × (exists m keys classes W not_seen ≡ unseen)
+    seeking-last f = let all = (finding-last S.finding f).0 in (whole class ∙ rw all S.none, whole not_seen ∙ rw all S.known)

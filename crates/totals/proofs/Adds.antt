@@ -2,6 +2,7 @@
 -- Assumes nothing.
 use mathlib.Core.Path.{◌≡◌, sym, ap, ◌∙◌}
 use mathlib.Core.List.{List, [], ◌∷◌, ◌++◌}
+use Rattle.std.specs.Prelude.{None}
 use Prim.Native.Nat.{ℕ}
 use native.Mathlib.Omega.{arith}
 use lib.ListN.{length, replicate}
@@ -10,8 +11,7 @@ use Rattle.lists.proofs.Laws.{ordered-part}
 use Rattle.window.specs.declared.Window.{Window}
 use Rattle.map.specs.Sound.{Follow}
 use Rattle.border.specs.declared.Walk.{Walk}
-use Rattle.border.specs.declared.Found.{Found}
-use Rattle.border.specs.declared.Found.TheVariants as found
+use Rattle.border.specs.declared.Opening as found
 use Rattle.border.specs.Openings.{Opening, made, all_hands}
 use Rattle.border.specs.Found.{walk_makes, walk, spot, Finds}
 use Rattle.border.proofs.Laws.{hands_none, hands-one, hands-append, records-once, Finding, Opens, finding-last}
@@ -33,9 +33,8 @@ module _ {m : ℕ} {keys : List ℕ} (classes : List ℕ) {W : Window} where
   totalling-first F = record { done = []; finding = F; is = rw hands_none }
 
   module _ {room : ℕ} (U : Usable m m keys W room) (whole : Follow m 0 keys) {border₀ border cells : List ℕ} {at : Walk} (T : Totalling m keys classes W border₀ border cells at) where
-    module _ {answer : Found} {row col i key first count far : ℕ} {on : Walk} {is : answer ≡ found.Opening row col i key first count far on}
-        {border' : List ℕ} (O : Opens T.finding is border') where
-      pub totalling-hands : {n : ℕ} → length keys ≡ n → Hands m keys n W (row, col) key i first count far
+    module _ {o : found.Opening} {on : Walk} {border' : List ℕ} (O : Opens T.finding o on border') where
+      pub totalling-hands : {n : ℕ} → length keys ≡ n → Hands m keys n W o
       totalling-hands e = record {
         top = m;
         cells = room;
@@ -49,22 +48,25 @@ module _ {m : ℕ} {keys : List ℕ} (classes : List ℕ) {W : Window} where
         few = omega (arith, U.few, e);
       }
 
-      now-done : all_hands (T.done ++ (made key first count ∷ [])) ≡ all_hands T.done ++ up_from first count
-      now-done = hands-append T.done (made key first count ∷ []) ∙ ap (λ (ns : List ℕ). all_hands T.done ++ ns) (hands-one (made key first count))
+      abbrev new : Opening
+      new = made o.key o.run.first o.run.count
 
-      pub totalling-once : Gathering m keys classes W first count cells
+      now-done : all_hands (T.done ++ (new ∷ [])) ≡ all_hands T.done ++ up_from o.run.first o.run.count
+      now-done = hands-append T.done (new ∷ []) ∙ ap (λ (ns : List ℕ). all_hands T.done ++ ns) (hands-one new)
+
+      pub totalling-once : Gathering m keys classes W o.run.first o.run.count cells
       totalling-once =
-          let os = T.done ++ (made key first count ∷ []) in
+          let os = T.done ++ (new ∷ []) in
           let rest = walk_makes m m keys W border' (spot on) in
           let all = rw (O.next.all, hands-append os rest) at (records-once U.spaced U.inside U.cap) in
           record { past = all_hands T.done; is = T.is; once = rw now-done at (ordered-part (all_hands os) _ all) }
 
-      pub totalling-next : {cells' : List ℕ} → cells' ≡ gathered m keys classes W (up_from first count) cells → Totalling m keys classes W border₀ border' cells' on
+      pub totalling-next : {cells' : List ℕ} → cells' ≡ gathered m keys classes W (up_from o.run.first o.run.count) cells → Totalling m keys classes W border₀ border' cells' on
       totalling-next e = record {
-        done = T.done ++ (made key first count ∷ []);
+        done = T.done ++ (new ∷ []);
         finding = O.next;
-        is = e ∙ rw (T.is, now-done) (sym (gathered-append m keys classes W (all_hands T.done) (up_from first count) (replicate 256 0)));
+        is = e ∙ rw (T.is, now-done) (sym (gathered-append m keys classes W (all_hands T.done) (up_from o.run.first o.run.count) (replicate 256 0)));
       }
 
-    pub totalling-last : {answer : Found} {border' : List ℕ} → Finds m m keys W at border answer border' → answer ≡ found.End → cells ≡ totals m keys classes W
-    totalling-last f d = T.is ∙ rw (← (finding-last T.finding f d).0) (openings-gathered whole U.inside U.cap classes)
+    pub totalling-last : {on : Walk} {border' : List ℕ} → Finds m m keys W at border None on border' → cells ≡ totals m keys classes W
+    totalling-last f = T.is ∙ rw (← (finding-last T.finding f).0) (openings-gathered whole U.inside U.cap classes)

@@ -5,10 +5,12 @@ use Rattle.lists.specs.Lists.{up_from, Ordered, how_many}
 use Rattle.key.specs.Picture.{Px}
 use Rattle.window.specs.declared.Window.{Window}
 use Rattle.window.specs.Blocks.{floor, exponent, pixels}
+use Rattle.window.specs.Walk.{corner_of}
 use Rattle.window.specs.Keys.{key_of}
 use Rattle.map.specs.Sound.{Follow}
 use Rattle.map.specs.Records.{pixel_record}
-use Rattle.map.specs.Runs.{run, run_of}
+use Rattle.map.specs.Runs.{run_of}
+use Rattle.border.specs.declared.Opening.{Opening}
 use Rattle.border.specs.Openings.{hands}
 use Rattle.border.specs.Step.{Corner}
 use Rattle.used.specs.Used.{Usable}
@@ -35,23 +37,23 @@ module _ (m : ℕ) (keys classes : List ℕ) (W : Window) where
   gathered [] cells = cells
   gathered (n ∷ ns) cells = gathered ns (added n cells)
 
--- in a whole map, the block of this key and exponent, with corner b, is opened with the `count` records from `first` on, which reach so far, and they all have a class
-pub record Hands (m : ℕ) (keys : List ℕ) (classes : ℕ) (W : Window) (b : Px) (key i first count far : ℕ) : Type 0 where
+-- in a whole map, this opening is that of a maximal block, with the run of its records, and they all have a class
+pub record Hands (m : ℕ) (keys : List ℕ) (classes : ℕ) (W : Window) (o : Opening) : Type 0 where
   pub top : ℕ
   pub cells : ℕ
   pub given : Usable m top keys W cells
   pub whole : Follow m 0 keys
-  pub corner : Corner W top b
-  pub named : key ≡ key_of m top W b
-  pub size : i ≡ exponent W top b
-  pub found : run_of m keys key ≡ run first count far
-  pub room : first + count ≤ classes
+  pub corner : Corner W top (corner_of o.block)
+  pub named : o.key ≡ key_of m top W (corner_of o.block)
+  pub size : o.block.exponent ≡ exponent W top (corner_of o.block)
+  pub found : run_of m keys o.key ≡ o.run
+  pub room : o.run.first + o.run.count ≤ classes
   pub few : classes ≤ 65536
 
 -- and they reach no further than the block: they fill it
-pub record Fills (m : ℕ) (keys : List ℕ) (classes : ℕ) (W : Window) (key i first count : ℕ) : Type 0 where
-  pub corner : Px
-  pub hands : Hands m keys classes W corner key i first count i
+pub record Fills (m : ℕ) (keys : List ℕ) (classes : ℕ) (W : Window) (o : Opening) : Type 0 where
+  pub hands : Hands m keys classes W o
+  pub full : o.run.reach ≡ o.block.exponent
 
 -- the totals are those of records that do not come again among the `count` from `first` on
 pub record Gathering (m : ℕ) (keys classes : List ℕ) (W : Window) (first count : ℕ) (cells : List ℕ) : Type 0 where
