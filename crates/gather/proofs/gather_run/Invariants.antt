@@ -7,6 +7,6 @@ use Rattle.gather.proofs.gather_run.Given as goal
 
 abbrev pub invariant-loop-n : goal.invariant-loop-n
 invariant-loop-n l =
-    Adding l.m l.keys l.classes l.fn.window l.first (l.first + l.count) l.initial.totals l.totals l.n
-    × Stands l.exponent l.spot
-    × Inner l.m l.keys l.key (l.first + l.count) l.n l.spot.place
+    let o = l.fn.opening in
+    let end = o.run.first + o.run.count in
+    Adding l.m l.keys l.classes l.fn.window o.run.first end l.initial.totals l.totals l.n × Stands o.block.exponent l.spot × Inner l.m l.keys o.key end l.n l.spot.place
