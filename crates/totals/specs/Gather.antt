@@ -11,7 +11,6 @@ use Rattle.map.specs.Sound.{Follow}
 use Rattle.map.specs.Records.{pixel_record}
 use Rattle.map.specs.Runs.{run_of}
 use Rattle.border.specs.declared.Opening.{Opening}
-use Rattle.border.specs.Openings.{hands}
 use Rattle.border.specs.Step.{Corner}
 use Rattle.used.specs.Used.{Usable}
 
