@@ -2,7 +2,6 @@
 #![tactic(auto)]
 
 ghost use Rattle.std.specs.Prelude.{◌≡◌, ◌+◌, ◌^◌, ◌≤◌, length};
-ghost use Rattle.key.specs.Spread.{spreads};
 ghost use Rattle.map.specs.Sound.{Spaced};
 ghost use Rattle.map.specs.Runs;
 ghost use Rattle.map.specs.Runs.{run, run_of, BlockOf, Rising, Bracket, Splits};
@@ -14,30 +13,13 @@ pub fn keys_below(keys: &[u32], x: u32, from: usize) -> usize
     requires { Rising keys.now × Bracket keys.now x from (length keys.now) }
     ensures { Splits keys.now x result }
 {
-    let mut low = from;
-    let mut high = keys.len();
-    while low < high {
-        let middle = (low + high) / 2;
-        if keys[middle] < x {
-            low = middle + 1;
-        } else {
-            high = middle;
-        }
-    }
-    low
+    from + keys[from..].partition_point(|key| *key < x)
 }
 
 // How many records lie in the block of a key and its exponent, from `first` on, the first record that can. Their end is sought behind it, and not at all where its key is the block's
 // own or lies beyond the block. m is there for the contract alone.
-pub fn records_inside(
-    table: &[u32; 256],
-    m: u32,
-    keys: &[u32],
-    key: u32,
-    i: u32,
-    first: usize,
-) -> usize
-    requires { (table.now ≡ spreads) × (m ≤ 12) × Spaced m 0 keys.now × BlockOf m key i × Splits keys.now key first }
+pub fn records_inside(m: u32, keys: &[u32], key: u32, i: u32, first: usize) -> usize
+    requires { (m ≤ 12) × Spaced m 0 keys.now × BlockOf m key i × Splits keys.now key first }
     ensures { Splits keys.now (key + 5 ^ i) (first + result) }
 {
     if first == keys.len() {
@@ -47,38 +29,31 @@ pub fn records_inside(
     if found == key {
         return 1;
     }
-    let end = key + blocks::pow5(table, i);
+    let end = key + blocks::pow5(i);
     if end <= found {
         return 0;
     }
     keys_below(keys, end, first + 1) - first
 }
 
-// One record, around a block.
-fn alone(first: u32, reach: u32) -> Run
-    ensures { result ≡ run first 1 reach }
-{
-    Run {
-        first,
-        count: 1,
-        reach,
-    }
-}
-
 // The records that overlap a block in which none lies: the one before it in the list, if the block's key is one of its; or none.
-pub fn record_around(table: &[u32; 256], m: u32, keys: &[u32], key: u32, i: u32, next: usize) -> Run
-    requires { (table.now ≡ spreads) × (m ≤ 12) × (length keys.now ≤ 65536) × Spaced m 0 keys.now × BlockOf m key i × Splits keys.now key next × Splits keys.now (key + 5 ^ i) next }
+pub fn record_around(m: u32, keys: &[u32], key: u32, i: u32, next: usize) -> Run
+    requires { (m ≤ 12) × (length keys.now ≤ 65536) × Spaced m 0 keys.now × BlockOf m key i × Splits keys.now key next × Splits keys.now (key + 5 ^ i) next }
     ensures { result ≡ run_of m keys.now key }
 {
     if next == 0 {
         return inside(0, 0, i);
     }
     let first = next - 1;
-    let reach = digits::reach_over(table, m, keys[first], key, i);
+    let reach = digits::reach_over(m, keys[first], key, i);
     if reach == i {
         return inside(0, 0, reach);
     }
-    alone(first as u32, reach)
+    Run {
+        first: first as u32,
+        count: 1,
+        reach,
+    }
 }
 
 // So many records from the first on that lie in a block of exponent i.
@@ -94,14 +69,14 @@ pub fn inside(first: usize, count: usize, i: u32) -> Run
 }
 
 // The records of a map that overlap the block of a key and its exponent: those with one of the block's keys, or else the one around it, if there is one.
-pub fn records_of(table: &[u32; 256], m: u32, keys: &[u32], key: u32, i: u32) -> Run
-    requires { (table.now ≡ spreads) × (m ≤ 12) × (length keys.now ≤ 65536) × Spaced m 0 keys.now × BlockOf m key i }
+pub fn records_of(m: u32, keys: &[u32], key: u32, i: u32) -> Run
+    requires { (m ≤ 12) × (length keys.now ≤ 65536) × Spaced m 0 keys.now × BlockOf m key i }
     ensures { result ≡ run_of m keys.now key }
 {
     let first = keys_below(keys, key, 0);
-    let count = records_inside(table, m, keys, key, i, first);
+    let count = records_inside(m, keys, key, i, first);
     if count == 0 {
-        return record_around(table, m, keys, key, i, first);
+        return record_around(m, keys, key, i, first);
     }
     inside(first, count, i)
 }
