@@ -6,8 +6,10 @@ use mathlib.Core.List.{List, [], ◌++◌}
 use Prim.Native.Nat.{ℕ, ◌+◌, ◌*◌, ◌≤◌, ◌<◌}
 use native.Mathlib.Omega.{arith}
 use lib.ListN.{length}
-use Rattle.answers.specs.declared.Verdict.TheVariants as verdict-of
-use Rattle.answers.specs.Refusals.{verdict}
+use Rattle.std.specs.Prelude.{Result, Ok, Err}
+use Rattle.answers.specs.declared.Cause.TheVariants.{ShortRoom}
+use Rattle.answers.specs.declared.Refused.{Refused}
+use Rattle.answers.specs.Refusals.{refuse, verdict}
 use Rattle.answers.specs.After.{after, tiled_for}
 use Rattle.window.specs.declared.Window.{Window}
 use Rattle.map.specs.Promises.{Gapless}
@@ -18,56 +20,54 @@ use Rattle.border.proofs.Loops.{passed-nothing, passed-same, passed-written}
 use Rattle.border.proofs.Laws.{cells-length}
 use Rattle.used.specs.Used.{use_refusals_in, tiled_refusals, spent, used_in}
 use Rattle.used.proofs.Laws.{used-short, used-done, spent-again, tiled-cap, tiled-usable, used-tiled, used-within, tiled-gapless}
-use Rattle.open.specs.declared.Opened.{Opened}
-use Rattle.open.specs.declared.Opened.TheVariants.{Done, Refused}
-use Rattle.open.specs.Open.{open_in}
+use Rattle.open.specs.Open.{counted, open_in}
 use Rattle.open.proofs.Accepted.{accepted}
 
 module _ (whole : Bool) (m top : ℕ) (keys : List ℕ) (classes : ℕ) (W : Window) (border out : List ℕ) where
   abbrev os : List Opening
   os = openings m top keys W
 
-  abbrev done : Opened
-  done = Done (length os) (handed_count os)
+  abbrev done : Result Totals Refused
+  done = Ok (counted (length os) (handed_count os))
 
   -- opening is such a use
   pub open_is : open_in whole m top keys classes W border out
       ≡ (let os = openings m top keys W in
-      tiled_for Refused m top (border, out) (used_in whole Refused (Done (length os) (handed_count os)) (cells_of os) m keys classes W border out))
+      tiled_for refuse m top (border, out) (used_in whole refuse (Ok (counted (length os) (handed_count os))) (cells_of os) m keys classes W border out))
   unfolding open_in
   open_is = refl
 
-  pub open-refused : {n p : ℕ} → verdict (tiled_refusals whole m top keys classes W (length border)) ≡ verdict-of.Refused n p
-      → open_in whole m top keys classes W border out ≡ after (Refused n p) (border, out)
-  open-refused e = open_is ∙ used-tiled whole Refused done (cells_of os) m top keys classes W border out e
+  pub open-refused : {e : Refused} → verdict (tiled_refusals whole m top keys classes W (length border)) ≡ Err e
+      → open_in whole m top keys classes W border out ≡ after (Err e) (border, out)
+  open-refused e = open_is ∙ used-tiled whole refuse done (cells_of os) m top keys classes W border out e
 
   -- with blocks no larger than the picture it is as without refusal 17
   pub open-within : top ≤ m → open_in whole m top keys classes W border out
-      ≡ (let os = openings m top keys W in used_in whole Refused (Done (length os) (handed_count os)) (cells_of os) m keys classes W border out)
-  open-within cap = open_is ∙ used-within whole Refused done (cells_of os) m top keys classes W border out cap
+      ≡ (let os = openings m top keys W in used_in whole refuse (Ok (counted (length os) (handed_count os))) (cells_of os) m keys classes W border out)
+  open-within cap = open_is ∙ used-within whole refuse done (cells_of os) m top keys classes W border out cap
 
-  module _ (e : verdict (tiled_refusals whole m top keys classes W (length border)) ≡ verdict-of.Passed) where
-    behind : open_in whole m top keys classes W border out ≡ used_in whole Refused done (cells_of os) m keys classes W border out
+  module _ (e : verdict (tiled_refusals whole m top keys classes W (length border)) ≡ Ok tt) where
+    behind : open_in whole m top keys classes W border out ≡ used_in whole refuse done (cells_of os) m keys classes W border out
     behind = open-within (tiled-cap whole m top keys classes W (length border) e)
 
-    usable : verdict (use_refusals_in whole m keys classes W (length border)) ≡ verdict-of.Passed
+    usable : verdict (use_refusals_in whole m keys classes W (length border)) ≡ Ok tt
     usable = tiled-usable whole m top keys classes W (length border) e
 
     pub open-short : {needed : ℕ} {left out' : List ℕ} → needed ≡ 3 * length (openings m top keys W) → length out < needed → left ≡ spent W border → out' ≡ out
-        → after (Refused 8 needed) (left, out') ≡ open_in whole m top keys classes W border out
+        → after (refuse ShortRoom needed) (left, out') ≡ open_in whole m top keys classes W border out
     open-short d l spends same =
         let n = d ∙ sym (cells-length os) in
-        rw (n, spends, same) (sym (behind ∙ used-short whole Refused done (cells_of os) m keys classes W border out usable (omega (arith, n))))
+        rw (n, spends, same) (sym (behind ∙ used-short whole refuse done (cells_of os) m keys classes W border out usable (omega (arith, n))))
 
     pub open_done : 3 * length (openings m top keys W) ≤ length out → open_in whole m top keys classes W border out ≡ accepted m top keys W border out
     unfolding accepted
-    open_done l = behind ∙ used-done whole Refused done (cells_of os) m keys classes W border out usable (omega (arith, cells-length os))
+    open_done l = behind ∙ used-done whole refuse done (cells_of os) m keys classes W border out usable (omega (arith, cells-length os))
 
 -- on a map whose gaps are not refused it is the same whether the map is to be whole or not
 pub open-gapless : {m : ℕ} {keys : List ℕ} {classes : ℕ} → Gapless m keys classes → (top : ℕ) (W : Window) (border out : List ℕ)
     → open_in false m top keys classes W border out ≡ open_in true m top keys classes W border out
 unfolding open_in
-open-gapless G top W border out = tiled-gapless G Refused _ _ _ _ top W border out (λ S cap I. (refl, refl))
+open-gapless G top W border out = tiled-gapless G refuse _ _ _ _ top W border out (λ S cap I. (refl, refl))
 
 -- a border that is spent already is spent no further
 pub accepted-again : (m top : ℕ) (keys : List ℕ) (W : Window) (border out : List ℕ) → accepted m top keys W (spent W border) out ≡ accepted m top keys W border out
@@ -76,7 +76,7 @@ accepted-again m top keys W border out = rw (spent-again W border)
 
 -- a pass over a slice with room for all
 pub passed-all : {m top : ℕ} {keys : List ℕ} {W : Window} {border₀ out₀ border out : List ℕ} {totals : Totals} → Passed m top keys W border₀ out₀ totals border out
-    → 3 * length (openings m top keys W) ≤ length out₀ → after (Done totals.openings totals.records) (border, out) ≡ accepted m top keys W border₀ out₀
+    → 3 * length (openings m top keys W) ≤ length out₀ → after (Ok totals) (border, out) ≡ accepted m top keys W border₀ out₀
 unfolding accepted
 passed-all p l = rw (p.many, p.records, p.ends, passed-written p l)
 
@@ -109,8 +109,8 @@ module _ {m top : ℕ} {keys : List ℕ} {W : Window} {border₀ out₀ border o
     pub written_same : W.w ≤ length border₀ → (length border' ≡ length border₀) × (length out' ≡ length out₀)
     written_same wide = let s = passed-same p (rw R.long wide) in (s.0 ∙ R.long, s.1 ∙ ap length R.same)
 
-    pub written_all : (whole : Bool) (classes : ℕ) → verdict (tiled_refusals whole m top keys classes W (length border₀)) ≡ verdict-of.Passed
-        → after (Done totals.openings totals.records) (border', out') ≡ open_in whole m top keys classes W border₀ out₀
+    pub written_all : (whole : Bool) (classes : ℕ) → verdict (tiled_refusals whole m top keys classes W (length border₀)) ≡ Ok tt
+        → after (Ok totals) (border', out') ≡ open_in whole m top keys classes W border₀ out₀
     written_all whole classes e =
         passed-all p (omega (arith, R.room, ap length R.same))
         ∙ ap (accepted m top keys W border) R.same

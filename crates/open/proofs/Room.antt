@@ -6,7 +6,7 @@ use mathlib.Core.List.{List}
 use Prim.Native.Nat.{ℕ, ◌*◌, ◌≤◌}
 use native.Mathlib.Omega.{arith}
 use lib.ListN.{length}
-use Rattle.answers.specs.declared.Verdict.TheVariants as verdict-of
+use Rattle.std.specs.Prelude.{Ok}
 use Rattle.answers.specs.Refusals.{verdict}
 use Rattle.window.specs.declared.Window.{Window}
 use Rattle.window.specs.Window.{Inside}
@@ -22,12 +22,12 @@ pub openings-records : {m top : ℕ} {keys : List ℕ} → Follow m 0 keys → {
 openings-records F I small = rw (← all-bring F I small) (bringing-records (spaced F) I small)
 
 -- so three cells for each record hold the openings with a cap
-pub capped-fit : (m top : ℕ) (keys : List ℕ) (classes : ℕ) (W : Window) (border : ℕ) → top ≤ m → verdict (use_refusals m keys classes W border) ≡ verdict-of.Passed
+pub capped-fit : (m top : ℕ) (keys : List ℕ) (classes : ℕ) (W : Window) (border : ℕ) → top ≤ m → verdict (use_refusals m keys classes W border) ≡ Ok tt
     → (length (openings m top keys W) ≤ length keys) × (length (cells_of (openings m top keys W)) ≡ 3 * length (openings m top keys W))
 capped-fit m top keys classes W border small e =
     (openings-records (use-whole m keys classes W border e) (use-known true m keys classes W border e).inside small, cells-length (openings m top keys W))
 
 -- and without one
-pub openings-fit : (m : ℕ) (keys : List ℕ) (classes : ℕ) (W : Window) (border : ℕ) → verdict (use_refusals m keys classes W border) ≡ verdict-of.Passed
+pub openings-fit : (m : ℕ) (keys : List ℕ) (classes : ℕ) (W : Window) (border : ℕ) → verdict (use_refusals m keys classes W border) ≡ Ok tt
     → (length (openings m m keys W) ≤ length keys) × (length (cells_of (openings m m keys W)) ≡ 3 * length (openings m m keys W))
 openings-fit m keys classes W border = capped-fit m m keys classes W border (omega arith)
