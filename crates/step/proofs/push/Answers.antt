@@ -1,9 +1,8 @@
 -- `step::push` meets its contract: the columns of the block, as far as the window has it, are filled with the row below it.
 use mathlib.Core.Path.{◌≡◌, ◌∙◌}
-use Prim.Native.Nat.{ℕ, min, ◌+◌, ◌-◌, ◌^◌, ◌≤◌}
+use Prim.Native.Nat.{ℕ, min, ◌+◌, ◌-◌, ◌^◌}
 use native.Mathlib.Omega.{arith}
 use Rattle.window.specs.declared.Window.{Window}
-use Rattle.window.specs.Window.{In}
 use Rattle.window.specs.Blocks.{floor}
 use Rattle.window.proofs.Laws.{floor-le, floor-lt}
 use Rattle.border.specs.Cells.{west, east, south}
