@@ -8,7 +8,7 @@ use lib.ListN.{length}
 use Rattle.std.specs.Prelude.{None, Some}
 use Rattle.window.specs.declared.Block.{Block}
 use Rattle.window.specs.declared.Window.{Window}
-use Rattle.window.specs.Walk.{corner_of, Ends, GoesOn}
+use Rattle.window.specs.Walk.{corner_of, GoesOn}
 use Rattle.walk.specs.declared.MaximalBlocks.{MaximalBlocks}
 use Rattle.walk.specs.Steps.{Steps}
 use Rattle.used.specs.Used.{Usable}
