@@ -6,6 +6,7 @@ use Rattle.std.proofs.Common.{
   ◌+◌,
   ◌-◌,
   ◌≤◌,
+  ◌<◌,
   Option,
   List,
   ◌++◌,
@@ -32,7 +33,12 @@ use Rattle.std.proofs.KnownBytes.{Appends-trans, Consumes-trans}
 use Rattle.std.specs.Io.KnownBytes.{Appends, Consumes}
 use borrow.Rule.Slice.PartMut.{put_mid, post_of}
 use lib.Seq.{take-add}
-use Rattle.streams.specs.Streams.{PutsSome}
+use Rattle.std.specs.Prelude.{Result, Ok, Err}
+use Rattle.std.specs.Result.{IsErrAnd}
+use Rattle.std.specs.declared.io.Error.{Error}
+use Rattle.streams.specs.declared.Unprinted.{Unprinted}
+use Rattle.streams.specs.declared.Unprinted.TheVariants.{Failed}
+use Rattle.streams.specs.Streams.{PutsSome, Puts}
 
 -- ---- a writer
 
@@ -50,10 +56,17 @@ split_after text done rest n e = e ∙ ap (λ l. done ++ l) (sym (take-append-dr
 pub split_rest : (text done rest : List ℕ) (n : ℕ) → text ≡ done ++ rest → text ≡ (done ++ take n rest) ++ take (length rest - n) (drop n rest)
 split_rest text done rest n e = split_after text done rest n e ∙ ap (λ l. (done ++ take n rest) ++ l) (sym (take_rest rest n))
 
--- a text of which the front was put
-pub puts-front : (old new : Option (List ℕ)) (text front back : List ℕ) → text ≡ front ++ back → Appends old new front → PutsSome old new text
-puts-front old new text front back e p =
-    (length front, omega (arith, ap length e, length-append front back), subst (Appends old new) (sym (ap (take (length front)) e ∙ take-append_seam front back)) p)
+-- a text of which the front was put, and not all
+pub puts-front : (least : ℕ) (old new : Option (List ℕ)) (text front back : List ℕ) → text ≡ front ++ back → least ≤ length front → 0 < length back → Appends old new front
+    → PutsSome least old new text
+puts-front least old new text front back e some more p =
+    (length front, some, omega (arith, ap length e, length-append front back), subst (Appends old new) (sym (ap (take (length front)) e ∙ take-append_seam front back)) p)
+
+-- a write failed, and that is the answer
+pub puts-failed : (r : Result Unit Unprinted) (error : Error) (old new : Option (List ℕ)) (text : List ℕ) → IsErrAnd r (λ unprinted. unprinted ≡ Failed error) → PutsSome 0 old new text
+    → Puts r old new text
+puts-failed (Ok done) error old new text e p = absurd e
+puts-failed (Err unprinted) error old new text e p = subst (λ (u : Unprinted). Puts (Err u) old new text) (sym e) p
 
 -- ---- a reader
 

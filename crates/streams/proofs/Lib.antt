@@ -1,4 +1,5 @@
 mod Pieces
+mod Backward
 mod Known
 mod Examples
 pub mod Laws

@@ -1,9 +1,9 @@
 -- Calls that are made again, the pieces in which a text goes out, and how much of it a writer takes.
 -- Assumes nothing.
-use Rattle.std.specs.Prelude.{Bool, false, cond, ◌||◌, ◌≤◌, List, ℕ, zero, suc, eqb, leb, ℤ, pos, negsuc, length, get_or, take, Option, None, Some}
+use Rattle.std.specs.Prelude.{Bool, false, cond, ◌||◌, ◌≤◌, ◌<◌, List, ℕ, zero, suc, eqb, leb, ℤ, pos, negsuc, length, get_or, take, Option, None, Some, Result, Ok, Err}
 use Rattle.std.specs.Io.KnownBytes.{Appends}
-use Rattle.streams.specs.declared.Printed.{Printed}
-use Rattle.streams.specs.declared.Printed.TheVariants.{Whole, Partly, Failed}
+use Rattle.streams.specs.declared.Unprinted.{Unprinted}
+use Rattle.streams.specs.declared.Unprinted.TheVariants.{Partly, Failed}
 
 -- interrupted (EINTR), or not ready (EAGAIN)
 unfoldable pub passing : ℤ → Bool
@@ -24,12 +24,12 @@ lines_in text (suc n) = cond (eqb (get_or text n 0) 10) (suc n) (lines_in text n
 unfoldable pub piece_of : ℕ → List ℕ → ℕ
 piece_of most text = cond (leb (length text) most) (length text) (cond (eqb (lines_in text most) 0) most (lines_in text most))
 
--- the known bytes of a writer grow by some of the first bytes of a text
-abbrev pub PutsSome : Option (List ℕ) → Option (List ℕ) → List ℕ → Type 0
-PutsSome old new text = (n : ℕ) × (n ≤ length text) × Appends old new (take n text)
+-- the known bytes of a writer grow by some of the first bytes of a text: by `least` or more, and not by all
+abbrev pub PutsSome : ℕ → Option (List ℕ) → Option (List ℕ) → List ℕ → Type 0
+PutsSome least old new text = (n : ℕ) × (least ≤ n) × (n < length text) × Appends old new (take n text)
 
--- the known bytes of a writer grow by a text, all of it where that is the answer
-abbrev pub Puts : Printed → Option (List ℕ) → Option (List ℕ) → List ℕ → Type 0
-Puts Whole old new text = Appends old new text
-Puts Partly old new text = PutsSome old new text
-Puts (Failed error) old new text = PutsSome old new text
+-- by all of a text, where that is the answer; by a part, where a file took no more; and where a write failed, by what was taken before
+abbrev pub Puts : Result Unit Unprinted → Option (List ℕ) → Option (List ℕ) → List ℕ → Type 0
+Puts (Ok done) old new text = Appends old new text
+Puts (Err Partly) old new text = PutsSome 1 old new text
+Puts (Err (Failed error)) old new text = PutsSome 0 old new text

@@ -7,6 +7,7 @@ ghost use Rattle.std.specs.Io.KnownBytes.{Consumes, IsAtEnd, ReadConsumes, Write
 ghost use Rattle.std.specs.IoError.{raw_os_error};
 ghost use Rattle.io.specs.Counts.{IsPrefixLen};
 ghost use Rattle.streams.specs.Streams.{passing, passing_call, lines_in, piece_of, Puts};
+ghost use Rattle.streams.specs.declared.Unprinted.TheVariants.{Failed};
 
 use std::io::{Error, ErrorKind, Read, Write};
 use std::rt::Files;
@@ -30,52 +31,52 @@ pub struct Taken {
     pub failed: Option<Error>,
 }
 
+// Why not all of a text was written.
 #[derive(Clone, Copy)]
-pub enum Printed {
-    Whole,
+pub enum Unprinted {
     // A file took a part of what was written: it is full. Another write could end the program by a signal, before anything is said.
     Partly,
     Failed(Error),
+}
+
+impl From<Error> for Unprinted {
+    ghost from_gives = { λ error unprinted. unprinted ≡ Failed error };
+
+    fn from(error: Error) -> Unprinted {
+        Unprinted::Failed(error)
+    }
 }
 
 // Whether the call that failed so may succeed when it is made again: it was interrupted, or the descriptor is not ready.
 fn is_passing(error: i32) -> bool
     ensures { result ≡ passing error }
 {
-    (error == EINTR) | (error == EAGAIN)
+    error == EINTR || error == EAGAIN
 }
 
 // Whether to make the call again that has just failed. Others are let run before that.
 fn may_pass(error: &Error) -> bool
     ensures { result ≡ passing_call (raw_os_error error.now) }
 {
-    let passing = match error.raw_os_error() {
-        Some(number) => is_passing(number),
-        None => false,
-    };
+    let passing = error.raw_os_error().is_some_and(is_passing);
     if passing {
         thread::yield_now();
     }
     passing
 }
 
-// One read, made again while what stops it may pass.
+// One read, made again while what stops it may pass. It shares no function with `write`: after a closure that borrows stream and bytes, a proof knows nothing of them.
 fn read<R: Read>(from: &mut R, buf: &mut [u8]) -> io::Result<usize>
     ensures bound { ReadsAtMost result buf.new }
     ensures bytes { ReadConsumes (R.remaining from.old) (R.remaining from.new) result buf.new }
 {
-    let mut left = PATIENCE;
-    loop {
+    for _ in 0..PATIENCE {
         match from.read(buf) {
-            Ok(count) => return Ok(count),
-            Err(error) => {
-                if left == 0 || !may_pass(&error) {
-                    return Err(error);
-                }
-            }
+            Err(error) if may_pass(&error) => {}
+            came => return came,
         }
-        left -= 1;
     }
+    from.read(buf)
 }
 
 // One write, made again while what stops it may pass.
@@ -83,18 +84,13 @@ fn write<W: Write>(to: &mut W, text: &[u8]) -> io::Result<usize>
     ensures bound { WritesAtMost result text.now }
     ensures bytes { WriteAppends (W.contents to.old) (W.contents to.new) result text.now }
 {
-    let mut left = PATIENCE;
-    loop {
+    for _ in 0..PATIENCE {
         match to.write(text) {
-            Ok(count) => return Ok(count),
-            Err(error) => {
-                if left == 0 || !may_pass(&error) {
-                    return Err(error);
-                }
-            }
+            Err(error) if may_pass(&error) => {}
+            put => return put,
         }
-        left -= 1;
     }
+    to.write(text)
 }
 
 // Reads until the slice is full, the input ends or a read fails.
@@ -106,12 +102,7 @@ pub fn take<R: Read>(from: &mut R, buf: &mut [u8]) -> Taken
     let mut count = 0;
     while count < buf.len() {
         match read(from, &mut buf[count..]) {
-            Ok(0) => {
-                return Taken {
-                    count,
-                    failed: None,
-                };
-            }
+            Ok(0) => break,
             Ok(more) => count += more,
             Err(error) => {
                 return Taken {
@@ -132,14 +123,10 @@ fn whole_lines(text: &[u8], most: usize) -> usize
     requires { most ≤ length text.now }
     ensures { result ≡ lines_in text.now most }
 {
-    let mut n = most;
-    while n > 0 {
-        if text[n - 1] == b'\n' {
-            return n;
-        }
-        n -= 1;
+    match text[..most].iter().rposition(|byte| *byte == b'\n') {
+        Some(last) => last + 1,
+        None => 0,
     }
-    0
 }
 
 // How many bytes of a text are written at once.
@@ -155,34 +142,29 @@ fn piece(text: &[u8]) -> usize
 
 // Pipes, sockets and terminals are no files; they may take a part and later the rest.
 fn is_file(files: &impl Files, path: &str) -> bool {
-    match fs::metadata(files, path) {
-        Ok(metadata) => metadata.is_file(),
-        Err(_) => false,
-    }
-}
-
-// Whether a write that took so many of n bytes shows that a file is full.
-fn is_full(files: &impl Files, path: &str, put: usize, n: usize) -> bool {
-    put < n && is_file(files, path)
+    fs::metadata(files, path).is_ok_and(|metadata| metadata.is_file())
 }
 
 // Writes a text, piece by piece, to what the system has at this path.
-pub fn print<W: Write>(to: &mut W, files: &impl Files, path: &str, text: &[u8]) -> Printed
+pub fn print<W: Write>(
+    to: &mut W,
+    files: &impl Files,
+    path: &str,
+    text: &[u8],
+) -> Result<(), Unprinted>
     ensures { Puts result (W.contents to.old) (W.contents to.new) text.now }
 {
     let mut rest = text;
-    while rest.len() > 0 {
+    while !rest.is_empty() {
         let n = piece(rest);
-        match write(to, &rest[..n]) {
-            Ok(0) => return Printed::Failed(Error::from(ErrorKind::WriteZero)),
-            Ok(put) => {
-                if is_full(files, path, put, n) {
-                    return Printed::Partly;
-                }
-                rest = &rest[put..];
-            }
-            Err(error) => return Printed::Failed(error),
+        let put = write(to, &rest[..n])?;
+        if put == 0 {
+            return Err(Unprinted::Failed(Error::from(ErrorKind::WriteZero)));
         }
+        if put < n && is_file(files, path) {
+            return Err(Unprinted::Partly);
+        }
+        rest = &rest[put..];
     }
-    Printed::Whole
+    Ok(())
 }

@@ -6,7 +6,7 @@ use lib.Dec.{eqb}
 use lib.IntN.{ℤ, pos, negsuc}
 use mir.Syntax.{w32}
 use mir.Val.{SFits, of_z}
-use borrow.Author.Tests.{ne_eqb}
+use borrow.Author.Tests.{eq-eqb, ne_eqb}
 use Rattle.streams.specs.Streams.{passing}
 use Rattle.streams.proofs.is_passing.Goals as goal
 
@@ -15,5 +15,8 @@ unfolding passing
 by_bits (pos error) fits = refl
 by_bits (negsuc error) fits = rw (ne_eqb (of_z w32 (negsuc error)) 4 (λ e. omega (arith, fits.sfits, e)), ne_eqb (of_z w32 (negsuc error)) 11 (λ e. omega (arith, fits.sfits, e))) refl
 
-pub returns : goal.returns
-returns c = by_bits c.args.error c.ranges.error
+pub returns-then-error-eq-EINTR : goal.returns-then-error-eq-EINTR
+returns-then-error-eq-EINTR c = rw (eq-eqb _ 4 c.if-error-eq-EINTR.true) (rw (eq-eqb _ 4 c.if-error-eq-EINTR.true) at (by_bits c.args.error c.ranges.error))
+
+pub returns-else-error-eq-EINTR : goal.returns-else-error-eq-EINTR
+returns-else-error-eq-EINTR c = rw (ne_eqb _ 4 c.if-error-eq-EINTR.false) at (by_bits c.args.error c.ranges.error)
