@@ -7,7 +7,7 @@ ghost use Rattle.answers.specs.Refusals.{number, refused, verdict};
 ghost use Rattle.answers.specs.Sizes.{size_refusals_in, tile_refusals};
 ghost use Rattle.answers.specs.Cells.{put};
 
-// Why an operation refuses. Each cause has a number, which callers from C and readers of a file's name are told.
+// Why an operation refuses. Each cause has a number, by which callers from C know it.
 #[derive(Clone, Copy, Debug, PartialEq, Eq)]
 pub enum Cause {
     BadM = 1,
@@ -30,7 +30,7 @@ pub enum Cause {
     NoBlock = 27,
 }
 
-// A refusal: its cause, and the place in what was given, where the cause has one; or else 0.
+// A refusal that is given: its cause, and the place or the number that belongs to it, or else 0.
 #[derive(Clone, Copy, Debug, PartialEq, Eq)]
 pub struct Refused {
     pub cause: Cause,
@@ -38,6 +38,7 @@ pub struct Refused {
 }
 
 impl Cause {
+    // The refusal for this cause.
     pub fn at(self, place: u32) -> Refused
         ensures { result ≡ refused self place }
     {
@@ -58,17 +59,8 @@ pub fn sizes(m: u32, keys: usize, classes: usize, whole: bool) -> Result<(), Ref
     if m > 12 {
         return Err(Cause::BadM.at(0));
     }
-    if keys != classes {
+    if keys != classes || keys > 65536 || (whole && keys == 0) {
         return Err(Cause::BadCount.at(0));
-    }
-    if keys > 65536 {
-        return Err(Cause::BadCount.at(0));
-    }
-    if whole {
-        if keys == 0 {
-            return Err(Cause::BadCount.at(0));
-        }
-        return Ok(());
     }
     Ok(())
 }

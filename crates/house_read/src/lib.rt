@@ -60,10 +60,7 @@ pub fn read(
     layout(file.len(), fields, whole)?;
     let count = fields[2];
     let q = count as usize;
-    if keys.len() < q {
-        return Err(Cause::ShortRoom.at(count));
-    }
-    if classes.len() < q {
+    if keys.len() < q || classes.len() < q {
         return Err(Cause::ShortRoom.at(count));
     }
     get_parts(file, q, keys, classes);
