@@ -7,7 +7,6 @@ use Prim.Native.Nat.{ℕ, min, ◌+◌, ◌-◌, ◌*◌, ◌/◌, ◌^◌, ◌�
 use native.Mathlib.Omega.{arith}
 use lib.Count.{count_leading_zeros}
 use lib.Dec.{leb}
-use lib.ListN.{length, length-append}
 use borrow.Author.Tests.{leb-true, le-leb}
 use Rattle.lists.specs.Lists.{greatest}
 use Rattle.lists.proofs.Laws.{greatest-le, greatest-holds, greatest-over}
@@ -17,7 +16,7 @@ use Rattle.key.specs.declared.Spot.{Spot}
 use Rattle.key.specs.Blocks.{Names}
 use Rattle.key.specs.Along.{Stands}
 use Rattle.key.proofs.Laws.{four, log-of, pow-least, span_key_lem}
-use Rattle.stretch.specs.Sets.{base, exponent_in, between, fits_in}
+use Rattle.stretch.specs.Sets.{base, exponent_in, between}
 use Rattle.stretch.specs.Fewest.{stretch}
 use Rattle.stretch.specs.Walk.{largest, Lays}
 use Rattle.stretch.proofs.Bases.{base-own}
@@ -97,9 +96,6 @@ module _ {m a b n : ℕ} {out₀ out : List ℕ} {s : Spot} {k : ℕ} (W : Writi
   module _ {key : ℕ} {t : Spot} (L : Lays m s.place b key t) where
     split : stretch m a b ≡ W.past ++ key ∷ stretch m t.place b
     split = W.all ∙ ap (λ (ks : List ℕ). W.past ++ ks) L.first
-
-    pub writing-room : k < n + length (stretch m a b)
-    writing-room = omega (arith, W.listing.count, simp length-append at (ap length split))
 
     pub writing-next : {out' : List ℕ} → out' ≡ put k key out → Writing m a b n out₀ out' t (k + 1)
     writing-next {out'} f = record {
