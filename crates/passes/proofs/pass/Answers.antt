@@ -1,5 +1,4 @@
 -- `passes::pass` meets its contract, by the invariant beside this.
-use Prim.Native.Nat.{◌+◌, ◌≤◌}
 use native.Mathlib.Omega.{arith}
 use Rattle.border.proofs.Laws.{fresh-usable, finding-usable, finds-opens}
 use Rattle.border.proofs.Loops.{passing-first, passing-next, passing-few, passing-last}
