@@ -3,8 +3,8 @@
 use mathlib.Core.Path.{◌≡◌, ◌∙◌}
 use mathlib.Core.Bool.{Bool, true, false, ◌||◌, or-false}
 use mathlib.Core.List.{List, [], ◌∷◌, ◌++◌, append_assoc}
-use Rattle.std.specs.Prelude.{None}
 use Prim.Native.Nat.{ℕ, ◌+◌}
+use Rattle.std.specs.Prelude.{None}
 use Rattle.lists.specs.Lists.{up_from, any}
 use Rattle.lists.proofs.Laws.{up_none, up_one, up-append, any_none, any_next, any_append}
 use Rattle.window.specs.declared.Window.{Window}

@@ -1,7 +1,7 @@
 -- `gather::gather_run` meets its contract, by the invariant beside this.
-use Prim.Native.Nat.{◌+◌, ◌≤◌, ◌<◌}
+use Prim.Native.Nat.{◌<◌}
 use native.Mathlib.Omega.{arith}
-use lib.ListN.{length, get_or}
+use lib.ListN.{get_or}
 use Rattle.key.proofs.Laws.{block-lies}
 use Rattle.window.proofs.Laws.{inside-12}
 use Rattle.totals.proofs.Loops.{fills-small, fills_first, fills-key, fills-within, fills-begins, fills-area, fills-next, adding-first, adding-most, adding-next, adding-last}
