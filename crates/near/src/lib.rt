@@ -2,14 +2,14 @@
 #![tactic(auto)]
 
 ghost use Rattle.std.specs.Prelude.{◌≡◌, ◌↔◌, true, ◌≤◌, length};
-ghost use Rattle.key.specs.Spread.{spreads};
 ghost use Rattle.map.specs.Sound.{Spaced};
-ghost use Rattle.map.specs.Runs.{run, BlockOf};
-ghost use Rattle.near.specs.Near.{near, seen, LiesIn, Known, Sees};
+ghost use Rattle.map.specs.Runs.{BlockOf};
+ghost use Rattle.near.specs.Near.{seen, LiesIn, Known, Sees};
 
 use map::Run;
 
-// A record around a block, by its number, its key and the end of its keys: each block in it overlaps it alone. None where the keys end where they begin.
+// A record around a block, by its number, its key and the end of its keys: each block in it overlaps it alone. None where the keys end where they begin: the test of a key is then the only
+// one that is needed, and so this is no `Option`.
 #[derive(Clone, Copy)]
 pub struct Near {
     pub first: u32,
@@ -25,76 +25,73 @@ pub struct Seen {
     pub other: Near,
 }
 
-fn near_to(first: u32, from: u32, end: u32) -> Near
-    ensures { result ≡ near first from end }
-{
-    Near { first, from, end }
-}
-
-fn seen_with(run: Run, near: Near, other: Near) -> Seen
-    ensures { result ≡ seen run near other }
-{
-    Seen { run, near, other }
-}
-
-fn none_seen() -> Seen
-    ensures { result ≡ seen (run 0 0 0) (near 0 0 0) (near 0 0 0) }
-{
-    let nowhere = near_to(0, 0, 0);
-    seen_with(runs::inside(0, 0, 0), nowhere, nowhere)
-}
-
 // What is known at first: nothing, unless one record is the whole picture.
-pub fn first_seen(table: &[u32; 256], m: u32, keys: &[u32]) -> Seen
-    requires { (table.now ≡ spreads) × (m ≤ 12) × Spaced m 0 keys.now }
+pub fn first_seen(m: u32, keys: &[u32]) -> Seen
+    requires { (m ≤ 12) × Spaced m 0 keys.now }
     ensures { Known m keys.now result.near × Known m keys.now result.other }
 {
-    let none = none_seen();
-    if keys.len() != 1 {
-        return none;
+    let nowhere = Near {
+        first: 0,
+        from: 0,
+        end: 0,
+    };
+    let near = match keys {
+        [0] => Near {
+            first: 0,
+            from: 0,
+            end: blocks::pow5(m),
+        },
+        _ => nowhere,
+    };
+    Seen {
+        run: runs::inside(0, 0, 0),
+        near,
+        other: nowhere,
     }
-    if keys[0] != 0 {
-        return none;
-    }
-    let whole = near_to(0, 0, blocks::pow5(table, m));
-    seen_with(none.run, whole, none.other)
 }
 
 // Whether the block of a key lies in the record.
 pub fn lies_in(near: Near, key: u32) -> bool
     ensures { (result ≡ true) ↔ LiesIn near key }
 {
-    if near.end <= key {
-        return false;
-    }
-    near.from < key
+    near.from < key && key < near.end
 }
 
 // The other record is the nearer now.
 pub fn exchanged(two: Seen) -> Seen
     ensures { result ≡ seen two.run two.other two.near }
 {
-    seen_with(two.run, two.other, two.near)
+    Seen {
+        near: two.other,
+        other: two.near,
+        ..two
+    }
 }
 
 // The same records as `records_of` finds. A record around the block is kept, and with it the nearer one so far.
-pub fn look_up(table: &[u32; 256], m: u32, keys: &[u32], key: u32, i: u32, seen: Seen) -> Seen
-    requires { (table.now ≡ spreads) × (m ≤ 12) × (length keys.now ≤ 65536) × Spaced m 0 keys.now × BlockOf m key i × Known m keys.now seen.near × Known m keys.now seen.other }
+pub fn look_up(m: u32, keys: &[u32], key: u32, i: u32, seen: Seen) -> Seen
+    requires { (m ≤ 12) × (length keys.now ≤ 65536) × Spaced m 0 keys.now × BlockOf m key i × Known m keys.now seen.near × Known m keys.now seen.other }
     ensures { Sees m keys.now key result }
 {
-    let near = seen.near;
-    let other = seen.other;
     let first = runs::keys_below(keys, key, 0);
-    let count = runs::records_inside(table, m, keys, key, i, first);
-    if count == 0 {
-        let run = runs::record_around(table, m, keys, key, i, first);
-        let reach = run.reach;
-        if reach == i {
-            return seen_with(run, near, other);
-        }
-        let from = keys[run.first as usize];
-        let around = near_to(run.first, from, from + blocks::pow5(table, reach));
-        return seen_with(run, around, near);
+    let count = runs::records_inside(m, keys, key, i, first);
+    if count > 0 {
+        let run = runs::inside(first, count, i);
+        return Seen { run, ..seen };
     }
-    seen_with(runs::inside(first, count, i), near, other)
+    let run = runs::record_around(m, keys, key, i, first);
+    if run.reach == i {
+        return Seen { run, ..seen };
+    }
+    let from = keys[run.first as usize];
+    let near = Near {
+        first: run.first,
+        from,
+        end: from + blocks::pow5(run.reach),
+    };
+    Seen {
+        run,
+        near,
+        other: seen.near,
+    }
 }
