@@ -1,40 +1,36 @@
 -- The lines for openings and for classes: what the loops do in a turn.
 -- Assumes nothing.
-use mathlib.Core.Path.{◌≡◌, refl}
+use mathlib.Core.Path.{◌≡◌, refl, ap, ◌∙◌}
 use mathlib.Core.List.{List, [], ◌∷◌, ◌++◌}
-use Prim.Native.Nat.{ℕ, ◌+◌, ◌-◌, ◌≤◌, ◌<◌}
+use Prim.Native.Nat.{ℕ, ◌+◌, ◌≤◌, ◌<◌}
 use native.Mathlib.Numerals.{add-one}
 use native.Mathlib.Omega.{arith}
-use lib.ListN.{length, take, drop, get_or, length-drop, drop_of_length-le}
-use lib.Seq.{drop-drop, drop-cons}
+use lib.ListN.{length, drop, get_or, drop_of_length-le}
+use lib.Seq.{drop-cons}
 use borrow.Author.Tests.{eq-eqb, ne_eqb}
 use Rattle.text.specs.Text.{line_of}
 use Rattle.lines.specs.Lines.{opening_lines, class_line, class_lines}
 
 -- ---- openings
 
-three : (xs : List ℕ) → 3 ≤ length xs → opening_lines xs ≡ line_of 79 (take 3 xs) ++ opening_lines (drop 3 xs)
+opening : (xs rest : List ℕ) → length xs ≡ 3 → opening_lines (xs ++ rest) ≡ line_of 79 xs ++ opening_lines rest
 unfolding opening_lines
-three [] l = absurd (omega arith)
-three (a ∷ []) l = absurd (omega arith)
-three (a ∷ b ∷ []) l = absurd (omega arith)
-three (a ∷ b ∷ c ∷ xs) l = refl
+opening (a ∷ b ∷ c ∷ []) rest l = refl
+opening [] rest l = absurd (omega arith)
+opening (a ∷ []) rest l = absurd (omega arith)
+opening (a ∷ b ∷ []) rest l = absurd (omega arith)
+opening (a ∷ b ∷ c ∷ d ∷ xs) rest l = absurd (omega arith)
 
-fewer : (xs : List ℕ) → length xs < 3 → opening_lines xs ≡ []
+-- the next three cells, and the rest
+pub opening-next : {cells : List ℕ} (xs rest : List ℕ) → cells ≡ xs ++ rest → length xs ≡ 3 → opening_lines cells ≡ line_of 79 xs ++ opening_lines rest
+opening-next xs rest e l = ap opening_lines e ∙ opening xs rest l
+
+pub opening-last : (cells : List ℕ) → length cells < 3 → opening_lines cells ≡ []
 unfolding opening_lines
-fewer [] l = refl
-fewer (a ∷ []) l = refl
-fewer (a ∷ b ∷ []) l = refl
-fewer (a ∷ b ∷ c ∷ xs) l = absurd (omega arith)
-
-module _ (cells : List ℕ) (i : ℕ) where
-  pub opening-next : i + 3 ≤ length cells → opening_lines (drop i cells) ≡ line_of 79 (take (i + 3 - i) (drop i cells)) ++ opening_lines (drop (i + 3) cells)
-  opening-next l =
-      let e : i + 3 - i ≡ 3 = omega arith in
-      rw (e, ← drop-drop 3 i cells) (three (drop i cells) (rw length-drop (omega arith)))
-
-  pub opening-last : length cells < i + 3 → opening_lines (drop i cells) ≡ []
-  opening-last l = fewer (drop i cells) (rw length-drop (omega arith))
+opening-last [] l = refl
+opening-last (a ∷ []) l = refl
+opening-last (a ∷ b ∷ []) l = refl
+opening-last (a ∷ b ∷ c ∷ cells) l = absurd (omega arith)
 
 -- ---- classes
 

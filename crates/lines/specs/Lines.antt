@@ -1,7 +1,8 @@
 -- The lines that are printed: of a window, of a refusal, and of what is found in a window.
 -- Assumes nothing.
 use Rattle.std.specs.Prelude.{cond, List, [], ◌∷◌, ◌++◌, ℕ, ◌+◌, eqb}
-use Rattle.answers.specs.Refusals.{Refusal, answer}
+use Rattle.answers.specs.declared.Cause.{Cause}
+use Rattle.answers.specs.Refusals.{Refusal, answer, number}
 use Rattle.window.specs.declared.Window.{Window}
 use Rattle.text.specs.Text.{line_of}
 
@@ -9,9 +10,9 @@ use Rattle.text.specs.Text.{line_of}
 abbrev pub window_line : Window → List ℕ
 window_line W = line_of 87 (W.r0 ∷ W.c0 ∷ W.h ∷ W.w ∷ [])
 
--- R number place
-abbrev pub refusal_line : ℕ → ℕ → List ℕ
-refusal_line number place = line_of 82 (number ∷ place ∷ [])
+-- R number place, by the number of the cause
+abbrev pub refusal_line : Cause → ℕ → List ℕ
+refusal_line cause place = line_of 82 (number cause ∷ place ∷ [])
 
 -- of refusals in their order: the line of the first that holds, or nothing
 abbrev pub refused_text : List Refusal → List ℕ

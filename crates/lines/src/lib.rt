@@ -6,22 +6,24 @@ ghost use Rattle.answers.specs.After.{after};
 ghost use Rattle.text.specs.Text.{put_of};
 ghost use Rattle.lines.specs.Lines.{window_line, refusal_line, opening_lines, class_line, class_lines, found_lines};
 
+use answers::Refused;
 use window::Window;
 
-pub fn put_refusal(number: u32, place: u32, out: &mut [u8]) -> usize
-    ensures { after result out.new ≡ put_of (refusal_line number place) out.old }
+// By the number of its cause.
+pub fn put_refusal(refused: Refused, out: &mut [u8]) -> usize
+    ensures { after result out.new ≡ put_of (refusal_line refused.cause refused.place) out.old }
 {
-    text::put_line(b'R', &[number, place], out)
+    text::put_line(b'R', &[refused.cause.number(), refused.place], out)
 }
 
 pub fn put_window(window: Window, out: &mut [u8]) -> usize
     ensures { after result out.new ≡ put_of (window_line window) out.old }
 {
     let numbers = [
-        window.r0 as u32,
-        window.c0 as u32,
-        window.h as u32,
-        window.w as u32,
+        u32::from(window.r0),
+        u32::from(window.c0),
+        u32::from(window.h),
+        u32::from(window.w),
     ];
     text::put_line(b'W', &numbers, out)
 }
@@ -32,11 +34,8 @@ fn put_openings(cells: &[u32], out: &mut [u8]) -> usize
     ensures { after result out.new ≡ put_of (opening_lines cells.now) out.old }
 {
     let mut at: usize = 0;
-    let mut i: usize = 0;
-    while i + 3 <= cells.len() {
-        let end = i + 3;
-        at += text::put_line(b'O', &cells[i..end], &mut out[at..]);
-        i = end;
+    for opening in cells.chunks_exact(3) {
+        at += text::put_line(b'O', opening, &mut out[at..]);
     }
     at
 }
@@ -56,10 +55,8 @@ fn put_classes(totals: &[u32], out: &mut [u8]) -> usize
     ensures { after result out.new ≡ put_of (class_lines 0 totals.now) out.old }
 {
     let mut at: usize = 0;
-    let mut class: usize = 0;
-    while class < totals.len() {
-        at += put_class(class as u32, totals[class], &mut out[at..]);
-        class += 1;
+    for (class, pixels) in totals.iter().enumerate() {
+        at += put_class(class as u32, *pixels, &mut out[at..]);
     }
     at
 }

@@ -8,7 +8,4 @@ pub returns-then-pixels-eq0 : goal.returns-then-pixels-eq0
 returns-then-pixels-eq0 c = rw (class-none c.args.class c.if-pixels-eq0.true) (sym (put-empty _))
 
 pub returns : goal.returns
-returns c =
-    let put = c.before.before.before in
-    let some = put.before.before.before in
-    rw (class-some some.args.class some.if-pixels-eq0.false) put.put_line.ensures
+returns c = rw (class-some c.args.class c.if-pixels-eq0.false) c.put_line.ensures

@@ -9,19 +9,7 @@ use Rattle.text.specs.Text.{line_of}
 use Rattle.text.proofs.Laws.{Telling, telling-begin, telling-length, telling-room, telling-lent, telling-part, telling-last}
 use Rattle.lines.specs.Lines.{opening_lines, class_lines, found_lines}
 use Rattle.lines.proofs.put_found.Goals as goal
-use Rattle.lines.proofs.put_found.Goals.{Start}
-use Rattle.lines.proofs.put_found.Lts as lts
-use Rattle.lines.proofs.put_found.Reads as reads
-use Rattle.lines.proofs.put_found.Tie as tie
-
-abbrev After-put_openings-at : Type 0
-After-put_openings-at = lts.After-put_openings tie.the-claims reads.Pre reads.Post
-
-abbrev After-put_classes-at : Type 0
-After-put_classes-at = lts.After-put_classes tie.the-claims reads.Pre reads.Post
-
-abbrev After-put_line-at : Type 0
-After-put_line-at = lts.After-put_line tie.the-claims reads.Pre reads.Post
+use Rattle.lines.proofs.put_found.Goals.{Start, After-put_openings-at, After-put_classes-at, After-put_line-at}
 
 module _ (c : Start) where
   abbrev classes : List ℕ
@@ -33,78 +21,64 @@ module _ (c : Start) where
   abbrev all : List ℕ
   all = found_lines c.args.cells.now c.args.totals.now c.args.openings c.args.records c.args.pixels
 
--- with the openings put: how many bytes they are, and the slice then
+-- with the openings put
 module _ (c : After-put_openings-at) where
   abbrev start : Start
-  start = c.before.before.before.before.before
+  start = (goal.at.After-put_openings-at c).Start
 
-  abbrev at : ℕ
-  at = c.put_openings-at.result
-
-  abbrev opened : List ℕ
-  opened = c.put_openings-at.new.out
-
-  one : Telling (all start) (classes start ++ sums start) at start.args.out.now opened
+  opened : Telling (all start) (classes start ++ sums start) c.put_openings-at.result c.args.out.now c.put_openings-at.new.out
   unfolding found_lines
-  one = telling-begin (all start) (opening_lines start.args.cells.now) (classes start ++ sums start) start.args.out.now refl start.requires.1 c.put_openings-at.ensures
+  opened = telling-begin (all start) (opening_lines c.args.cells.now) (classes start ++ sums start) c.args.out.now refl c.requires.1 c.put_openings-at.ensures
 
 -- and with the classes behind them
 module _ (c : After-put_classes-at) where
   abbrev first : After-put_openings-at
-  first = c.before.before.before.before
+  first = (goal.at.After-put_classes-at c).After-put_openings-at
 
-  abbrev at' : ℕ
-  at' = at first + c.put_classes-at.result
-
-  abbrev listed : List ℕ
-  listed = back (at first) (opened first) c.put_classes-at.new.out
-
-  two : Telling (all (start first)) (sums (start first)) at' (start first).args.out.now listed
-  two = telling-part (one first) (classes (start first)) (sums (start first)) refl c.put_classes-at.ensures
+  listed : Telling (all (start first)) (sums (start first)) (c.put_openings-at.result + c.put_classes-at.result) c.args.out.now
+      (back c.put_openings-at.result c.put_openings-at.new.out c.put_classes-at.new.out)
+  listed = telling-part (opened first) (classes (start first)) (sums (start first)) refl c.put_classes-at.ensures
 
 pub put_openings-at-requires : goal.put_openings-at-requires
 unfolding found_lines
 put_openings-at-requires c =
-    let s = c.before.before.before.before.before in
-    omega (arith, s.requires.1, length-append (opening_lines s.args.cells.now) (classes s ++ sums s))
+    let start = (goal.at.put_openings-at-requires c).Start in
+    omega (arith, c.requires.1, length-append (opening_lines c.args.cells.now) (classes start ++ sums start))
 
 pub slice_bounds-put_classes-count : goal.slice_bounds-put_classes-count
-slice_bounds-put_classes-count c = omega (arith, telling-room (one c.before.before.before))
+slice_bounds-put_classes-count c = omega (arith, telling-room (opened (goal.at.slice_bounds-put_classes-count c).After-put_openings-at))
 
 pub slice_bounds-put_classes-start : goal.slice_bounds-put_classes-start
-slice_bounds-put_classes-start c = omega (arith, telling-room (one c.before.before.before))
+slice_bounds-put_classes-start c = omega (arith, telling-room (opened (goal.at.slice_bounds-put_classes-start c).After-put_openings-at))
 
 pub put_classes-at-requires : goal.put_classes-at-requires
 put_classes-at-requires c =
-    let o = c.before.before.before.before in
-    ((start o).requires.0, telling-lent (one o) (classes (start o)) (sums (start o)) refl)
+    let o = (goal.at.put_classes-at-requires c).After-put_openings-at in
+    (c.requires.0, telling-lent (opened o) (classes (start o)) (sums (start o)) refl)
 
 pub overflow_add-at : goal.overflow_add-at
-overflow_add-at c =
-    let k = c.before.before.before in
-    omega (arith, telling-length (two k), (two k).room)
+overflow_add-at c = let two = listed (goal.at.overflow_add-at c).After-put_classes-at in omega (arith, telling-length two, two.room)
 
 pub slice_bounds-put_line-count : goal.slice_bounds-put_line-count
-slice_bounds-put_line-count c = omega (arith, telling-room (two c.before.before.before.before))
+slice_bounds-put_line-count c = omega (arith, telling-room (listed (goal.at.slice_bounds-put_line-count c).After-put_classes-at))
 
 pub slice_bounds-put_line-start : goal.slice_bounds-put_line-start
-slice_bounds-put_line-start c = omega (arith, telling-room (two c.before.before.before.before))
+slice_bounds-put_line-start c = omega (arith, telling-room (listed (goal.at.slice_bounds-put_line-start c).After-put_classes-at))
 
 -- and with the sums behind these
 module _ (c : After-put_line-at) where
   abbrev second : After-put_classes-at
-  second = c.before.before.before.before.before
+  second = (goal.at.After-put_line-at c).After-put_classes-at
 
   abbrev asked : Start
   asked = start (first second)
 
-  three : Telling (all asked) [] (at' second + c.put_line-at.result) asked.args.out.now (back (at' second) (listed second) c.put_line-at.new.out)
-  three = telling-part (two second) (sums asked) [] (sym (append-nil (sums asked))) c.put_line-at.ensures
+  summed : Telling (all asked) [] (c.put_openings-at.result + c.put_classes-at.result + c.put_line-at.result) c.args.out.now
+      (back (c.put_openings-at.result + c.put_classes-at.result) (back c.put_openings-at.result c.put_openings-at.new.out c.put_classes-at.new.out) c.put_line-at.new.out)
+  summed = telling-part (listed second) (sums asked) [] (sym (append-nil (sums asked))) c.put_line-at.ensures
 
 pub overflow_add-at-2 : goal.overflow_add-at-2
-overflow_add-at-2 c =
-    let k = c.before.before.before in
-    omega (arith, telling-length (three k), (three k).room)
+overflow_add-at-2 c = let three = summed (goal.at.overflow_add-at-2 c).After-put_line-at in omega (arith, telling-length three, three.room)
 
 pub returns : goal.returns
-returns c = telling-last (three c.before.before.before) refl
+returns c = telling-last (summed (goal.at.returns c).After-put_line-at) refl

@@ -1,33 +1,27 @@
 -- `lines::put_openings` meets its contract, by the invariant beside this.
-use Prim.Native.Nat.{◌+◌, ◌-◌}
-use native.Mathlib.Omega.{arith}
-use lib.ListN.{take, drop}
+use Rattle.std.proofs.Common.{rules, arith, ◌≡◌, ◌∙◌}
+use Rattle.std.specs.Slice.Iter.{chunks_exact_rest}
 use Rattle.text.specs.Text.{line_of}
-use Rattle.text.proofs.Laws.{telling-first, telling-length, telling-room, telling-part, telling-last}
+use Rattle.text.proofs.Laws.{telling-first, telling-length, telling-part, telling-last}
 use Rattle.lines.proofs.Turns.{opening-next, opening-last}
 use Rattle.lines.proofs.put_openings.Goals as goal
 
-pub loop-i-init : goal.loop-i-init
-loop-i-init c = (telling-first _ _ c.requires, omega arith)
+pub loop-opening-init : goal.loop-opening-init
+loop-opening-init c =
+    let all : chunks_exact_rest c.into_iter-opening-iterator.result ≡ c.args.cells.now = search rules in
+    record { put = rw all (telling-first _ _ c.requires); three = search rules }
 
-pub slice_bounds-put_line-count-in-loop-i : goal.slice_bounds-put_line-count-in-loop-i
-slice_bounds-put_line-count-in-loop-i c = omega (arith, telling-room c.loop-i.invariant.0)
-
-pub slice_bounds-put_line-start-in-loop-i : goal.slice_bounds-put_line-start-in-loop-i
-slice_bounds-put_line-start-in-loop-i c = omega (arith, telling-room c.loop-i.invariant.0)
-
-pub loop-i-preserved : goal.loop-i-preserved
-loop-i-preserved c =
-    let called = c.before.before.before in
-    let turn = called.before.before.before in
-    let cells = turn.args.cells.now in
-    let i = turn.loop-i.i in
-    let line = line_of 79 (take (i + 3 - i) (drop i cells)) in
-    let test = turn.loop-i-test.true in
-    (telling-part turn.loop-i.invariant.0 line _ (opening-next cells i test) called.put_line-at.ensures, test)
+pub loop-opening-preserved : goal.loop-opening-preserved
+loop-opening-preserved c =
+    let turn = c.in-Some.ensures.steps in
+    let so-far = c.loop-opening.invariant in
+    let next = opening-next c.in-Some.opening.now _ turn.1.0 (turn.1.1 ∙ so-far.three) in
+    record { put = telling-part so-far.put (line_of 79 c.in-Some.opening.now) _ next c.put_line-at.ensures; three = turn.0 ∙ so-far.three }
 
 pub overflow_add-at : goal.overflow_add-at
-overflow_add-at c = omega (arith, telling-length (loop-i-preserved c).0, (loop-i-preserved c).0.room)
+overflow_add-at c = let put = (loop-opening-preserved c).put in omega (arith, telling-length put, put.room)
 
 pub returns : goal.returns
-returns c = telling-last c.loop-i.invariant.0 (opening-last _ c.loop-i.i c.loop-i-test.false)
+returns c =
+    let few = rw c.loop-opening.invariant.three at c.in-None.ensures.steps.1.0 in
+    telling-last c.loop-opening.invariant.put (opening-last _ few)
