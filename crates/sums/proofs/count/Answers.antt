@@ -1,7 +1,7 @@
 -- `sums::count` meets its contract, by the invariant beside this.
 use mathlib.Core.Path.{◌∙◌}
 use native.Mathlib.Omega.{arith}
-use Rattle.border.proofs.Laws.{fresh-same, fresh-usable, fresh-spent, finding-first, finding-usable, finding-last, finds-opens}
+use Rattle.border.proofs.Laws.{fresh-usable, fresh-spent, finding-first, finding-usable, finding-last, finds-opens}
 use Rattle.totals.proofs.Loops.{totalling-first, totalling-hands, totalling-once, totalling-next, totalling-last}
 use Rattle.sums.proofs.count.Goals as goal
 
@@ -30,12 +30,9 @@ loop-opening-preserved c =
     let T = c.loop-opening.invariant in
     totalling-next _ c.requires.0 c.requires.3 T (finds-opens c.requires.0 T.finding c.in-Some.ensures) c.gather.ensures
 
-pub shape_of-border : goal.shape_of-border
-shape_of-border c = (finding-last c.loop-opening.invariant.finding c.in-None.ensures).2.same ∙ fresh-same _ c.requires.0 c.fill.ensures
-
 pub returns : goal.returns
 returns c =
     let T = c.loop-opening.invariant in (
-      totalling-last _ c.requires.0 c.requires.3 T c.in-None.ensures,
-      (finding-last T.finding c.in-None.ensures).1 ∙ fresh-spent _ c.requires.0 c.fill.ensures,
+      totalling-last _ c.requires.0 c.requires.3 T c.in_default.ensures,
+      (finding-last T.finding c.in_default.ensures).1 ∙ fresh-spent _ c.requires.0 c.fill.ensures,
     )
