@@ -6,7 +6,9 @@ use Prim.Native.Nat.{ℕ}
 use native.Mathlib.Omega.{arith}
 use lib.ListN.{take, replicate}
 use Rattle.lists.specs.Lists.{up_from, greatest_of, any, keep, before, how_many, greatest}
-use Rattle.answers.specs.Refusals.{answer}
+use Rattle.std.specs.Prelude.{Ok}
+use Rattle.answers.specs.declared.Cause.TheVariants.{Gap, ShortBorder, ShortRoom, BadWindowList}
+use Rattle.answers.specs.Refusals.{answer, refuse}
 use Rattle.answers.specs.Sizes.{wrong_count, size_refusals_in, picture_refusals, count_refusals}
 use Rattle.answers.specs.Cells.{overwrite}
 use Rattle.answers.specs.After.{after, room_refusals}
@@ -26,7 +28,6 @@ use Rattle.map.specs.Records.{record_of, exponent_of}
 use Rattle.map.specs.Runs.{run_of}
 use Rattle.border.specs.Openings.{is_handed, opening, open_from, openings, handed_count}
 use Rattle.used.specs.Used.{spent, border_refusals}
-use Rattle.many.specs.declared.Many.TheVariants.{Done, Refused}
 use Rattle.many.specs.Many.{windows_in, wrong_list, list_refusals, columns, line_of, lines_of, left_by, widest, many_refusals, many_of}
 use Rattle.many.specs.Promises.{InFours, Askable, LeftIn}
 use Rattle.many.proofs.Border.{left-cell}
@@ -48,21 +49,21 @@ lines = 0 ∷ 0 ∷ 4 ∷ 7 ∷ 9 ∷ 6 ∷ 0 ∷ 0 ∷ 0 ∷ 0 ∷ 0 ∷ 0 ∷ 
 
 pub record Examples : Type 0 where
   -- the second window is refused alone, and needs no border; the third leaves its row in the cell that it reaches
-  pub done : many_of 2 keys 7 (drawn ++ below ++ pixel) (old 4) (old 16) ≡ after (Done 3) (4 ∷ 3 ∷ 3 ∷ 99 ∷ [], lines)
-  pub other-order : many_of 2 keys 7 (pixel ++ drawn) (old 3) (old 10) ≡ after (Done 2) (3 ∷ 3 ∷ 3 ∷ [], 0 ∷ 0 ∷ 1 ∷ 1 ∷ 1 ∷ 0 ∷ 0 ∷ 4 ∷ 7 ∷ 9 ∷ [])
-  pub none : many_of 2 keys 7 [] [] (old 1) ≡ after (Done 0) ([], old 1)
-  pub outside_alone : many_of 2 keys 7 below [] (old 5) ≡ after (Done 1) ([], 6 ∷ 0 ∷ 0 ∷ 0 ∷ 0 ∷ [])
+  pub done : many_of 2 keys 7 (drawn ++ below ++ pixel) (old 4) (old 16) ≡ after (Ok 3) (4 ∷ 3 ∷ 3 ∷ 99 ∷ [], lines)
+  pub other-order : many_of 2 keys 7 (pixel ++ drawn) (old 3) (old 10) ≡ after (Ok 2) (3 ∷ 3 ∷ 3 ∷ [], 0 ∷ 0 ∷ 1 ∷ 1 ∷ 1 ∷ 0 ∷ 0 ∷ 4 ∷ 7 ∷ 9 ∷ [])
+  pub none : many_of 2 keys 7 [] [] (old 1) ≡ after (Ok 0) ([], old 1)
+  pub outside_alone : many_of 2 keys 7 below [] (old 5) ≡ after (Ok 1) ([], 6 ∷ 0 ∷ 0 ∷ 0 ∷ 0 ∷ [])
   -- refusals in their order: the map's, 25, 7 by the widest that 6 does not refuse, 8
-  pub unsound : many_of 2 (take 6 keys) 6 (drawn ++ 0 ∷ []) [] [] ≡ after (Refused 5 6) ([], [])
-  pub not-fours : many_of 2 keys 7 (drawn ++ 0 ∷ []) [] [] ≡ after (Refused 25 0) ([], [])
-  pub narrow : many_of 2 keys 7 (pixel ++ drawn ++ below) (old 2) [] ≡ after (Refused 7 3) (old 2, [])
-  pub short : many_of 2 keys 7 (pixel ++ drawn ++ below) (old 3) (old 14) ≡ after (Refused 8 15) (old 3, old 14)
+  pub unsound : many_of 2 (take 6 keys) 6 (drawn ++ 0 ∷ []) [] [] ≡ after (refuse Gap 6) ([], [])
+  pub not-fours : many_of 2 keys 7 (drawn ++ 0 ∷ []) [] [] ≡ after (refuse BadWindowList 0) ([], [])
+  pub narrow : many_of 2 keys 7 (pixel ++ drawn ++ below) (old 2) [] ≡ after (refuse ShortBorder 3) (old 2, [])
+  pub short : many_of 2 keys 7 (pixel ++ drawn ++ below) (old 3) (old 14) ≡ after (refuse ShortRoom 15) (old 3, old 14)
   pub askable : Askable 2 keys 7 (pixel ++ drawn ++ below) 3 15
   pub not-askable : Askable 2 keys 7 (pixel ++ drawn ++ below) 2 15 → ⊥
   -- 256 windows are taken, and one more is not
   pub most : list_refusals 1024 ≡ list_refusals 0
   pub in-fours : InFours (replicate 1024 0)
-  pub too_many : many_of 2 keys 7 (replicate 1028 0) [] [] ≡ after (Refused 25 0) ([], [])
+  pub too_many : many_of 2 keys 7 (replicate 1028 0) [] [] ≡ after (refuse BadWindowList 0) ([], [])
   -- what stands in the first border cell and in the last, and nothing else does
   pub left-first : LeftIn 2 (windows_in (drawn ++ below ++ pixel)) (old 4) 0 4
   pub left-beyond : LeftIn 2 (windows_in (drawn ++ below ++ pixel)) (old 4) 3 99

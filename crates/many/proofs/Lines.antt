@@ -7,7 +7,7 @@ use Prim.Native.Nat.{ℕ, ◌*◌, ◌<◌}
 use native.Mathlib.Omega.{arith}
 use lib.ListN.{length, take, drop, length-append}
 use lib.Seq.{take_at, drop_at}
-use Rattle.answers.specs.Refusals.{answer}
+use Rattle.answers.specs.Refusals.{number, answer}
 use Rattle.answers.proofs.Laws.{on-passed, on-refused}
 use Rattle.window.specs.declared.Window.{Window}
 use Rattle.window.specs.Window.{Inside, outside, window_refusals}
@@ -23,7 +23,7 @@ module _ (m : ℕ) (keys : List ℕ) where
   module _ (W : Window) where
     pub line-is : line_of m keys W
         ≡ (let os = openings m m keys W in
-        answer (λ number place. line number place 0 0 0) (window_refusals m W) (line 0 0 (length os) (handed_count os) (W.h * W.w)))
+        answer (λ cause place. line (number cause) place 0 0 0) (window_refusals m W) (line 0 0 (length os) (handed_count os) (W.h * W.w)))
     unfolding line_of
     line-is = refl
 

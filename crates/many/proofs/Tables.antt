@@ -1,6 +1,6 @@
 -- The refusals of many windows: what each decides, what they pass, and what is answered and left behind them.
 -- Assumes nothing.
-use mathlib.Core.Path.{◌≡◌, refl, sym, ◌∙◌}
+use mathlib.Core.Path.{◌≡◌, refl, sym, ap, ◌∙◌}
 use mathlib.Core.Logic.{◌↔◌}
 use mathlib.Core.Bool.{Bool, true, false, not}
 use mathlib.Core.List.{List, [], ◌++◌}
@@ -10,9 +10,10 @@ use lib.Dec.{eqb, ltb}
 use lib.ListN.{length}
 use borrow.Author.Tests.{eqb-true, eq-eqb, ne_eqb, ltb-false, le-ltb, not-false}
 use Rattle.lists.proofs.Laws.{never, neither}
-use Rattle.answers.specs.declared.Verdict.{Verdict}
-use Rattle.answers.specs.declared.Verdict.TheVariants.{Passed, Refused}
-use Rattle.answers.specs.Refusals.{Refusal, verdict}
+use Rattle.std.specs.Prelude.{Result, Ok, Err}
+use Rattle.answers.specs.declared.Cause.TheVariants.{BadWindowList, ShortRoom}
+use Rattle.answers.specs.declared.Refused.{Refused}
+use Rattle.answers.specs.Refusals.{Refusal, refuse, number, verdict}
 use Rattle.answers.specs.Cells.{overwrite}
 use Rattle.answers.specs.After.{after, unless, room_refusals}
 use Rattle.answers.proofs.Laws.{append-passed, append-refused, passed-one, passed-append, refusal-held, room-passed, room-refused}
@@ -23,7 +24,6 @@ use Rattle.map.specs.Sound.{SoundMap}
 use Rattle.map.proofs.Laws.{sound-map, numbered-map}
 use Rattle.used.specs.Used.{border_refusals}
 use Rattle.used.proofs.Laws.{border-passed, numbered-border}
-use Rattle.many.specs.declared.Many.TheVariants as many-as
 use Rattle.many.specs.Many.{windows_in, wrong_list, list_refusals, lines_of, left_by, widest, many_refusals, many_of}
 use Rattle.many.specs.Promises.{InFours, Askable}
 use Rattle.many.proofs.Windows.{windows-length}
@@ -40,13 +40,13 @@ module _ (n : ℕ) where
   unfolding wrong_list
   wrong-fours e = rw (eq-eqb (n % 4) 0 e)
 
-  pub list-refused : wrong_list n ≡ true → verdict (list_refusals n) ≡ Refused 25 0
+  pub list-refused : wrong_list n ≡ true → verdict (list_refusals n) ≡ refuse BadWindowList 0
   unfolding list_refusals
-  list-refused e = refusal-held Refused 25 0 [] Passed e
+  list-refused e = refusal-held refuse BadWindowList 0 [] _ e
 
-  pub list-passed : (verdict (list_refusals n) ≡ Passed) ↔ (wrong_list n ≡ false)
+  pub list-passed : (verdict (list_refusals n) ≡ Ok tt) ↔ (wrong_list n ≡ false)
   unfolding list_refusals
-  list-passed = passed-one (wrong_list n) 25 0
+  list-passed = passed-one (wrong_list n) BadWindowList 0
 
   pub wrong-not : (wrong_list n ≡ false) ↔ ((n % 4 ≡ 0) × (n ≤ 1024))
   unfolding wrong_list
@@ -83,40 +83,40 @@ module _ (m : ℕ) (keys : List ℕ) (classes : ℕ) (windows : List ℕ) (borde
   abbrev borders : List Refusal
   borders = border_refusals (widest m Ws) border
 
-  pub many-unsound : {n p : ℕ} → verdict (map_refusals m keys classes) ≡ Refused n p → verdict (many_refusals m keys classes windows border out) ≡ Refused n p
+  pub many-unsound : {e : Refused} → verdict (map_refusals m keys classes) ≡ Err e → verdict (many_refusals m keys classes windows border out) ≡ Err e
   unfolding many_refusals
-  many-unsound e = append-refused Refused (map_refusals m keys classes) _ _ e
+  many-unsound e = append-refused refuse (map_refusals m keys classes) _ _ e
 
-  module _ (e : verdict (map_refusals m keys classes) ≡ Passed) where
-    pub many-unlisted : wrong_list (length windows) ≡ true → verdict (many_refusals m keys classes windows border out) ≡ Refused 25 0
+  module _ (e : verdict (map_refusals m keys classes) ≡ Ok tt) where
+    pub many-unlisted : wrong_list (length windows) ≡ true → verdict (many_refusals m keys classes windows border out) ≡ refuse BadWindowList 0
     unfolding many_refusals
-    many-unlisted d = append-passed Refused (map_refusals m keys classes) _ _ e ∙ append-refused Refused lists _ _ (list-refused (length windows) d)
+    many-unlisted d = append-passed refuse (map_refusals m keys classes) _ _ e ∙ append-refused refuse lists _ _ (list-refused (length windows) d)
 
     module _ (d : wrong_list (length windows) ≡ false) where
       behind : verdict (many_refusals m keys classes windows border out) ≡ verdict (borders ++ room_refusals out (5 * length Ws))
       unfolding many_refusals
-      behind = append-passed Refused (map_refusals m keys classes) _ _ e ∙ append-passed Refused lists _ _ ((list-passed (length windows)).1 d)
+      behind = append-passed refuse (map_refusals m keys classes) _ _ e ∙ append-passed refuse lists _ _ ((list-passed (length windows)).1 d)
 
-      pub many-narrow : {n p : ℕ} → verdict (border_refusals (widest m (windows_in windows)) border) ≡ Refused n p
-          → verdict (many_refusals m keys classes windows border out) ≡ Refused n p
-      many-narrow w = behind ∙ append-refused Refused borders _ _ w
+      pub many-narrow : {e : Refused} → verdict (border_refusals (widest m (windows_in windows)) border) ≡ Err e
+          → verdict (many_refusals m keys classes windows border out) ≡ Err e
+      many-narrow w = behind ∙ append-refused refuse borders _ _ w
 
-      module _ (w : verdict (border_refusals (widest m (windows_in windows)) border) ≡ Passed) where
+      module _ (w : verdict (border_refusals (widest m (windows_in windows)) border) ≡ Ok tt) where
         room : verdict (many_refusals m keys classes windows border out) ≡ verdict (room_refusals out (5 * length Ws))
-        room = behind ∙ append-passed Refused borders _ _ w
+        room = behind ∙ append-passed refuse borders _ _ w
 
-        pub many-short : out < 5 * length (windows_in windows) → verdict (many_refusals m keys classes windows border out) ≡ Refused 8 (5 * length (windows_in windows))
+        pub many-short : out < 5 * length (windows_in windows) → verdict (many_refusals m keys classes windows border out) ≡ refuse ShortRoom (5 * length (windows_in windows))
         many-short h = room ∙ room-refused out (5 * length Ws) h
 
-        pub many-passes : 5 * length (windows_in windows) ≤ out → verdict (many_refusals m keys classes windows border out) ≡ Passed
+        pub many-passes : 5 * length (windows_in windows) ≤ out → verdict (many_refusals m keys classes windows border out) ≡ Ok tt
         many-passes h = room ∙ (room-passed out (5 * length Ws)).1 h
 
   -- they pass exactly what is asked
-  pub many-askable : (verdict (many_refusals m keys classes windows border out) ≡ Passed) ↔ Askable m keys classes windows border out
+  pub many-askable : (verdict (many_refusals m keys classes windows border out) ≡ Ok tt) ↔ Askable m keys classes windows border out
   unfolding many_refusals
   many-askable = (to, from)
     where
-      to : verdict (many_refusals m keys classes windows border out) ≡ Passed → Askable m keys classes windows border out
+      to : verdict (many_refusals m keys classes windows border out) ≡ Ok tt → Askable m keys classes windows border out
       to e =
           let a = (passed-append (map_refusals m keys classes) _).0 e in
           let b = (passed-append lists _).0 a.1 in
@@ -128,43 +128,44 @@ module _ (m : ℕ) (keys : List ℕ) (classes : ℕ) (windows : List ℕ) (borde
             room = (room-passed out (5 * length Ws)).0 c.1;
           }
 
-      from : Askable m keys classes windows border out → verdict (many_refusals m keys classes windows border out) ≡ Passed
+      from : Askable m keys classes windows border out → verdict (many_refusals m keys classes windows border out) ≡ Ok tt
       from A = many-passes ((sound-map m keys classes).1 A.sound) ((list_right windows).1 A.list) ((border-passed (widest m Ws) border).1 ((widest-wider m Ws border).1 A.wide)) A.room
 
   -- a refusal is by 25 exactly when the map is sound and the list is wrong
-  pub many-25 : {n p : ℕ} → verdict (many_refusals m keys classes windows border out) ≡ Refused n p → (n ≡ 25) ↔ (SoundMap m keys classes × (¬ InFours windows))
-  many-25 {n} {p} q = (λ z. to z (verdict (map_refusals m keys classes)) refl, from)
+  pub many-25 : {r : Refused} → verdict (many_refusals m keys classes windows border out) ≡ Err r → (number r.cause ≡ 25) ↔ (SoundMap m keys classes × (¬ InFours windows))
+  many-25 {r} q = (λ z. to z (verdict (map_refusals m keys classes)) refl, from)
     where
-      listed : n ≡ 25 → verdict (map_refusals m keys classes) ≡ Passed → (b : Bool) → wrong_list (length windows) ≡ b → SoundMap m keys classes × (¬ InFours windows)
+      listed : number r.cause ≡ 25 → verdict (map_refusals m keys classes) ≡ Ok tt → (b : Bool) → wrong_list (length windows) ≡ b → SoundMap m keys classes × (¬ InFours windows)
       listed z e true d = ((sound-map m keys classes).0 e, (list-wrong windows).0 d)
       listed z e false d =
           let rest = numbered-append (numbered-border (widest m Ws) border {most = 8} (omega arith)) (numbered-room out (5 * length Ws) (omega arith)) in
           absurd (omega (arith, z, refused-most rest (sym (behind e d) ∙ q)))
 
-      to : n ≡ 25 → (v : Verdict) → verdict (map_refusals m keys classes) ≡ v → SoundMap m keys classes × (¬ InFours windows)
-      to z Passed e = listed z e (wrong_list (length windows)) refl
-      to z (Refused n' p') e =
-          let same : Refused n' p' ≡ Refused n p = sym (many-unsound e) ∙ q in
-          let number : n' ≡ n = cc in
-          absurd (omega (arith, z, number, refused-most (numbered-map {most = 5} (omega arith) true m keys classes) e))
+      to : number r.cause ≡ 25 → (v : Result Unit Refused) → verdict (map_refusals m keys classes) ≡ v → SoundMap m keys classes × (¬ InFours windows)
+      to z (Ok u) e = listed z e (wrong_list (length windows)) refl
+      to z (Err r') e =
+          let same : Err r' ≡ Err r = sym (many-unsound e) ∙ q in
+          let one : r' ≡ r = cc in
+          absurd (omega (arith, z, ap (λ (x : Refused). number x.cause) one, refused-most (numbered-map {most = 5} (omega arith) true m keys classes) e))
 
-      from : SoundMap m keys classes × (¬ InFours windows) → n ≡ 25
+      from : SoundMap m keys classes × (¬ InFours windows) → number r.cause ≡ 25
       from t =
-          let same : Refused n p ≡ Refused 25 0 = sym q ∙ many-unlisted ((sound-map m keys classes).1 t.0) ((list-wrong windows).1 t.1) in
-          cc
+          let same : Err r ≡ refuse BadWindowList 0 = sym q ∙ many-unlisted ((sound-map m keys classes).1 t.0) ((list-wrong windows).1 t.1) in
+          let one : r ≡ record { cause = BadWindowList; place = 0 } = cc in
+          ap (λ (x : Refused). number x.cause) one
 
   pub numbered-many : Numbered 25 (many_refusals m keys classes windows border out)
   unfolding many_refusals list_refusals
   numbered-many =
       numbered-append (numbered-map (omega arith) true m keys classes)
-      (numbered-append (numbered_next 25 (omega arith) (omega arith) none)
+      (numbered-append (numbered_next BadWindowList (omega arith) (omega arith) none)
       (numbered-append (numbered-border (widest m Ws) border (omega arith)) (numbered-room out (5 * length Ws) (omega arith))))
 
 -- ---- what is answered and left, all behind them
 
 pub many_is : (m : ℕ) (keys : List ℕ) (classes : ℕ) (windows border out : List ℕ) → many_of m keys classes windows border out
     ≡ (let Ws = windows_in windows in
-    unless many-as.Refused (many_refusals m keys classes windows (length border) (length out)) (border, out)
-    (after (many-as.Done (length Ws)) (left_by m Ws border, overwrite (lines_of m keys Ws) out)))
+    unless refuse (many_refusals m keys classes windows (length border) (length out)) (border, out)
+    (after (Ok (length Ws)) (left_by m Ws border, overwrite (lines_of m keys Ws) out)))
 unfolding many_of
 many_is m keys classes windows border out = refl

@@ -6,11 +6,14 @@ use mathlib.Core.List.{List, [], ◌∷◌, ◌++◌, map, map-append, Memᴰ}
 use Prim.Native.Nat.{ℕ, zero, suc, ◌+◌, ◌-◌, ◌*◌, ◌/◌, ◌<◌}
 use native.Mathlib.Nat.{zero-add}
 use native.Mathlib.Omega.{arith}
-use lib.ListN.{length, get_or, length-append, length-map, get_or-append}
+use lib.ListN.{length, get_or, drop, length-append, length-map, get_or-append}
 use lib.Seq.{get_or-append-add}
+use Rattle.std.proofs.lemmas.List.{get_or-take, get_or-drop}
+use Rattle.std.specs.Simd.{first_chunks}
 use Rattle.lists.specs.Lists.{up_from}
 use Rattle.lists.proofs.Laws.{up_none, up_next, up_one, up_in, up-length, up-append, map_same}
 use Rattle.window.specs.declared.Window.{Window}
+use Rattle.window.specs.Window.{window_from}
 use Rattle.many.specs.Many.{window_at, windows_in}
 
 module _ (cells : List ℕ) where
@@ -48,6 +51,23 @@ module _ (cells : List ℕ) where
 
   pub windows-in : (i : ℕ) → i < length (windows_in cells) → Memᴰ (window_at cells i) (windows_in cells)
   windows-in i l = rw windows-all (Memᴰ.map (window_at cells) ((up_in 0 (length cells / 4) i).1 (omega (arith, l, windows-length))))
+
+-- ---- by fours
+
+four-of : (n : ℕ) (cells : List ℕ) (i : ℕ) → i < n → window_from (get_or (first_chunks 4 n cells) i []) 0 ≡ window_at cells i
+four-of zero cells i l = absurd (omega (arith, l))
+four-of (suc n) cells zero l =
+    rw (get_or-take 4 cells 0 0 (omega arith), get_or-take 4 cells 1 0 (omega arith), get_or-take 4 cells 2 0 (omega arith), get_or-take 4 cells 3 0 (omega arith)) refl
+four-of (suc n) cells (suc i) l =
+    let same : (k : ℕ) → get_or (drop 4 cells) (4 * i + k) 0 ≡ get_or cells (4 * suc i + k) 0 = λ k.
+    let e : 4 * suc i + k ≡ 4 + (4 * i + k) = omega arith in
+    rw e (get_or-drop 4 cells (4 * i + k) 0) in
+    let z : (x : ℕ) → x + 0 ≡ x = λ x. omega arith in
+    four-of n (drop 4 cells) i (omega (arith, l)) ∙ rw (rw (z (4 * i), z (4 * suc i)) at (same 0), same 1, same 2, same 3)
+
+-- window i of the list is that of its cells by fours
+pub four-at : (cells : List ℕ) {fours : List (List ℕ)} → fours ≡ first_chunks 4 (length cells / 4) cells → {i : ℕ} → i < length cells / 4 → window_from (get_or fours i []) 0 ≡ window_at cells i
+four-at cells e {i} l = rw e (four-of (length cells / 4) cells i l)
 
 -- ---- two lists, one behind the other
 

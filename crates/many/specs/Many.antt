@@ -1,8 +1,10 @@
 -- Many windows on one map, with one border: the answer and every lent cell, on every input.
 -- Assumes nothing.
-use Rattle.std.specs.Prelude.{Bool, cond, not, ◌||◌, List, [], ◌∷◌, ◌++◌, map, ℕ, ◌*◌, ◌/◌, ◌%◌, eqb, ltb, length}
+use Rattle.std.specs.Prelude.{Bool, cond, not, ◌||◌, List, [], ◌∷◌, ◌++◌, map, ℕ, ◌*◌, ◌/◌, ◌%◌, eqb, ltb, length, Result, Ok}
 use Rattle.lists.specs.Lists.{up_from, greatest_of}
-use Rattle.answers.specs.Refusals.{Refusal, refusal, answer}
+use Rattle.answers.specs.declared.Cause.TheVariants.{BadWindowList}
+use Rattle.answers.specs.declared.Refused.{Refused}
+use Rattle.answers.specs.Refusals.{Refusal, refusal, refuse, number, answer}
 use Rattle.answers.specs.Cells.{overwrite}
 use Rattle.answers.specs.After.{After, after, unless, room_refusals}
 use Rattle.window.specs.declared.Window.{Window}
@@ -11,8 +13,6 @@ use Rattle.map.specs.Check.{map_refusals}
 use Rattle.border.specs.Openings.{openings, handed_count}
 use Rattle.used.specs.Used.{border_refusals, spent}
 use Rattle.many.specs.declared.Line.{Line}
-use Rattle.many.specs.declared.Many.{Many}
-use Rattle.many.specs.declared.Many.TheVariants.{Done, Refused}
 
 -- ---- the list of windows
 
@@ -30,7 +30,7 @@ wrong_list n = not (eqb (n % 4) 0) || ltb (4 * 256) n
 
 -- refusal 25, of how many numbers there are
 unfoldable pub list_refusals : ℕ → List Refusal
-list_refusals n = refusal (wrong_list n) 25 0 ∷ []
+list_refusals n = refusal (wrong_list n) BadWindowList 0 ∷ []
 
 -- ---- one window
 
@@ -46,7 +46,7 @@ line refusal place openings records pixels = record { refusal = refusal; place =
 unfoldable pub line_of : ℕ → List ℕ → Window → Line
 line_of m keys W =
     let os = openings m m keys W in
-    answer (λ number place. line number place 0 0 0) (window_refusals m W) (line 0 0 (length os) (handed_count os) (W.h * W.w))
+    answer (λ cause place. line (number cause) place 0 0 0) (window_refusals m W) (line 0 0 (length os) (handed_count os) (W.h * W.w))
 
 -- five cells
 abbrev pub line_cells : Line → List ℕ
@@ -77,8 +77,8 @@ many_refusals m keys classes windows border out =
     map_refusals m keys classes ++ (list_refusals (length windows) ++ (border_refusals (widest m Ws) border ++ room_refusals out (5 * length Ws)))
 
 -- how many windows there are; the border that they leave, and their lines. A refusal leaves both slices as they were
-unfoldable pub many_of : ℕ → List ℕ → ℕ → List ℕ → List ℕ → List ℕ → After Many (List ℕ × List ℕ)
+unfoldable pub many_of : ℕ → List ℕ → ℕ → List ℕ → List ℕ → List ℕ → After (Result ℕ Refused) (List ℕ × List ℕ)
 many_of m keys classes windows border out =
     let Ws = windows_in windows in
-    unless Refused (many_refusals m keys classes windows (length border) (length out)) (border, out)
-    (after (Done (length Ws)) (left_by m Ws border, overwrite (lines_of m keys Ws) out))
+    unless refuse (many_refusals m keys classes windows (length border) (length out)) (border, out)
+    (after (Ok (length Ws)) (left_by m Ws border, overwrite (lines_of m keys Ws) out))

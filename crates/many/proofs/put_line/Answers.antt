@@ -1,21 +1,13 @@
--- `many::put_line` meets its contract: five stores are `sets`.
-use mathlib.Core.Path.{refl}
-use native.Mathlib.Numerals.{unary_clauses}
+-- `many::put_line` meets its contract: a part of the slice that is written over is `sets`.
+use mathlib.Core.Path.{refl, sym, ◌∙◌}
+use Prim.Native.Nat.{◌*◌}
 use native.Mathlib.Omega.{arith}
-use lib.ListN.{length-set}
+use Rattle.std.proofs.lemmas.List.Edits.{sets-eq}
+use Rattle.std.proofs.lemmas.Slice.{put_mid-paste}
+use Rattle.many.specs.Many.{line_cells}
 use Rattle.many.proofs.put_line.Goals as goal
 
-pub bounds-out-at-2 : goal.bounds-out-at-2
-bounds-out-at-2 c = simp length-set (omega (arith, c.requires))
-
-pub bounds-out-at-3 : goal.bounds-out-at-3
-bounds-out-at-3 c = simp length-set (omega (arith, c.requires))
-
-pub bounds-out-at-4 : goal.bounds-out-at-4
-bounds-out-at-4 c = simp length-set (omega (arith, c.requires))
-
-pub bounds-out-at-5 : goal.bounds-out-at-5
-bounds-out-at-5 c = simp length-set (omega (arith, c.requires))
-
 pub returns : goal.returns
-returns c = simp unary_clauses refl
+returns c =
+    put_mid-paste _ _ _ _ (line_cells c.args.line) 5 c.copy_from_slice.ensures.after (omega arith) refl
+    ∙ sym (sets-eq (line_cells c.args.line) c.args.out.now (5 * c.args.i) (omega (arith, c.requires)))
