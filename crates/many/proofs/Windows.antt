@@ -66,7 +66,8 @@ four-of (suc n) cells (suc i) l =
     four-of n (drop 4 cells) i (omega (arith, l)) ∙ rw (rw (z (4 * i), z (4 * suc i)) at (same 0), same 1, same 2, same 3)
 
 -- window i of the list is that of its cells by fours
-pub four-at : (cells : List ℕ) {fours : List (List ℕ)} → fours ≡ first_chunks 4 (length cells / 4) cells → {i : ℕ} → i < length cells / 4 → window_from (get_or fours i []) 0 ≡ window_at cells i
+pub four-at : (cells : List ℕ) {fours : List (List ℕ)} → fours ≡ first_chunks 4 (length cells / 4) cells → {i : ℕ} → i < length cells / 4
+    → window_from (get_or fours i []) 0 ≡ window_at cells i
 four-at cells e {i} l = rw e (four-of (length cells / 4) cells i l)
 
 -- ---- two lists, one behind the other

@@ -29,13 +29,14 @@ overflow_cast-needed c = omega (arith, ((wrong-not _).0 (sym c.wrong_list.ensure
 pub returns-then-room-needed : goal.returns-then-room-needed
 returns-then-room-needed c =
     let border = sym (rw c.widest.ensures at c.wide_enough.ensures) in
+    let fours = sym c.wrong_list.ensures ∙ c.if-wrong_list.false in
     let count = windows-length c.args.windows.now in
     refusing c.at-then-room-needed.ensures
-    (rw (← count)
-      (many-short _ _ _ _ _ _ (sym c.sound.ensures ∙ c.in_ok-sound.was) (sym c.wrong_list.ensures ∙ c.if-wrong_list.false) (border ∙ c.in_ok-wide_enough.was) (rw count c.if-room-needed.true)))
+    (rw (← count) (many-short _ _ _ _ _ _ (sym c.sound.ensures ∙ c.in_ok-sound.was) fours (border ∙ c.in_ok-wide_enough.was) (rw count c.if-room-needed.true)))
 
 pub returns : goal.returns
 returns c =
     let border = sym (rw c.widest.ensures at c.wide_enough.ensures) in
+    let fours = sym c.wrong_list.ensures ∙ c.if-wrong_list.false in
     let count = windows-length c.args.windows.now in
-    sym (many-passes _ _ _ _ _ _ (sym c.sound.ensures ∙ c.in_ok-sound.was) (sym c.wrong_list.ensures ∙ c.if-wrong_list.false) (border ∙ c.in_ok-wide_enough.was) (rw count c.if-room-needed.false))
+    sym (many-passes _ _ _ _ _ _ (sym c.sound.ensures ∙ c.in_ok-sound.was) fours (border ∙ c.in_ok-wide_enough.was) (rw count c.if-room-needed.false))

@@ -1,5 +1,6 @@
 -- `many::line_of` meets its contract: where 6 does not refuse the window, a pass over its border counts its openings and their records.
 use mathlib.Core.Path.{sym, ◌∙◌}
+use mathlib.Core.Bool.{true}
 use native.Mathlib.Omega.{arith}
 use Rattle.window.proofs.Laws.{inside, inside-12, pixels-most}
 use Rattle.used.proofs.Laws.{use-answerable, use-known}
