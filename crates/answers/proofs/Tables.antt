@@ -84,7 +84,8 @@ module _ {A : Type 0} (refuse : Cause → ℕ → A) where
       go (Err r) q h = absurd (never r.cause r.place h)
 
 -- one part of an outcome, by itself
-pub answer-part : {A B : Type 0} (part : A → B) (refuse : Cause → ℕ → A) (rs : List Refusal) (a : A) → part (answer refuse rs a) ≡ answer (λ c p. part (refuse c p)) rs (part a)
+pub answer-part : {A B : Type 0} (part : A → B) (refuse : Cause → ℕ → A) (rs : List Refusal) (a : A)
+    → part (answer refuse rs a) ≡ answer (λ c p. part (refuse c p)) rs (part a)
 unfolding answer
 answer-part part refuse [] a = refl
 answer-part {A} {B} part refuse (r ∷ rs) a = go r.holds (answer-part part refuse rs a)

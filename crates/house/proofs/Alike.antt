@@ -28,7 +28,8 @@ behind-two false u rs rs' ss ts h = clear _ ∙ go u h ∙ sym (clear _)
     front : (xs : List Refusal) → verdict ((xs ++ ss) ++ ts) ≡ answer refuse xs (answer refuse ss (verdict ts))
     front xs = answer-append refuse (xs ++ ss) ts _ ∙ answer-append refuse xs ss _
 
-    go : (u : Bool) → (false ≡ false → u ≡ false → verdict rs ≡ verdict rs') → verdict ((refusal u BadLayout 0 ∷ rs ++ ss) ++ ts) ≡ verdict ((refusal u BadLayout 0 ∷ rs' ++ ss) ++ ts)
+    go : (u : Bool) → (false ≡ false → u ≡ false → verdict rs ≡ verdict rs')
+        → verdict ((refusal u BadLayout 0 ∷ rs ++ ss) ++ ts) ≡ verdict ((refusal u BadLayout 0 ∷ rs' ++ ss) ++ ts)
     go true h = refusal-held refuse BadLayout 0 _ _ refl ∙ sym (refusal-held refuse BadLayout 0 _ _ refl)
     go false h = clear _ ∙ front rs ∙ answer-verdict refuse rs rs' _ (h refl refl) ∙ sym (clear _ ∙ front rs')
 
