@@ -125,8 +125,8 @@ passed-append rs ss = (
 )
 
 -- what every refusal leaves alike is left where the table has not passed
-pub answer-kept : {A B : Type 0} (part : A → B) (refuse : Cause → ℕ → A) (rs : List Refusal) (a : A) {b : B} → ((c : Cause) (p : ℕ) → part (refuse c p) ≡ b) → (verdict rs ≡ Ok tt → ⊥)
-    → part (answer refuse rs a) ≡ b
+pub answer-kept : {A B : Type 0} (part : A → B) (refuse : Cause → ℕ → A) (rs : List Refusal) (a : A) {b : B}
+    → ((c : Cause) (p : ℕ) → part (refuse c p) ≡ b) → (verdict rs ≡ Ok tt → ⊥) → part (answer refuse rs a) ≡ b
 answer-kept {A} {B} part refuse rs a {b} same held = go (verdict rs) refl
   where
     go : (v : Result Unit Refused) → verdict rs ≡ v → part (answer refuse rs a) ≡ b
