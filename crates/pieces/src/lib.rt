@@ -2,7 +2,7 @@
 // A map with gaps by itself is one over a baseline of a single record, the whole picture in the background's class.
 #![tactic(auto)]
 
-ghost use Rattle.std.specs.Prelude.{◌≡◌, min, ◌+◌, ◌-◌, ◌^◌, ◌≤◌, ◌<◌, length, replicate};
+ghost use Rattle.std.specs.Prelude.{◌≡◌, ◌+◌, ◌-◌, ◌^◌, ◌≤◌, ◌<◌, length, replicate};
 ghost use Rattle.key.specs.Spread.{spreads};
 ghost use Rattle.key.specs.Picture.{Pixel, place};
 ghost use Rattle.key.specs.Key.{block_key};
@@ -52,12 +52,6 @@ pub struct Piece {
 pub struct Looked {
     pub has: bool,
     pub unseen: bool,
-}
-
-fn least(a: u32, b: u32) -> u32
-    ensures { result ≡ min a b }
-{
-    if a < b { a } else { b }
 }
 
 // Record n, or what stands behind the last.
@@ -205,17 +199,17 @@ pub fn next_piece(
 {
     let today = stand.today;
     let under = stand.under;
-    let near = least(under.end, stop);
+    let near = under.end.min(stop);
     if stand.place < today.start {
         let n = under.next;
-        let end = least(today.start, near);
+        let end = today.start.min(near);
         return Piece {
             class: beneath[n],
             end,
         };
     }
     let n = today.next;
-    let end = least(today.end, near);
+    let end = today.end.min(near);
     Piece {
         class: classes[n],
         end,

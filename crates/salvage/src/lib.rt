@@ -38,8 +38,8 @@ pub struct Progress {
 
 // Writes a record behind n others, its key and its class, where there is room.
 fn put_record(mended: &mut [u32], painted: &mut [u8], n: u32, key: u32, class: u8)
-    ensures mended_after { mended.new ≡ put n key mended.old }
-    ensures painted_after { painted.new ≡ put n class painted.old }
+    ensures key_put { mended.new ≡ put n key mended.old }
+    ensures class_put { painted.new ≡ put n class painted.old }
 {
     answers::put(mended, n, key);
     let at = n as usize;
@@ -69,8 +69,8 @@ fn fill(
     log: &mut [u32],
 ) -> Mending
     requires { (ones.now ≡ ones_table) × (m ≤ 12) × Stands m from.spot × (from.spot.place ≤ end) × (end ≤ 4 ^ m) × Countable from.records from.entries (fills m from.spot.place end) }
-    ensures place_value { (result.spot.place ≡ end) × Stands m result.spot }
-    ensures makes_any { MakesAny (fills m from.spot.place end) (sheet from.records from.entries mended.old painted.old log.old) (sheet result.records result.entries mended.new painted.new log.new) }
+    ensures stands_behind { (result.spot.place ≡ end) × Stands m result.spot }
+    ensures gap_filled { MakesAny (fills m from.spot.place end) (sheet from.records from.entries mended.old painted.old log.old) (sheet result.records result.entries mended.new painted.new log.new) }
 {
     let mut spot = from.spot;
     let mut records = from.records;
@@ -106,12 +106,10 @@ fn keep(
     if (mended.len() <= (records as usize)) & (painted.len() <= (records as usize)) {
         return;
     }
-    let mut i = n;
-    let mut k = records;
-    while i < end {
-        put_record(mended, painted, k, keys[i], classes[i]);
-        i += 1;
-        k += 1;
+    let mut count = records;
+    for i in n..end {
+        put_record(mended, painted, count, keys[i], classes[i]);
+        count += 1;
     }
 }
 
@@ -146,8 +144,8 @@ fn keep_along(
 // Record n is dropped, by 3 or by 4.
 fn leave_out(n: usize, number: u32, from: Mending, log: &mut [u32]) -> Progress
     requires { (n ≤ 65536) × (from.entries < 2147483647) }
-    ensures spot_value { (result.now.spot ≡ from.spot) × (result.now.records ≡ from.records) × (result.now.entries ≡ from.entries + 1) × (result.next ≡ n + 1) }
-    ensures log_after { log.new ≡ put (2 * from.entries + 1) number (put (2 * from.entries) n log.old) }
+    ensures one_entry_more { (result.now.spot ≡ from.spot) × (result.now.records ≡ from.records) × (result.now.entries ≡ from.entries + 1) × (result.next ≡ n + 1) }
+    ensures entry_put { log.new ≡ put (2 * from.entries + 1) number (put (2 * from.entries) n log.old) }
 {
     put_entry(log, from.entries, n as u32, number);
     let spot = from.spot;
@@ -189,8 +187,10 @@ fn mend(
     painted: &mut [u8],
     log: &mut [u32],
 ) -> Progress
-    requires ones_value { (ones.now ≡ ones_table) × TellsOnes digits.now × (m ≤ 12) × (n < length keys.now) × (n ≤ 65536) × Stands m from.spot }
-    requires told_fit { ToldFit m from.spot.place (get_or keys.now n 0) Other × Countable from.records from.entries (mends_of m n from.spot.place (get_or keys.now n 0)) }
+    requires tables { (ones.now ≡ ones_table) × TellsOnes digits.now }
+    requires some_record { (m ≤ 12) × (n < length keys.now) × (n ≤ 65536) }
+    requires stands_elsewhere { Stands m from.spot × ToldFit m from.spot.place (get_or keys.now n 0) Other }
+    requires countable { Countable from.records from.entries (mends_of m n from.spot.place (get_or keys.now n 0)) }
     ensures { MendsNext m keys.now n from mended.old painted.old log.old result mended.new painted.new log.new }
 {
     let form = form_of(ones, digits, m, keys[n]);

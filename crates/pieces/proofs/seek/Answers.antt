@@ -12,28 +12,22 @@ keys_below-next-requires c = (keys-rise c.requires.1, between_first _ _)
 
 pub returns-then-next-eq0 : goal.returns-then-next-eq0
 returns-then-next-eq0 c =
-    let s = c.before.before.before.before.before in
-    let none : Splits s.args.keys.now s.args.key 0 = rw c.if-next-eq0.true at c.keys_below-next.ensures in
-    seek-here s.requires.1 s.requires.2.names none c.read_record.ensures.1 c.read_record.ensures.0 (past-none _ _ _)
+    let none : Splits c.args.keys.now c.args.key 0 = rw c.if-next-eq0.true at c.keys_below-next.ensures in
+    seek-here c.requires.1 c.requires.2.names none c.read_record.ensures.1 c.read_record.ensures.0 (past-none _ _ _)
 
 pub read_record-before-requires : goal.read_record-before-requires
-read_record-before-requires c = let s = c.before.before.before.before in (s.requires.0, s.requires.1, omega (arith, c.keys_below-next.ensures.room))
+read_record-before-requires c = (c.requires.0, c.requires.1, omega (arith, c.keys_below-next.ensures.room))
 
 pub returns-then-a-before : goal.returns-then-a-before
 returns-then-a-before c =
-    let e = c.before.before.before.before in
-    let s = e.before.before.before in
     let r = c.read_record-before.ensures in
-    seek-before s.requires.1 s.requires.2.names e.keys_below-next.ensures r.1 r.0 e.if-next-eq0.false c.if-a-before.true
+    seek-before c.requires.1 c.requires.2.names c.keys_below-next.ensures r.1 r.0 c.if-next-eq0.false c.if-a-before.true
 
 pub read_record-requires-2 : goal.read_record-requires-2
-read_record-requires-2 c = let s = c.before.before.before.before.before.before.before in (s.requires.0, s.requires.1, c.keys_below-next.ensures.room)
+read_record-requires-2 c = (c.requires.0, c.requires.1, c.keys_below-next.ensures.room)
 
 pub returns : goal.returns
 returns c =
-    let e = c.before.before.before.before.before in
-    let s = e.before.before.before in
     let r = c.read_record-before.ensures in
-    let n = e.keys_below-next.ensures in
-    seek-here s.requires.1 s.requires.2.names n c.read_record-2.ensures.1 c.read_record-2.ensures.0
-    (past-last s.requires.1 s.requires.2.names r.1 r.0 e.if-next-eq0.false (omega (arith, c.if-a-before.false)))
+    seek-here c.requires.1 c.requires.2.names c.keys_below-next.ensures c.read_record-2.ensures.1 c.read_record-2.ensures.0
+    (past-last c.requires.1 c.requires.2.names r.1 r.0 c.if-next-eq0.false (omega (arith, c.if-a-before.false)))

@@ -6,5 +6,4 @@ use Rattle.pieces.proofs.stand_at.Goals as goal
 
 pub returns : goal.returns
 returns c =
-    let s = c.before.before.before.before.before in
-    (refl, record { within = omega (arith, (block-lies s.requires.4.names).span); today = c.seek_near-today.ensures; under = c.seek_near-under.ensures })
+    (refl, record { within = omega (arith, (block-lies c.requires.4.names).span); today = c.seek_near-today.ensures; under = c.seek_near-under.ensures })

@@ -11,16 +11,13 @@ pub returns-then-mended-records : goal.returns-then-mended-records
 returns-then-mended-records c = sym (result-keys _ _ _ _ _ (omega (arith, c.if-records-gt65536.false)) (omega (arith, c.if-mended-records.true)))
 
 pub returns-then-painted-records : goal.returns-then-painted-records
-returns-then-painted-records c = sym (result-classes _ _ _ _ _ (omega (arith, c.if-records-gt65536.false)) (omega (arith, c.if-mended-records.false)) (omega (arith, c.if-painted-records.true)))
+returns-then-painted-records c =
+    sym (result-classes _ _ _ _ _ (omega (arith, c.if-records-gt65536.false)) (omega (arith, c.if-mended-records.false)) (omega (arith, c.if-painted-records.true)))
 
 pub returns-then-log-cells : goal.returns-then-log-cells
 returns-then-log-cells c =
-    let roomy = c.before in
-    let few = roomy.if-records-gt65536.false in
-    sym (result-log _ _ _ _ _ (omega (arith, few)) (omega (arith, roomy.if-mended-records.false)) (omega (arith, roomy.if-painted-records.false)) (omega (arith, c.if-log-cells.true)))
+    sym (result-log _ _ _ _ _ (omega (arith, c.if-records-gt65536.false)) (omega (arith, c.if-mended-records.false)) (omega (arith, c.if-painted-records.false)) (omega (arith, c.if-log-cells.true)))
 
 pub returns : goal.returns
 returns c =
-    let roomy = c.before in
-    let few = roomy.if-records-gt65536.false in
-    sym (result-passed _ _ _ _ _ (omega (arith, few)) (omega (arith, roomy.if-mended-records.false)) (omega (arith, roomy.if-painted-records.false)) (omega (arith, c.if-log-cells.false)))
+    sym (result-passed _ _ _ _ _ (omega (arith, c.if-records-gt65536.false)) (omega (arith, c.if-mended-records.false)) (omega (arith, c.if-painted-records.false)) (omega (arith, c.if-log-cells.false)))
