@@ -1,4 +1,4 @@
--- Each record of the map is kept or dropped, in its order: dropped by 3 exactly where its key is malformed, by 4 exactly where it starts before the end of a record that is kept.
+-- Each record of the map is kept or dropped, in its order: dropped for a bad key exactly where its key is malformed, and for an overlap exactly where it starts before the end of a record that is kept.
 -- Assumes nothing.
 use mathlib.Core.Path.{◌≡◌, refl, sym, ap}
 use mathlib.Core.Logic.{◌↔◌, ◌⊎◌, inl, inr, ⊎_elim}
@@ -9,9 +9,11 @@ use Prim.Native.Nat.{ℕ, suc, ◌+◌, ◌-◌, ◌^◌, ◌≤◌, ◌<◌}
 use native.Mathlib.Nat.{eq-or-lt_of_le}
 use native.Mathlib.Omega.{arith}
 use lib.ListN.{length, get_or}
+use Rattle.std.specs.Prelude.{None}
 use Rattle.lists.specs.Lists.{up_from}
 use Rattle.lists.proofs.Laws.{up_none, up_next, up-length}
-use Rattle.key.specs.declared.Form.TheVariants.{Malformed}
+use Rattle.answers.specs.declared.Cause.TheVariants.{BadKey, Overlap, Gap}
+use Rattle.answers.specs.Refusals.{number}
 use Rattle.key.specs.Form.{form_of}
 use Rattle.key.proofs.Laws.{no_names}
 use Rattle.stretch.specs.Fewest.{stretch}
@@ -38,13 +40,13 @@ module _ (m : ℕ) (keys : List ℕ) where
 -- of a mend, the record or the key, and the number in the log
 abbrev pub what : Mend → ℕ
 what (kept n) = n
-what (dropped n number) = n
+what (dropped n cause) = n
 what (filled key) = key
 
 abbrev pub why : Mend → ℕ
 why (kept n) = 0
-why (dropped n number) = number
-why (filled key) = 5
+why (dropped n cause) = number cause
+why (filled key) = number Gap
 
 -- what fills a gap is neither kept nor dropped
 pub fill-why : (m a b : ℕ) {e : Mend} → Memᴰ e (fills m a b) → why e ≡ 5
@@ -69,9 +71,9 @@ past-fill m a b {n} {es} {e} l other = go (Memᴰ.append_cases (fills m a b) l)
     go (inr t) = rest t
 
 module _ (m : ℕ) (keys : List ℕ) where
-  -- ---- dropped by 3
+  -- ---- dropped for a bad key
 
-  garbled-malformed : {n at k : ℕ} {es : List Mend} → Mends m keys n at es → Memᴰ (dropped k 3) es → (k < length keys) × (form_of m (get_or keys k 0) ≡ Malformed)
+  garbled-malformed : {n at k : ℕ} {es : List Mend} → Mends m keys n at es → Memᴰ (dropped k BadKey) es → (k < length keys) × (form_of m (get_or keys k 0) ≡ None)
   garbled-malformed {at = at} (ends e) i = absurd (let z = fill-why m at (4 ^ m) i in omega arith)
   garbled-malformed {n} {k = k} (garbled h e M) (Memᴰ.head d) = let z : k ≡ n = ap what d in rw z (h, e)
   garbled-malformed (garbled h e M) (Memᴰ.tail i) = garbled-malformed M i
@@ -80,7 +82,7 @@ module _ (m : ℕ) (keys : List ℕ) where
   garbled-malformed {at = at} (keeps {s = s} h b g e M) i =
       ⊎_elim (λ d. absurd (let z : 3 ≡ 0 = ap why d in omega arith)) (λ t. garbled-malformed M t) (past-fill m at s i (λ z. omega arith))
 
-  malformed-garbled : {n at k : ℕ} {es : List Mend} → Mends m keys n at es → n ≤ k → k < length keys → form_of m (get_or keys k 0) ≡ Malformed → Memᴰ (dropped k 3) es
+  malformed-garbled : {n at k : ℕ} {es : List Mend} → Mends m keys n at es → n ≤ k → k < length keys → form_of m (get_or keys k 0) ≡ None → Memᴰ (dropped k BadKey) es
   malformed-garbled (ends e) l u f = absurd (omega arith)
   malformed-garbled (garbled h e M) l u f = ⊎_elim (λ z. rw z (Memᴰ.head refl)) (λ z. Memᴰ.tail (malformed-garbled M z u f)) (eq-or-lt_of_le l)
   malformed-garbled (early h b d M) l u f = ⊎_elim (λ z. absurd (no_names f (rw z at b))) (λ z. Memᴰ.tail (malformed-garbled M z u f)) (eq-or-lt_of_le l)
@@ -92,7 +94,7 @@ module _ (m : ℕ) (keys : List ℕ) where
 pub all-numbers : (m : ℕ) (keys : List ℕ) → flat_map number_of (mends m keys) ≡ up_from 0 (length keys)
 all-numbers m keys = let z : length keys - 0 ≡ length keys = omega arith in rw z at (numbers-from m keys (omega arith) (mends-are m keys))
 
-pub dropped-malformed : (m : ℕ) (keys : List ℕ) (n : ℕ) → Memᴰ (dropped n 3) (mends m keys) ↔ ((n < length keys) × (form_of m (get_or keys n 0) ≡ Malformed))
+pub dropped-malformed : (m : ℕ) (keys : List ℕ) (n : ℕ) → Memᴰ (dropped n BadKey) (mends m keys) ↔ ((n < length keys) × (form_of m (get_or keys n 0) ≡ None))
 dropped-malformed m keys n = (garbled-malformed m keys (mends-are m keys), λ h. malformed-garbled m keys (mends-are m keys) (omega arith) h.0 h.1)
 
 -- so there are no more entries of the log than records of the result and of the broken map

@@ -1,4 +1,4 @@
--- A record is dropped by 4 exactly where it starts before the end of an earlier record that is kept.
+-- A record is dropped for an overlap exactly where it starts before the end of an earlier record that is kept.
 -- Assumes nothing.
 use mathlib.Core.Path.{◌≡◌, refl, ap}
 use mathlib.Core.Logic.{◌↔◌, ◌⊎◌, inl, inr, ⊎_elim}
@@ -8,6 +8,7 @@ use Prim.Native.Nat.{ℕ, ◌^◌, ◌+◌, ◌≤◌, ◌<◌}
 use native.Mathlib.Nat.{eq-or-lt_of_le}
 use native.Mathlib.Omega.{arith}
 use lib.ListN.{length, get_or}
+use Rattle.answers.specs.declared.Cause.TheVariants.{Overlap}
 use Rattle.key.specs.Blocks.{Names}
 use Rattle.key.proofs.Laws.{no_names, one_block, pow-least}
 use Rattle.salvage.specs.Salvage.{Mend, kept, dropped, fills, mends}
@@ -52,7 +53,7 @@ module _ (m : ℕ) (keys : List ℕ) where
       first : S.start < end → Reached m keys (fills m at s ++ kept n ∷ es) k S.start
       first l = record { by = n; exponent = i; start = s; earlier = h; is-kept = Memᴰ.append_right (fills m at s) (Memᴰ.head refl); names = b; over = omega arith }
 
-  early-starts : {n at k : ℕ} {es : List Mend} → Mends m keys n at es → Memᴰ (dropped k 4) es → (n ≤ k) × Starts at es k
+  early-starts : {n at k : ℕ} {es : List Mend} → Mends m keys n at es → Memᴰ (dropped k Overlap) es → (n ≤ k) × Starts at es k
   early-starts {at = at} (ends e) i = absurd (let z = fill-why m at (4 ^ m) i in omega arith)
   early-starts (garbled h e M) (Memᴰ.head d) = absurd (let z : 4 ≡ 3 = ap why d in omega arith)
   early-starts (garbled h e M) (Memᴰ.tail i) = let S = early-starts M i in (omega (arith, S.0), starts_more (λ x l. Memᴰ.tail l) S.1)
@@ -67,7 +68,7 @@ module _ (m : ℕ) (keys : List ℕ) where
   -- ---- what starts so is dropped so
 
   -- before the place reached
-  before-early : {n at k i s : ℕ} {es : List Mend} → Mends m keys n at es → n ≤ k → k < length keys → Names m (get_or keys k 0) i s → s < at → Memᴰ (dropped k 4) es
+  before-early : {n at k i s : ℕ} {es : List Mend} → Mends m keys n at es → n ≤ k → k < length keys → Names m (get_or keys k 0) i s → s < at → Memᴰ (dropped k Overlap) es
   before-early (ends e) l u b a = absurd (omega arith)
   before-early (garbled h e M) l u b a = ⊎_elim (λ z. absurd (no_names (rw z at e) b)) (λ z. Memᴰ.tail (before-early M z u b a)) (eq-or-lt_of_le l)
   before-early (early h c d M) l u b a = ⊎_elim (λ z. rw z (Memᴰ.head refl)) (λ z. Memᴰ.tail (before-early M z u b a)) (eq-or-lt_of_le l)
@@ -77,7 +78,7 @@ module _ (m : ℕ) (keys : List ℕ) where
 
   -- before the end of one that is kept
   over-early : {n at k i s x j t : ℕ} {es : List Mend} → Mends m keys n at es → k < length keys → Names m (get_or keys k 0) i s → x < k → Names m (get_or keys x 0) j t
-      → s < t + 4 ^ j → Memᴰ (kept x) es → Memᴰ (dropped k 4) es
+      → s < t + 4 ^ j → Memᴰ (kept x) es → Memᴰ (dropped k Overlap) es
   over-early {at = at} (ends e) u b l c o q = absurd (let z = fill-why m at (4 ^ m) q in omega arith)
   over-early (garbled h e M) u b l c o (Memᴰ.head d) = absurd (let z : 0 ≡ 3 = ap why d in omega arith)
   over-early (garbled h e M) u b l c o (Memᴰ.tail q) = Memᴰ.tail (over-early M u b l c o q)
@@ -86,7 +87,7 @@ module _ (m : ℕ) (keys : List ℕ) where
   over-early {n} {at} {k} {s = s} {x = x} (keeps {i = i} {s = r} {end = end} {es = es} h a g e M) u b l c o q =
       Memᴰ.append_right (fills m at r) (Memᴰ.tail (⊎_elim first (λ y. over-early M u b l c o y) (past-fill m at r q (λ z. omega arith))))
     where
-      first : kept x ≡ kept n → Memᴰ (dropped k 4) es
+      first : kept x ≡ kept n → Memᴰ (dropped k Overlap) es
       first d =
           let z : x ≡ n = ap what d in
           let y = one_block (rw z at c) a in
@@ -95,7 +96,7 @@ module _ (m : ℕ) (keys : List ℕ) where
 
 -- ---- of the whole map
 
-pub dropped-early : (m : ℕ) (keys : List ℕ) {n i s : ℕ} → n < length keys → Names m (get_or keys n 0) i s → Memᴰ (dropped n 4) (mends m keys) ↔ Reached m keys (mends m keys) n s
+pub dropped-early : (m : ℕ) (keys : List ℕ) {n i s : ℕ} → n < length keys → Names m (get_or keys n 0) i s → Memᴰ (dropped n Overlap) (mends m keys) ↔ Reached m keys (mends m keys) n s
 dropped-early m keys {n} {i} {s} h b = (
   λ d. let S = (early-starts m keys (mends-are m keys) d).1 in to S.start (one_block S.names b).1 S.before,
   λ R. over-early m keys (mends-are m keys) h b R.earlier R.names R.over R.is-kept,

@@ -5,6 +5,8 @@ use mathlib.Core.List.{List, [], ◌∷◌, ◌++◌, append_assoc, append-nil, 
 use Prim.Native.Nat.{ℕ, ◌+◌, ◌*◌, ◌≤◌, ◌<◌}
 use native.Mathlib.Omega.{arith}
 use lib.ListN.{length, length-append}
+use Rattle.answers.specs.declared.Cause.TheVariants.{Gap}
+use Rattle.answers.specs.Refusals.{number}
 use Rattle.answers.specs.Cells.{put}
 use Rattle.key.specs.declared.Spot.{Spot}
 use Rattle.key.specs.Along.{Stands}
@@ -47,7 +49,7 @@ module _ {m a b : ℕ} {sheet₀ now : Sheet} {s : Spot} (F : Filling m a b shee
         (omega (arith, few.0, C.records-few, n), omega (arith, few.1, C.entries-few, n))
 
     pub filling-next : {K C L' : List ℕ} → K ≡ put now.records key now.keys → C ≡ put now.records not_seen now.classes
-        → L' ≡ put (2 * now.entries + 1) 5 (put (2 * now.entries) key now.log) → Filling m a b sheet₀ (sheet (now.records + 1) (now.entries + 1) K C L') t
+        → L' ≡ put (2 * now.entries + 1) (number Gap) (put (2 * now.entries) key now.log) → Filling m a b sheet₀ (sheet (now.records + 1) (now.entries + 1) K C L') t
     filling-next {K} {C} {L'} k c l = record {
       stands = L.stands;
       within = L.within;

@@ -6,6 +6,9 @@ use Prim.Native.Nat.{ℕ, ◌+◌, ◌*◌, ◌≤◌}
 use native.Mathlib.Omega.{arith}
 use lib.ListN.{length, get_or, length-map}
 use Rattle.lists.proofs.Laws.{flat_append, flat-length, flat-most}
+use Rattle.answers.specs.declared.Cause.{Cause}
+use Rattle.answers.specs.declared.Cause.TheVariants.{Gap}
+use Rattle.answers.specs.Refusals.{number}
 use Rattle.answers.specs.Cells.{overwrite, put, Listed}
 use Rattle.answers.proofs.Laws.{listed-none, listed-one, listed_more, listed_same, listed-nothing, listed-all}
 use Rattle.map.specs.Classes.{not_seen}
@@ -49,13 +52,13 @@ cells-length ps = flat-length (λ (p : ℕ × ℕ). p.0 ∷ p.1 ∷ []) 2 (λ p.
 brings-one : (keys classes : List ℕ) (e : Mend) → length (brings keys classes e) ≤ 1
 unfolding brings
 brings-one keys classes (kept n) = omega arith
-brings-one keys classes (dropped n number) = omega arith
+brings-one keys classes (dropped n cause) = omega arith
 brings-one keys classes (filled key) = omega arith
 
 logs-one : (e : Mend) → length (logs e) ≤ 1
 unfolding logs
 logs-one (kept n) = omega arith
-logs-one (dropped n number) = omega arith
+logs-one (dropped n cause) = omega arith
 logs-one (filled key) = omega arith
 
 module _ (keys classes : List ℕ) where
@@ -93,27 +96,27 @@ module _ (keys classes : List ℕ) where
       log-listed = listed-none (2 * entries) L;
     }
 
-    pub makes-dropped : (n number : ℕ) → Makes keys classes (dropped n number ∷ []) (sheet records entries K C L)
-        (sheet records (entries + 1) K C (put (2 * entries + 1) number (put (2 * entries) n L)))
+    pub makes-dropped : (n : ℕ) (cause : Cause) → Makes keys classes (dropped n cause ∷ []) (sheet records entries K C L)
+        (sheet records (entries + 1) K C (put (2 * entries + 1) (number cause) (put (2 * entries) n L)))
     unfolding brings logs firsts seconds cells flat_map
-    makes-dropped n number = record {
+    makes-dropped n cause = record {
       keys-listed = listed-none records K;
       classes-listed = listed-none records C;
-      log-listed = entry n number;
+      log-listed = entry n (number cause);
     }
 
     pub makes-filled : (key : ℕ) → Makes keys classes (filled key ∷ []) (sheet records entries K C L)
-        (sheet (records + 1) (entries + 1) (put records key K) (put records not_seen C) (put (2 * entries + 1) 5 (put (2 * entries) key L)))
+        (sheet (records + 1) (entries + 1) (put records key K) (put records not_seen C) (put (2 * entries + 1) (number Gap) (put (2 * entries) key L)))
     unfolding brings logs firsts seconds cells flat_map
     makes-filled key = record {
       keys-listed = listed-one records key K;
       classes-listed = listed-one records not_seen C;
-      log-listed = entry key 5;
+      log-listed = entry key (number Gap);
     }
 
 -- one block that is filled in, and what stands in the cells
 pub block-brings : (keys classes : List ℕ) (key : ℕ) → let rs = flat_map (brings keys classes) (filled key ∷ []) in let es = flat_map logs (filled key ∷ []) in
-    (firsts rs ≡ key ∷ []) × (seconds rs ≡ not_seen ∷ []) × (cells es ≡ key ∷ 5 ∷ [])
+    (firsts rs ≡ key ∷ []) × (seconds rs ≡ not_seen ∷ []) × (cells es ≡ key ∷ number Gap ∷ [])
 unfolding brings logs firsts seconds cells flat_map
 block-brings keys classes key = (refl, refl, refl)
 
@@ -155,5 +158,5 @@ pub logs-most : (keys classes : List ℕ) (es : List Mend) → length (flat_map 
 unfolding logs brings number_of flat_map
 logs-most keys classes [] = omega arith
 logs-most keys classes (kept n ∷ es) = omega (arith, logs-most keys classes es)
-logs-most keys classes (dropped n number ∷ es) = omega (arith, logs-most keys classes es)
+logs-most keys classes (dropped n cause ∷ es) = omega (arith, logs-most keys classes es)
 logs-most keys classes (filled key ∷ es) = omega (arith, logs-most keys classes es)

@@ -7,8 +7,8 @@ use native.Mathlib.Decide.{dec_lt}
 use native.Mathlib.Omega.{arith}
 use lib.ListN.{length, get_or, drop, length-append, length-map, drop_of_length-le}
 use lib.Seq.{drop-cons}
-use Rattle.key.specs.declared.Form.{Form}
-use Rattle.key.specs.declared.Form.TheVariants.{Block, Malformed}
+use Rattle.std.specs.Prelude.{Option, None, Some}
+use Rattle.key.specs.declared.Span.{Span}
 use Rattle.key.specs.Form.{form_of}
 use Rattle.key.specs.Blocks.{Names}
 use Rattle.key.proofs.Laws.{whole-named, block-lies, pow-least}
@@ -44,18 +44,18 @@ module _ (m : ℕ) (keys : List ℕ) where
           → mends_from m n at (drop n keys) ≡ es ++ mends_from m (suc n) to (drop (suc n) keys)
       step s = mends-next m n at keys h ∙ rw (s.0, s.1)
 
-      go : (f : Form) → form_of m k ≡ f → ((to : ℕ) → Mends m keys (suc n) to (mends_from m (suc n) to (drop (suc n) keys))) → Mends m keys n at (mends_from m n at (drop n keys))
-      go Malformed f ih = rw (step (step-garbled m n at k f)) (garbled h f (ih at))
-      go (Block i s) f ih = pick (dec_lt s at)
+      go : (f : Option Span) → form_of m k ≡ f → ((to : ℕ) → Mends m keys (suc n) to (mends_from m (suc n) to (drop (suc n) keys))) → Mends m keys n at (mends_from m n at (drop n keys))
+      go None f ih = rw (step (step-garbled m n at k f)) (garbled h f (ih at))
+      go (Some r) f ih = pick (dec_lt r.start at)
         where
-          b : Names m k i s
+          b : Names m k r.exponent r.start
           b = record { is = f }
 
-          pick : Dec (s < at) → Mends m keys n at (mends_from m n at (drop n keys))
+          pick : Dec (r.start < at) → Mends m keys n at (mends_from m n at (drop n keys))
           pick (yes d) = rw (step (step-early m n at k b d)) (early h b d (ih at))
           pick (no d) =
-              rw (step (step_kept m n at k b (omega arith)), append_assoc (fills m at s) (kept n ∷ []) (mends_from m (suc n) (s + 4 ^ i) (drop (suc n) keys)))
-              (keeps {at = at} h b (omega arith) refl (ih (s + 4 ^ i)))
+              rw (step (step_kept m n at k b (omega arith)), append_assoc (fills m at r.start) (kept n ∷ []) (mends_from m (suc n) (r.start + 4 ^ r.exponent) (drop (suc n) keys)))
+              (keeps {at = at} h b (omega arith) refl (ih (r.start + 4 ^ r.exponent)))
 
   pub mends-are : Mends m keys 0 0 (mends_from m 0 0 keys)
   mends-are = mended (length keys) 0 0 (omega arith)

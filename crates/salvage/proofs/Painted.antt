@@ -78,7 +78,7 @@ module _ (m : ℕ) (keys classes : List ℕ) where
       → (e : Mend) → Memᴰ e (mends m keys) → Memᴰ p (brings keys classes e) → p.1 ≡ not_seen
   unfolding brings
   free_seen f b h (kept n) l t = let e = only t in never (sym f ∙ kept-unfree l (rw (ap (λ (p : ℕ × ℕ). p.0) e) at b) h)
-  free_seen f b h (dropped n number) l t = absurd (Memᴰ.not-nil t)
+  free_seen f b h (dropped n cause) l t = absurd (Memᴰ.not-nil t)
   free_seen f b h (filled key) l t = ap (λ (p : ℕ × ℕ). p.1) (only t)
 
   pub blank-class : {q : ℕ} → q < 4 ^ m → is_free m (flat_map (key_kept keys) (mends m keys)) q ≡ true → class_in m (firsts rs) (seconds rs) q ≡ not_seen

@@ -9,6 +9,8 @@ use native.Mathlib.Omega.{arith}
 use lib.ListN.{length, get_or, drop, length-append, length-map, drop_of_length-le}
 use lib.Seq.{drop-cons}
 use Rattle.lists.proofs.Laws.{flat_append}
+use Rattle.answers.specs.declared.Cause.TheVariants.{Gap}
+use Rattle.answers.specs.Refusals.{number}
 use Rattle.key.specs.Blocks.{Names}
 use Rattle.key.proofs.Laws.{no_names, one_block, block-lies, pow-least}
 use Rattle.map.specs.Sound.{Follow, full, next}
@@ -150,7 +152,7 @@ no_gap m {a} {b} l z = go (dec_lt a b)
 module _ (m : ℕ) (keys : List ℕ) where
   fills-logs : (a b : ℕ) → length (flat_map logs (fills m a b)) ≡ length (stretch m a b)
   unfolding logs
-  fills-logs a b = ap length (fills-each logs (λ k. (k, 5)) (λ k. refl) m a b) ∙ length-map (stretch m a b) (λ k. (k, 5))
+  fills-logs a b = ap length (fills-each logs (λ k. (k, number Gap)) (λ k. refl) m a b) ∙ length-map (stretch m a b) (λ k. (k, number Gap))
 
   unlogged : {n at : ℕ} {es : List Mend} → at ≤ 4 ^ m → Mends m keys n at es → length (flat_map logs es) ≡ 0 → Follow m at (drop n keys)
   unfolding logs flat_map

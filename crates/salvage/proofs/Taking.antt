@@ -6,10 +6,12 @@ use Prim.Native.Nat.{ℕ, ◌+◌, ◌*◌, ◌≤◌, ◌<◌}
 use native.Mathlib.Decide.{dec_lt}
 use native.Mathlib.Omega.{arith}
 use lib.ListN.{length, get_or, drop, length-append}
+use Rattle.std.specs.Prelude.{None}
+use Rattle.answers.specs.declared.Cause.{Cause}
+use Rattle.answers.specs.Refusals.{number}
 use Rattle.answers.specs.Cells.{put}
 use Rattle.key.specs.declared.Spot.{Spot}
 use Rattle.key.specs.Blocks.{Names}
-use Rattle.key.specs.declared.Fit.TheVariants.{Other}
 use Rattle.key.specs.Along.{Stands, ToldFit}
 use Rattle.key.proofs.Laws.{fits-other}
 use Rattle.salvage.specs.declared.Mending.{Mending}
@@ -25,29 +27,29 @@ use Rattle.salvage.proofs.Going.{going_next}
 -- ---- dropped
 
 -- one entry more can be counted
-pub take-entry : {n number records entries : ℕ} {es : List Mend} → es ≡ dropped n number ∷ [] → Countable records entries es → entries < 2147483647
+pub take-entry : {n records entries : ℕ} {cause : Cause} {es : List Mend} → es ≡ dropped n cause ∷ [] → Countable records entries es → entries < 2147483647
 take-entry e C = omega (arith, C.entries-few, ap length e)
 
-going-dropped : {m n number : ℕ} {keys classes : List ℕ} {a b : Sheet} {s t : Spot} {r e next : ℕ} {L : List ℕ} → Going m keys classes a b s n → n < length keys
-    → (mends_of m n s.place (get_or keys n 0) ≡ dropped n number ∷ []) × (reached m s.place (get_or keys n 0) ≡ s.place)
-    → (t ≡ s) × (r ≡ b.records) × (e ≡ b.entries + 1) × (next ≡ n + 1) → L ≡ put (2 * b.entries + 1) number (put (2 * b.entries) n b.log)
+going-dropped : {m n : ℕ} {cause : Cause} {keys classes : List ℕ} {a b : Sheet} {s t : Spot} {r e next : ℕ} {L : List ℕ} → Going m keys classes a b s n → n < length keys
+    → (mends_of m n s.place (get_or keys n 0) ≡ dropped n cause ∷ []) × (reached m s.place (get_or keys n 0) ≡ s.place)
+    → (t ≡ s) × (r ≡ b.records) × (e ≡ b.entries + 1) × (next ≡ n + 1) → L ≡ put (2 * b.entries + 1) (number cause) (put (2 * b.entries) n b.log)
     → Going m keys classes a (sheet r e b.keys b.classes L) t next
-going-dropped {n = n} {number = number} {keys = keys} {classes = classes} {b = b} {s = s} G h d c l =
+going-dropped {n = n} {cause = cause} {keys = keys} {classes = classes} {b = b} {s = s} G h d c l =
     rw (c.0, c.1, c.2, c.3, l)
-    (going_next G h {t = s} (sym d.1, G.stands) (rw d.0 (makes-dropped keys classes b.records b.entries b.keys b.classes b.log n number)))
+    (going_next G h {t = s} (sym d.1, G.stands) (rw d.0 (makes-dropped keys classes b.records b.entries b.keys b.classes b.log n cause)))
 
-pub drops : {m n number : ℕ} {keys : List ℕ} {from : Mending} {K P L L' : List ℕ} {r : Progress} → n < length keys
-    → (mends_of m n from.spot.place (get_or keys n 0) ≡ dropped n number ∷ []) × (reached m from.spot.place (get_or keys n 0) ≡ from.spot.place)
+pub drops : {m n : ℕ} {cause : Cause} {keys : List ℕ} {from : Mending} {K P L L' : List ℕ} {r : Progress} → n < length keys
+    → (mends_of m n from.spot.place (get_or keys n 0) ≡ dropped n cause ∷ []) × (reached m from.spot.place (get_or keys n 0) ≡ from.spot.place)
     → (r.now.spot ≡ from.spot) × (r.now.records ≡ from.records) × (r.now.entries ≡ from.entries + 1) × (r.next ≡ n + 1)
-    → L' ≡ put (2 * from.entries + 1) number (put (2 * from.entries) n L) → MendsNext m keys n from K P L r K P L'
-drops {number = number} h d c l =
+    → L' ≡ put (2 * from.entries + 1) (number cause) (put (2 * from.entries) n L) → MendsNext m keys n from K P L r K P L'
+drops {cause = cause} h d c l =
     let z = ap (λ (t : Spot). t.place) c.0 in
-    record { forward = omega (arith, z); less = omega (arith, z, c.3); goes = λ classes a G. going-dropped {number = number} G h d c l }
+    record { forward = omega (arith, z); less = omega (arith, z, c.3); goes = λ classes a G. going-dropped {cause = cause} G h d c l }
 
 -- ---- behind a gap that is filled
 
 -- a record that does not start where the walk stands, and not before it, starts later
-pub other-later : {m at k i s : ℕ} → ToldFit m at k Other → Names m k i s → at ≤ s → at < s
+pub other-later : {m at k i s : ℕ} → ToldFit m at k None → Names m k i s → at ≤ s → at < s
 other-later {m} {at} {k} {i} {s} t N l = go (dec_lt at s)
   where
     go : Dec (at < s) → at < s

@@ -1,11 +1,10 @@
 -- How mends are made: what they bring is written behind what was there, as far as there is room, and counted.
 -- Assumes nothing.
-use Rattle.std.specs.Prelude.{◌≡◌, ℕ, ◌+◌, ◌-◌, ◌*◌, ◌≤◌, ◌<◌, length, get_or, drop}
+use Rattle.std.specs.Prelude.{◌≡◌, ℕ, ◌+◌, ◌-◌, ◌*◌, ◌≤◌, ◌<◌, length, get_or, drop, None}
 use mathlib.Core.List.{List, ◌++◌, map, flat_map}
 use Rattle.lists.specs.Lists.{up_from}
 use Rattle.answers.specs.Cells.{Listed}
 use Rattle.key.specs.declared.Spot.{Spot}
-use Rattle.key.specs.declared.Fit.TheVariants.{Other}
 use Rattle.key.specs.Along.{Stands, ToldFit}
 use Rattle.salvage.specs.declared.Mending.{Mending}
 use Rattle.salvage.specs.declared.Progress.{Progress}
@@ -56,7 +55,7 @@ pub record KeepsAlong (m : ℕ) (keys classes : List ℕ) (n : ℕ) (from : Mend
   pub within : r.next ≤ length keys
   pub stands : Stands m r.now.spot
   pub forward : from.spot.place ≤ r.now.spot.place
-  pub ends : r.next < length keys → ToldFit m r.now.spot.place (get_or keys r.next 0) Other
+  pub ends : r.next < length keys → ToldFit m r.now.spot.place (get_or keys r.next 0) None
   pub goes : (a : Sheet) (L : List ℕ) → Going m keys classes a (sheet from.records from.entries K P L) from.spot n
       → Going m keys classes a (sheet r.now.records r.now.entries K' P' L) r.now.spot r.next
 

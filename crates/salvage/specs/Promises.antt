@@ -1,9 +1,9 @@
 -- The words in which the promises about salvage are said.
 -- Assumes nothing.
-use Rattle.std.specs.Prelude.{◌≡◌, Bool, false, ◌&&◌, ℕ, suc, ◌+◌, ◌*◌, ◌^◌, ◌≤◌, ◌<◌, ltb, length, get_or}
+use Rattle.std.specs.Prelude.{◌≡◌, Bool, false, ◌&&◌, ℕ, suc, ◌+◌, ◌*◌, ◌^◌, ◌≤◌, ◌<◌, ltb, length, get_or, None}
 use mathlib.Core.List.{List, [], ◌∷◌, ◌++◌, flat_map, Memᴰ}
+use Rattle.answers.specs.declared.Cause.TheVariants.{BadKey, Overlap}
 use Rattle.answers.specs.Sizes.{SizedIn}
-use Rattle.key.specs.declared.Form.TheVariants.{Malformed}
 use Rattle.key.specs.Form.{form_of}
 use Rattle.key.specs.Blocks.{Names}
 use Rattle.map.specs.Promises.{is_free}
@@ -12,27 +12,27 @@ use Rattle.salvage.specs.Salvage.{Mend, kept, dropped, filled, fills, salvaged, 
 -- in plain words: so the records from n on are mended, where the last span kept ended at `at`
 pub data Mends (m : ℕ) (keys : List ℕ) : ℕ → ℕ → List Mend → Type 0 where
   ends : {n at : ℕ} → n ≡ length keys → Mends m keys n at (fills m at (4 ^ m))
-  garbled : {n at : ℕ} {es : List Mend} → n < length keys → form_of m (get_or keys n 0) ≡ Malformed → Mends m keys (suc n) at es → Mends m keys n at (dropped n 3 ∷ es)
-  early : {n at i s : ℕ} {es : List Mend} → n < length keys → Names m (get_or keys n 0) i s → s < at → Mends m keys (suc n) at es → Mends m keys n at (dropped n 4 ∷ es)
+  garbled : {n at : ℕ} {es : List Mend} → n < length keys → form_of m (get_or keys n 0) ≡ None → Mends m keys (suc n) at es → Mends m keys n at (dropped n BadKey ∷ es)
+  early : {n at i s : ℕ} {es : List Mend} → n < length keys → Names m (get_or keys n 0) i s → s < at → Mends m keys (suc n) at es → Mends m keys n at (dropped n Overlap ∷ es)
   keeps : {n at i s end : ℕ} {es : List Mend} → n < length keys → Names m (get_or keys n 0) i s → at ≤ s → end ≡ s + 4 ^ i → Mends m keys (suc n) end es
       → Mends m keys n at (fills m at s ++ kept n ∷ es)
 
 -- of a record of the map, kept or dropped, its number
 unfoldable pub number_of : Mend → List ℕ
 number_of (kept n) = n ∷ []
-number_of (dropped n number) = n ∷ []
+number_of (dropped n cause) = n ∷ []
 number_of (filled key) = []
 
 -- of a record that is kept, its key
 unfoldable pub key_kept : List ℕ → Mend → List ℕ
 key_kept keys (kept n) = get_or keys n 0 ∷ []
-key_kept keys (dropped n number) = []
+key_kept keys (dropped n cause) = []
 key_kept keys (filled key) = []
 
 -- of a block that is filled in, its key
 unfoldable pub key_filled : Mend → List ℕ
 key_filled (kept n) = []
-key_filled (dropped n number) = []
+key_filled (dropped n cause) = []
 key_filled (filled key) = key ∷ []
 
 -- by these mends a record before record n is kept whose span ends behind place s

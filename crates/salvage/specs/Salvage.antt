@@ -1,8 +1,11 @@
 -- Salvage of a broken map, record by record: what becomes of each, with what the gaps are filled, and what that brings to the result and to the log.
 -- Assumes nothing.
-use Rattle.std.specs.Prelude.{false, cond, ◌||◌, ℕ, suc, ◌*◌, ◌^◌, ltb, length, get_or}
+use Rattle.std.specs.Prelude.{false, cond, ◌||◌, ℕ, suc, ◌*◌, ◌^◌, ltb, length, get_or, Result, Ok}
 use mathlib.Core.List.{List, [], ◌∷◌, ◌++◌, map, flat_map}
-use Rattle.answers.specs.Refusals.{Refusal, refusal}
+use Rattle.answers.specs.declared.Cause.{Cause}
+use Rattle.answers.specs.declared.Cause.TheVariants.{BadCount, BadKey, Overlap, Gap}
+use Rattle.answers.specs.declared.Refused.{Refused}
+use Rattle.answers.specs.Refusals.{number, refuse, Refusal, refusal}
 use Rattle.answers.specs.Sizes.{size_refusals_in}
 use Rattle.answers.specs.Cells.{overwrite}
 use Rattle.answers.specs.After.{After, after, unless, room_refusals}
@@ -10,15 +13,14 @@ use Rattle.key.specs.Form.{form_of}
 use Rattle.map.specs.Spans.{malformed, start, end}
 use Rattle.map.specs.Classes.{not_seen}
 use Rattle.stretch.specs.Fewest.{stretch}
-use Rattle.salvage.specs.declared.Salvaged.{Salvaged}
-use Rattle.salvage.specs.declared.Salvaged.TheVariants.{Done, Refused}
+use Rattle.salvage.specs.declared.Mended.{Mended}
 
 -- ---- what is done
 
--- a mend: record n is kept; it is dropped, by 3 or by 4; or a block of this key is filled in
+-- a mend: record n is kept; it is dropped, for a cause; or a block of this key is filled in
 pub data Mend : Type 0 where
   kept : ℕ → Mend
-  dropped : ℕ → ℕ → Mend
+  dropped : ℕ → Cause → Mend
   filled : ℕ → Mend
 
 -- the places from a up to b are filled with the fewest blocks
@@ -29,7 +31,7 @@ fills m a b = map filled (stretch m a b)
 unfoldable pub mends_of : ℕ → ℕ → ℕ → ℕ → List Mend
 mends_of m n at k =
     let f = form_of m k in
-    cond (malformed f) (dropped n 3 ∷ []) (cond (ltb (start f) at) (dropped n 4 ∷ []) (fills m at (start f) ++ (kept n ∷ [])))
+    cond (malformed f) (dropped n BadKey ∷ []) (cond (ltb (start f) at) (dropped n Overlap ∷ []) (fills m at (start f) ++ (kept n ∷ [])))
 
 -- where the last span kept has ended then
 unfoldable pub reached : ℕ → ℕ → ℕ → ℕ
@@ -49,14 +51,14 @@ mends m keys = mends_from m 0 0 keys
 -- what a mend brings to the result: the key and the class of a record that is kept; of a block that is filled in, its key and the class of what was not seen
 unfoldable pub brings : List ℕ → List ℕ → Mend → List (ℕ × ℕ)
 brings keys classes (kept n) = (get_or keys n 0, get_or classes n 0) ∷ []
-brings keys classes (dropped n number) = []
+brings keys classes (dropped n cause) = []
 brings keys classes (filled key) = (key, not_seen) ∷ []
 
--- and what to the log: the number of a record that is dropped, counted from 0 among all, with 3 or 4; the key of a block that is filled in, with 5
+-- and what to the log: of a record that is dropped, where it stands among all, counted from 0, with the number of the cause, 3 or 4; the key of a block that is filled in, with 5
 unfoldable pub logs : Mend → List (ℕ × ℕ)
 logs (kept n) = []
-logs (dropped n number) = (n, number) ∷ []
-logs (filled key) = (key, 5) ∷ []
+logs (dropped n cause) = (n, number cause) ∷ []
+logs (filled key) = (key, number Gap) ∷ []
 
 -- of pairs, the first of each, and the second
 unfoldable pub firsts : List (ℕ × ℕ) → List ℕ
@@ -80,7 +82,7 @@ entries m keys = flat_map logs (mends m keys)
 
 -- of a result of so many records, with a log of so many entries: there are too many; or too little room for its keys or its classes; or for the log
 unfoldable pub result_refusals : ℕ → ℕ → ℕ → ℕ → ℕ → List Refusal
-result_refusals q n keys classes log = refusal (ltb 65536 q) 2 0 ∷ room_refusals keys q ++ (room_refusals classes q ++ room_refusals log (2 * n))
+result_refusals q n keys classes log = refusal (ltb 65536 q) BadCount 0 ∷ room_refusals keys q ++ (room_refusals classes q ++ room_refusals log (2 * n))
 
 -- all refusals, with room for so many keys, so many classes, and so many cells of the log
 unfoldable pub salvage_refusals : ℕ → List ℕ → List ℕ → ℕ → ℕ → ℕ → List Refusal
@@ -88,10 +90,14 @@ salvage_refusals m keys classes out-keys out-classes log =
     size_refusals_in false m (length keys) (length classes)
     ++ result_refusals (length (salvaged m keys classes)) (length (entries m keys)) out-keys out-classes log
 
+-- so many records, and so many entries of the log
+abbrev pub counted : ℕ → ℕ → Mended
+counted records entries = record { records = records; entries = entries }
+
 -- a refusal writes nothing; else the first cells of the slices are the keys and the classes of the result, and the log, and cells beyond keep their content
-unfoldable pub salvage_of : ℕ → List ℕ → List ℕ → List ℕ → List ℕ → List ℕ → After Salvaged (List ℕ × List ℕ × List ℕ)
+unfoldable pub salvage_of : ℕ → List ℕ → List ℕ → List ℕ → List ℕ → List ℕ → After (Result Mended Refused) (List ℕ × List ℕ × List ℕ)
 salvage_of m keys classes out-keys out-classes log =
     let rs = salvaged m keys classes in
     let es = entries m keys in
-    unless Refused (salvage_refusals m keys classes (length out-keys) (length out-classes) (length log)) (out-keys, out-classes, log)
-    (after (Done (length rs) (length es)) (overwrite (firsts rs) out-keys, overwrite (seconds rs) out-classes, overwrite (cells es) log))
+    unless refuse (salvage_refusals m keys classes (length out-keys) (length out-classes) (length log)) (out-keys, out-classes, log)
+    (after (Ok (counted (length rs) (length es))) (overwrite (firsts rs) out-keys, overwrite (seconds rs) out-classes, overwrite (cells es) log))
