@@ -3,7 +3,6 @@
 #![tactic(auto)]
 
 ghost use Rattle.std.specs.Prelude.{◌≡◌, ◌+◌, ◌-◌, ◌^◌, ◌≤◌, ◌<◌, length, replicate};
-ghost use Rattle.key.specs.Spread.{spreads};
 ghost use Rattle.key.specs.Picture.{Pixel, place};
 ghost use Rattle.key.specs.Key.{block_key};
 ghost use Rattle.key.specs.Blocks.{Names};
@@ -15,7 +14,7 @@ ghost use Rattle.pieces.specs.Pair.{Pair, class_over_map};
 ghost use Rattle.pieces.specs.Cursors.{Spans, Past, At, StandsAt};
 ghost use Rattle.pieces.specs.Pieces.{Uniform, Tallied, Room, Looks, Finds};
 
-use window::{Next, Window};
+use window::{Block, Window};
 
 // A record of a map, by its number and its places, from `start` up to the one before `end`. Behind the last record `start` is the end of the picture, and `end` one more.
 #[derive(Clone, Copy)]
@@ -260,36 +259,26 @@ pub fn look(
         if piece.class == class {
             return Looked { has: true, unseen };
         }
-        unseen = unseen | (piece.class == map::NOT_SEEN);
+        unseen |= piece.class == map::NOT_SEEN;
         stand = go_on(m, keys, base, stand, piece.end);
     }
     Looked { has: false, unseen }
 }
 
-// The block of exponent i whose first pixel is given, where a stand is known.
-pub fn block_ahead(
-    table: &[u32; 256],
-    m: u32,
-    keys: &[u32],
-    base: &[u32],
-    known: Stand,
-    i: u32,
-    row: u16,
-    col: u16,
-) -> Ahead
-    requires { (table.now ≡ spreads) × (m ≤ 12) × Spaced m 0 keys.now × Spaced m 0 base.now × StandsAt m keys.now base.now known × (i ≤ m) × Pixel m row col × Names m (block_key m i row col) i (place row col) }
-    ensures { (result.stand.place ≡ place row col) × (result.end ≡ place row col + 4 ^ i) × (result.end ≤ 4 ^ m) × StandsAt m keys.now base.now result.stand }
+// A block of the picture, where a stand is known.
+pub fn block_ahead(m: u32, keys: &[u32], base: &[u32], known: Stand, block: Block) -> Ahead
+    requires { (m ≤ 12) × Spaced m 0 keys.now × Spaced m 0 base.now × StandsAt m keys.now base.now known × (block.exponent ≤ m) × Pixel m block.row block.col × Names m (block_key m block.exponent block.row block.col) block.exponent (place block.row block.col) }
+    ensures { (result.stand.place ≡ place block.row block.col) × (result.end ≡ place block.row block.col + 4 ^ block.exponent) × (result.end ≤ 4 ^ m) × StandsAt m keys.now base.now result.stand }
 {
-    let key = blocks::block_key(table, m, i, row, col);
-    let start = blocks::place(row, col);
-    let end = start + blocks::pow4(i);
+    let key = blocks::block_key(m, block.exponent, block.row, block.col);
+    let start = blocks::place(block.row, block.col);
+    let end = start + blocks::pow4(block.exponent);
     let stand = stand_at(m, keys, base, known, key, start);
     Ahead { stand, end }
 }
 
 // How many pixels of the window each class has: along its maximal blocks.
 pub fn add_up(
-    table: &[u32; 256],
     m: u32,
     keys: &[u32],
     classes: &[u8],
@@ -298,34 +287,19 @@ pub fn add_up(
     window: Window,
     totals: &mut [u32; 256],
 )
-    requires { (table.now ≡ spreads) × Pair m keys.now (length classes.now) base.now (length beneath.now) × Inside m window × (totals.old ≡ replicate 256 0) }
+    requires { Pair m keys.now (length classes.now) base.now (length beneath.now) × Inside m window × (totals.old ≡ replicate 256 0) }
     ensures { totals.new ≡ totals_by (class_over_map m keys.now classes.now base.now beneath.now) window }
 {
     let mut at = first_stand(m, keys, base);
-    let mut r = window.r0;
-    let mut c = window.c0;
-    loop {
-        let next = walk::next_block(window, m, r, c);
-        let Next::Block {
-            row,
-            col,
-            exponent,
-            after,
-        } = next
-        else {
-            return;
-        };
-        let ahead = block_ahead(table, m, keys, base, at, exponent, row, col);
+    for block in walk::blocks(window, m) {
+        let ahead = block_ahead(m, keys, base, at, block);
         at = ahead.stand;
         tally(m, keys, classes, base, beneath, at, ahead.end, totals);
-        r = row;
-        c = after;
     }
 }
 
 // Whether some pixel of the window has the class; and where none has it, whether one was not seen.
 pub fn find(
-    table: &[u32; 256],
     m: u32,
     keys: &[u32],
     classes: &[u8],
@@ -334,32 +308,19 @@ pub fn find(
     window: Window,
     class: u8,
 ) -> Looked
-    requires { (table.now ≡ spreads) × Pair m keys.now (length classes.now) base.now (length beneath.now) × Inside m window }
+    requires { Pair m keys.now (length classes.now) base.now (length beneath.now) × Inside m window }
     ensures { Finds (class_over_map m keys.now classes.now base.now beneath.now) window class result }
 {
     let mut at = first_stand(m, keys, base);
-    let mut r = window.r0;
-    let mut c = window.c0;
     let mut unseen = false;
-    loop {
-        let next = walk::next_block(window, m, r, c);
-        let Next::Block {
-            row,
-            col,
-            exponent,
-            after,
-        } = next
-        else {
-            return Looked { has: false, unseen };
-        };
-        let ahead = block_ahead(table, m, keys, base, at, exponent, row, col);
+    for block in walk::blocks(window, m) {
+        let ahead = block_ahead(m, keys, base, at, block);
         at = ahead.stand;
         let looked = look(m, keys, classes, base, beneath, at, ahead.end, class);
         if looked.has {
             return looked;
         }
-        unseen = unseen | looked.unseen;
-        r = row;
-        c = after;
+        unseen |= looked.unseen;
     }
+    Looked { has: false, unseen }
 }

@@ -181,12 +181,10 @@ fn mend(
     let Some(block) = form_of(m, keys[from.next]) else {
         return leave_out(from, Cause::BadKey, log);
     };
-    let start = block.start;
-    let spot = from.now.spot;
-    if start < spot.place {
+    if block.start < from.now.spot.place {
         return leave_out(from, Cause::Overlap, log);
     }
-    let now = fill(m, from.now, start, mended, painted, log);
+    let now = fill(m, from.now, block.start, mended, painted, log);
     Progress {
         now,
         next: from.next,
@@ -215,8 +213,7 @@ fn pass(
     };
     loop {
         let kept = keep_along(m, keys, classes, at, mended, painted);
-        let next = kept.next;
-        if next == keys.len() {
+        if kept.next == keys.len() {
             return fill(m, kept.now, blocks::pow4(m), mended, painted, log);
         }
         at = mend(m, keys, kept, mended, painted, log);

@@ -6,19 +6,19 @@ use Rattle.salvage.proofs.Filling.{filling-first, filling-room, filling-next, fi
 use Rattle.salvage.proofs.fill.Goals as goal
 
 pub loop-spot-init : goal.loop-spot-init
-loop-spot-init c = let p = c.requires in filling-first _ p.2 p.3
+loop-spot-init c = filling-first _ c.requires.1 c.requires.2
 
 pub next_block-next-requires : goal.next_block-next-requires
-next_block-next-requires c = let p = c.requires in (p.0, p.1, c.loop-spot.invariant.stands, c.loop-spot-test.true, p.4)
+next_block-next-requires c = (c.requires.0, c.loop-spot.invariant.stands, c.loop-spot-test.true, c.requires.3)
 
 pub put_entry-requires : goal.put_entry-requires
-put_entry-requires c = omega (arith, (filling-room c.loop-spot.invariant c.next_block-next.ensures c.requires.5).1)
+put_entry-requires c = omega (arith, (filling-room c.loop-spot.invariant c.next_block-next.ensures c.requires.4).1)
 
 pub overflow_add-records : goal.overflow_add-records
-overflow_add-records c = omega (arith, (filling-room c.loop-spot.invariant c.next_block-next.ensures c.requires.5).0)
+overflow_add-records c = omega (arith, (filling-room c.loop-spot.invariant c.next_block-next.ensures c.requires.4).0)
 
 pub overflow_add-entries : goal.overflow_add-entries
-overflow_add-entries c = omega (arith, (filling-room c.loop-spot.invariant c.next_block-next.ensures c.requires.5).1)
+overflow_add-entries c = omega (arith, (filling-room c.loop-spot.invariant c.next_block-next.ensures c.requires.4).1)
 
 pub loop-spot-smaller : goal.loop-spot-smaller
 loop-spot-smaller c = omega (arith, c.next_block-next.ensures)
