@@ -53,7 +53,8 @@ module _ {f : ℕ → ℕ} {k m : ℕ} {W : Window} (I : Inside m W) where
     pub finding-goes : {b : Block} {t : MaximalBlocks} → Steps s (Some b) t → GoesOn W m (s.row, s.col) b (t.row, t.col)
     finding-goes g = walks-goes L.walks g
 
-    module _ {b : Block} {t : MaximalBlocks} (g : Steps s (Some b) t) {first end : ℕ} (h : first ≡ place b.row b.col) (z : end ≡ place b.row b.col + 4 ^ b.exponent) {q : Looked} (S : Looks f first end k q) where
+    module _ {b : Block} {t : MaximalBlocks} (g : Steps s (Some b) t) {first end : ℕ} (h : first ≡ place b.row b.col) (z : end ≡ place b.row b.col + 4 ^ b.exponent)
+        {q : Looked} (S : Looks f first end k q) where
       here : (j : ℕ) → block_has f W m j (corner_of b) ≡ seen_in f first end j
       here j = block-seen f W m j b (finding-goes g).largest h z
 

@@ -59,7 +59,8 @@ pub record Reporting (f : ℕ → ℕ) (W : Window) (m : ℕ) (cells : List ℕ)
   pub each : (k : ℕ) → k < 256 → get_or cells k 0 ≡ in_blocks f W m k past
 
 module _ {f : ℕ → ℕ} {m : ℕ} {W : Window} (I : Inside m W) where
-  pub reporting-first : {s : MaximalBlocks} → (s.window ≡ W) × (s.top ≡ m) × (s.row ≡ W.r0) × (s.col ≡ W.c0) → {cells : List ℕ} → cells ≡ replicate 256 0 → Reporting f W m cells s
+  pub reporting-first : {s : MaximalBlocks} → (s.window ≡ W) × (s.top ≡ m) × (s.row ≡ W.r0) × (s.col ≡ W.c0) → {cells : List ℕ} → cells ≡ replicate 256 0
+      → Reporting f W m cells s
   reporting-first start e = rw e (record {
     past = [];
     walks = walks-first I start;

@@ -1,4 +1,4 @@
--- Each record of the map is kept or dropped, in its order: dropped for a bad key exactly where its key is malformed, and for an overlap exactly where it starts before the end of a record that is kept.
+-- Each record of the map is kept or dropped, in its order: for a bad key exactly where its key is malformed, and for an overlap exactly where it starts before the end of a record that is kept.
 -- Assumes nothing.
 use mathlib.Core.Path.{◌≡◌, refl, sym, ap}
 use mathlib.Core.Logic.{◌↔◌, ◌⊎◌, inl, inr, ⊎_elim}

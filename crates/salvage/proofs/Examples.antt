@@ -58,7 +58,8 @@ pub record Examples : Type 0 where
   -- every key malformed, the greatest number of 32 bits among them
   pub garbled : salvage_of 2 (1 ∷ 4294967295 ∷ []) (1 ∷ 2 ∷ []) (old 1) (old 1) (old 6) ≡ after (Ok (counted 1 3)) (0 ∷ [], 255 ∷ [], 0 ∷ 3 ∷ 1 ∷ 3 ∷ 0 ∷ 5 ∷ [])
   -- a sound map
-  pub same : salvage_of 2 (5 ∷ 10 ∷ 15 ∷ 20 ∷ []) (1 ∷ 2 ∷ 3 ∷ 4 ∷ []) (old 5) (old 4) [] ≡ after (Ok (counted 4 0)) (5 ∷ 10 ∷ 15 ∷ 20 ∷ 99 ∷ [], 1 ∷ 2 ∷ 3 ∷ 4 ∷ [], [])
+  pub same : salvage_of 2 (5 ∷ 10 ∷ 15 ∷ 20 ∷ []) (1 ∷ 2 ∷ 3 ∷ 4 ∷ []) (old 5) (old 4) []
+      ≡ after (Ok (counted 4 0)) (5 ∷ 10 ∷ 15 ∷ 20 ∷ 99 ∷ [], 1 ∷ 2 ∷ 3 ∷ 4 ∷ [], [])
   -- refused
   pub large : salvage_of 13 [] [] (old 1) (old 1) (old 2) ≡ after (refuse BadM 0) (old 1, old 1, old 2)
   pub differ : salvage_of 2 (0 ∷ []) [] (old 1) (old 1) (old 2) ≡ after (refuse BadCount 0) (old 1, old 1, old 2)

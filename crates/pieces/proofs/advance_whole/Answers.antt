@@ -14,7 +14,8 @@ use Rattle.pieces.proofs.Whole.{whole-left, whole-held, whole_room}
 use Rattle.pieces.proofs.advance_whole.Goals as goal
 
 -- another record comes behind the one that ends by the place
-more : {m a : ℕ} {keys : List ℕ} {cursor : Cursor} → Follow m 0 keys → Spans m keys cursor → a ≤ 4 ^ m → cursor.end ≤ a → (cursor.next + 1 ≡ length keys → ⊥) → cursor.next + 1 < length keys
+more : {m a : ℕ} {keys : List ℕ} {cursor : Cursor} → Follow m 0 keys → Spans m keys cursor → a ≤ 4 ^ m → cursor.end ≤ a
+    → (cursor.next + 1 ≡ length keys → ⊥) → cursor.next + 1 < length keys
 more F C h e d = omega (arith, advance-room (spaced F) C h e)
 
 pub overflow_add-next : goal.overflow_add-next
