@@ -18,7 +18,7 @@ use Rattle.salvage.specs.Making.{Sheet, sheet, KeepsRun, Going}
 use Rattle.salvage.proofs.Making.{makes_none, makes-more, makes_kept, firsts-length, seconds-length}
 use Rattle.salvage.proofs.Filling.{fills-none}
 use Rattle.salvage.proofs.Steps.{step_kept}
-use Rattle.salvage.proofs.Mended.{mends-next}
+use Rattle.salvage.proofs.Mends.{mends-next}
 
 -- ---- writing a run of records
 

@@ -20,7 +20,7 @@ use Rattle.stretch.specs.Fewest.{stretch}
 use Rattle.salvage.specs.Salvage.{Mend, kept, dropped, filled, fills, mends, salvaged, entries}
 use Rattle.salvage.specs.Promises.{Mends, ends, garbled, early, keeps, number_of}
 use Rattle.salvage.proofs.Making.{logs-most}
-use Rattle.salvage.proofs.Mended.{mends-are}
+use Rattle.salvage.proofs.Mends.{mends-are}
 use Rattle.salvage.proofs.Result.{fills-nothing, keeps-each}
 
 -- ---- in order

@@ -20,7 +20,7 @@ use Rattle.stretch.specs.Fewest.{fewest, stretch}
 use Rattle.stretch.proofs.Laws.{gap-last, gap-next, cut-behind, fewest-makes, fewest-least, stretch-least}
 use Rattle.salvage.specs.Salvage.{Mend, kept, filled, fills, mends}
 use Rattle.salvage.specs.Promises.{Mends, ends, garbled, early, keeps, key_kept, key_filled, unkept}
-use Rattle.salvage.proofs.Mended.{mends-are}
+use Rattle.salvage.proofs.Mends.{mends-are}
 use Rattle.salvage.proofs.Result.{fills-each, fills-nothing, keeps-each}
 
 module _ (m : ℕ) (keys : List ℕ) where

@@ -11,7 +11,7 @@ use Rattle.key.specs.Along.{Stands}
 use Rattle.salvage.specs.Salvage.{Mend, fills, mends_of, reached, mends_from, mends, salvaged, entries}
 use Rattle.salvage.specs.Making.{Sheet, sheet, Makes, MakesAny, Countable, Going}
 use Rattle.salvage.proofs.Making.{makes_none, makes-more, makes-records, makes-entries, makes-few}
-use Rattle.salvage.proofs.Mended.{mends-next, mends-last, mends-are, mends-few}
+use Rattle.salvage.proofs.Mends.{mends-next, mends-last, mends-are, mends-few}
 
 pub going-first : (m : ℕ) (keys classes : List ℕ) (a : Sheet) {s : Spot} → Stands m s → s.place ≡ 0 → Going m keys classes a a s 0
 going-first m keys classes a S e = record { stands = S; within = omega arith; past = []; all = rw e; makes = makes_none keys classes a }

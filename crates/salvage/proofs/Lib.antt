@@ -2,7 +2,7 @@ mod Steps
 mod Making
 mod Table
 mod Filling
-mod Mended
+mod Mends
 mod Forms
 mod Going
 mod Taking

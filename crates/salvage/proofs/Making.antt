@@ -136,11 +136,6 @@ module _ {keys classes : List ℕ} {es : List Mend} {a b : Sheet} (M : Makes key
   pub makes-lengths : (length b.keys ≡ length a.keys) × (length b.classes ≡ length a.classes) × (length b.log ≡ length a.log)
   makes-lengths = (listed_same M.keys-listed, listed_same M.classes-listed, listed_same M.log-listed)
 
--- without a cell nothing is written: the slices behind are as they were
-pub makes-nothing : {keys classes : List ℕ} {es : List Mend} {r e : ℕ} {b : Sheet} → Makes keys classes es (sheet r e [] [] []) b → (K P L : List ℕ)
-    → (b.keys ++ K ≡ K) × (b.classes ++ P ≡ P) × (b.log ++ L ≡ L)
-makes-nothing M K P L = (listed-nothing M.keys-listed K, listed-nothing M.classes-listed P, listed-nothing M.log-listed L)
-
 -- with room for all, they stand in the first cells
 pub makes-all : {keys classes : List ℕ} {es : List Mend} {K P L : List ℕ} {b : Sheet} → Makes keys classes es (sheet 0 0 K P L) b
     → length (flat_map (brings keys classes) es) ≤ length K → length (flat_map (brings keys classes) es) ≤ length P → 2 * length (flat_map logs es) ≤ length L

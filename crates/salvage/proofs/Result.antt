@@ -22,7 +22,7 @@ use Rattle.salvage.specs.Salvage.{Mend, kept, filled, fills, brings, logs, first
 use Rattle.salvage.specs.Promises.{Mends, ends, garbled, early, keeps}
 use Rattle.salvage.proofs.Making.{firsts-append}
 use Rattle.salvage.proofs.Filling.{fills-none}
-use Rattle.salvage.proofs.Mended.{mends-are}
+use Rattle.salvage.proofs.Mends.{mends-are}
 
 -- ---- blocks that fill a gap
 

@@ -21,7 +21,7 @@ use Rattle.salvage.specs.Making.{Sheet, sheet, MakesAny, Countable, Going, Mends
 use Rattle.salvage.proofs.Making.{makes-more, makes-dropped}
 use Rattle.salvage.proofs.Filling.{fills-none}
 use Rattle.salvage.proofs.Steps.{step_kept}
-use Rattle.salvage.proofs.Mended.{mends-next}
+use Rattle.salvage.proofs.Mends.{mends-next}
 use Rattle.salvage.proofs.Going.{going_next}
 
 -- ---- dropped
