@@ -12,7 +12,7 @@ use lib.ListN.{length, get_or}
 use Rattle.std.specs.Prelude.{None}
 use Rattle.lists.specs.Lists.{up_from}
 use Rattle.lists.proofs.Laws.{up_none, up_next, up-length}
-use Rattle.answers.specs.declared.Cause.TheVariants.{BadKey, Overlap, Gap}
+use Rattle.answers.specs.declared.Cause.TheVariants.{BadKey, Gap}
 use Rattle.answers.specs.Refusals.{number}
 use Rattle.key.specs.Form.{form_of}
 use Rattle.key.proofs.Laws.{no_names}

@@ -10,7 +10,7 @@ use Rattle.answers.specs.declared.Cause.{Cause}
 use Rattle.answers.specs.declared.Cause.TheVariants.{Gap}
 use Rattle.answers.specs.Refusals.{number}
 use Rattle.answers.specs.Cells.{overwrite, put, Listed}
-use Rattle.answers.proofs.Laws.{listed-none, listed-one, listed_more, listed_same, listed-nothing, listed-all}
+use Rattle.answers.proofs.Laws.{listed-none, listed-one, listed_more, listed_same, listed-all}
 use Rattle.map.specs.Classes.{not_seen}
 use Rattle.salvage.specs.Salvage.{Mend, kept, dropped, filled, brings, logs, firsts, seconds, cells}
 use Rattle.salvage.specs.Making.{Sheet, sheet, Makes}

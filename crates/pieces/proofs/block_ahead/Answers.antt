@@ -1,6 +1,6 @@
 -- `pieces::block_ahead` meets its contract.
 use mathlib.Core.Path.{◌≡◌, ap₂, ◌∙◌}
-use Prim.Native.Nat.{ℕ, ◌+◌, ◌^◌, ◌≤◌}
+use Prim.Native.Nat.{ℕ, ◌+◌}
 use native.Mathlib.Omega.{arith}
 use Rattle.key.specs.Key.{block_key}
 use Rattle.key.specs.Blocks.{Names}

@@ -1,5 +1,4 @@
 -- `pieces::look` meets its contract, by the invariant beside this.
-use Prim.Native.Nat.{◌-◌}
 use native.Mathlib.Omega.{arith}
 use Rattle.pieces.proofs.Sights.{looking-first, looking-yes, looking-next, looking-no}
 use Rattle.pieces.proofs.look.Goals as goal

@@ -1,5 +1,4 @@
 -- `pieces::seek` meets its contract.
-use Prim.Native.Nat.{◌-◌}
 use native.Mathlib.Omega.{arith}
 use Rattle.map.specs.Runs.{Splits}
 use Rattle.map.proofs.Laws.{keys-rise}

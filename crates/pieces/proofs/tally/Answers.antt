@@ -1,5 +1,4 @@
 -- `pieces::tally` meets its contract, by the invariant beside this.
-use Prim.Native.Nat.{◌-◌}
 use native.Mathlib.Omega.{arith}
 use Rattle.pieces.proofs.Tallies.{tallying-first, tallying-fits, tallying-next, tallying-last}
 use Rattle.pieces.proofs.tally.Goals as goal

@@ -1,7 +1,5 @@
 -- `salvage::fill` meets its contract, by the invariant beside this.
-use mathlib.Core.List.{[]}
 use native.Mathlib.Omega.{arith}
-use Rattle.salvage.proofs.Making.{makes-lengths}
 use Rattle.salvage.proofs.Filling.{filling-first, filling-room, filling-next, filling-last}
 use Rattle.salvage.proofs.fill.Goals as goal
 

@@ -1,7 +1,6 @@
 -- `salvage::form_of` meets its contract.
 use mathlib.Core.Path.{sym, ◌∙◌}
 use native.Mathlib.Omega.{arith}
-use Rattle.key.proofs.Laws.{fits-block}
 use Rattle.salvage.proofs.Forms.{told-as, far-malformed, other-malformed}
 use Rattle.salvage.proofs.form_of.Goals as goal
 

@@ -1,5 +1,4 @@
 -- `salvage::keep_along` meets its contract.
-use native.Mathlib.Omega.{arith}
 use Rattle.salvage.proofs.Along.{row-onward, going-row}
 use Rattle.salvage.proofs.keep_along.Goals as goal
 

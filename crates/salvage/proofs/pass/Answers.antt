@@ -1,6 +1,5 @@
 -- `salvage::pass` meets its contract, by the invariant beside this.
 use native.Mathlib.Omega.{arith}
-use Rattle.salvage.proofs.Making.{makes-lengths}
 use Rattle.salvage.proofs.Going.{going-first, going-last, going-counted, going-rest, going-records}
 use Rattle.salvage.proofs.pass.Goals as goal
 
