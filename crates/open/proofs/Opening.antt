@@ -2,8 +2,8 @@
 -- Assumes nothing.
 use mathlib.Core.Path.{◌≡◌, refl, sym, ap, ◌∙◌}
 use mathlib.Core.Bool.{Bool, true, false}
-use mathlib.Core.List.{List, [], ◌++◌}
-use Prim.Native.Nat.{ℕ, ◌+◌, ◌*◌, ◌≤◌, ◌<◌}
+use mathlib.Core.List.{List, []}
+use Prim.Native.Nat.{ℕ, ◌*◌, ◌≤◌, ◌<◌}
 use native.Mathlib.Omega.{arith}
 use lib.ListN.{length}
 use Rattle.std.specs.Prelude.{Result, Ok, Err}
@@ -16,7 +16,7 @@ use Rattle.map.specs.Promises.{Gapless}
 use Rattle.border.specs.declared.Totals.{Totals}
 use Rattle.border.specs.Openings.{Opening, openings, handed_count, cells_of}
 use Rattle.border.specs.Found.{Passed}
-use Rattle.border.proofs.Loops.{passed-nothing, passed-same, passed-written}
+use Rattle.border.proofs.Loops.{passed-written}
 use Rattle.border.proofs.Laws.{cells-length}
 use Rattle.used.specs.Used.{use_refusals_in, tiled_refusals, spent, used_in}
 use Rattle.used.proofs.Laws.{used-short, used-done, spent-again, tiled-cap, tiled-usable, used-tiled, used-within, tiled-gapless}
@@ -78,41 +78,32 @@ accepted-again m top keys W border out = rw (spent-again W border)
 pub passed-all : {m top : ℕ} {keys : List ℕ} {W : Window} {border₀ out₀ border out : List ℕ} {totals : Totals} → Passed m top keys W border₀ out₀ totals border out
     → 3 * length (openings m top keys W) ≤ length out₀ → after (Ok totals) (border, out) ≡ accepted m top keys W border₀ out₀
 unfolding accepted
-passed-all p l = rw (p.many, p.records, p.ends, passed-written p l)
+passed-all {m} {top} {keys} {W} {totals = totals} p l =
+    let os = openings m top keys W in
+    let same : totals ≡ counted (length os) (handed_count os) = ap (λ (n : ℕ). counted n totals.records) p.many ∙ ap (counted (length os)) p.records in
+    rw (same, p.ends, passed-written p l)
 
 -- ---- the pass that writes
 
--- The slices with which it starts, where border₀ and out₀ are lent: out₀ is as it was and has room for all openings, and the border is as it was or spent already, which makes no
--- difference.
-pub record Writable (m top : ℕ) (keys : List ℕ) (W : Window) (border₀ out₀ border out : List ℕ) : Type 0 where
-  pub same : out ≡ out₀
-  pub room : 3 * length (openings m top keys W) ≤ length out₀
-  pub long : length border ≡ length border₀
-  pub either : accepted m top keys W border out₀ ≡ accepted m top keys W border₀ out₀
+-- The border with which it starts, where border₀ is lent and there is room for all openings: it is as it was or spent already, which makes no difference.
+pub record Writable (m top : ℕ) (keys : List ℕ) (W : Window) (border₀ out border : List ℕ) : Type 0 where
+  pub room : 3 * length (openings m top keys W) ≤ length out
+  pub either : accepted m top keys W border out ≡ accepted m top keys W border₀ out
 
-module _ {m top : ℕ} {keys : List ℕ} {W : Window} {border₀ out₀ border out : List ℕ} where
+module _ {m top : ℕ} {keys : List ℕ} {W : Window} {border₀ out border : List ℕ} where
   -- where no pass has gone before
-  pub writable-first : border ≡ border₀ → out ≡ out₀ → 3 * length (openings m top keys W) ≤ length out₀ → Writable m top keys W border₀ out₀ border out
-  writable-first e d l = record { same = d; room = l; long = ap length e; either = ap (λ (b : List ℕ). accepted m top keys W b out₀) e }
+  pub writable-first : border ≡ border₀ → 3 * length (openings m top keys W) ≤ length out → Writable m top keys W border₀ out border
+  writable-first e l = record { room = l; either = ap (λ (b : List ℕ). accepted m top keys W b out) e }
 
-  -- where a pass has counted them, in the first none of the cells
-  pub writable-counted : {left part : List ℕ} {totals : Totals} → Passed m top keys W border₀ [] totals left part → W.w ≤ length border₀ → border ≡ left → out ≡ part ++ out₀
-      → 3 * totals.openings ≤ length (part ++ out₀) → Writable m top keys W border₀ out₀ border out
-  writable-counted p wide e d l = record {
-    same = d ∙ passed-nothing out₀ p;
-    room = omega (arith, p.many, ap length (passed-nothing out₀ p));
-    long = ap length e ∙ (passed-same p wide).0;
-    either = ap (λ (b : List ℕ). accepted m top keys W b out₀) (e ∙ p.ends) ∙ accepted-again m top keys W border₀ out₀;
+  -- where a pass has counted them and written none
+  pub writable-counted : {left part : List ℕ} {totals : Totals} → Passed m top keys W border₀ [] totals left part → border ≡ left
+      → 3 * totals.openings ≤ length out → Writable m top keys W border₀ out border
+  writable-counted p e l = record {
+    room = omega (arith, p.many);
+    either = ap (λ (b : List ℕ). accepted m top keys W b out) (e ∙ p.ends) ∙ accepted-again m top keys W border₀ out;
   }
 
-  module _ (R : Writable m top keys W border₀ out₀ border out) {border' out' : List ℕ} {totals : Totals} (p : Passed m top keys W border out totals border' out') where
-    pub written_same : W.w ≤ length border₀ → (length border' ≡ length border₀) × (length out' ≡ length out₀)
-    written_same wide = let s = passed-same p (rw R.long wide) in (s.0 ∙ R.long, s.1 ∙ ap length R.same)
-
-    pub written_all : (whole : Bool) (classes : ℕ) → verdict (tiled_refusals whole m top keys classes W (length border₀)) ≡ Ok tt
-        → after (Ok totals) (border', out') ≡ open_in whole m top keys classes W border₀ out₀
-    written_all whole classes e =
-        passed-all p (omega (arith, R.room, ap length R.same))
-        ∙ ap (accepted m top keys W border) R.same
-        ∙ R.either
-        ∙ sym (open_done whole m top keys classes W border₀ out₀ e R.room)
+  pub written_all : Writable m top keys W border₀ out border → {border' out' : List ℕ} {totals : Totals} → Passed m top keys W border out totals border' out'
+      → (whole : Bool) (classes : ℕ) → verdict (tiled_refusals whole m top keys classes W (length border₀)) ≡ Ok tt
+      → after (Ok totals) (border', out') ≡ open_in whole m top keys classes W border₀ out
+  written_all R p whole classes e = passed-all p R.room ∙ R.either ∙ sym (open_done whole m top keys classes W border₀ out e R.room)

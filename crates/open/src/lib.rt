@@ -25,7 +25,7 @@ pub fn open(
 {
     used::usable_tiled(m, top, keys, classes, window, border.len(), whole)?;
     if out.len() < 3 * walk::most_blocks(window, top) {
-        let counted = passes::pass(m, top, keys, window, border, &mut out[..0]);
+        let counted = passes::pass(m, top, keys, window, border, &mut []);
         let needed = 3 * counted.openings;
         if out.len() < needed as usize {
             return Err(Cause::ShortRoom.at(needed));
