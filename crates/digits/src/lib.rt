@@ -119,6 +119,7 @@ fn read_digits(m: u32, low: Stripped) -> Option<Span>
     let mut rest = low.rest;
     let mut k = zeros;
     let mut start = 0;
+    // No range or iterator: how many turns there are, what is left says.
     while rest >= 25 {
         let place = pair_place(rest % 25)?;
         start = place * blocks::pow4(k) + start;
@@ -235,6 +236,7 @@ pub fn reach_over(m: u32, own: u32, key: u32, i: u32) -> u32
     let over = key - own;
     let mut e = i;
     let mut p = blocks::pow5(i);
+    // No range or iterator: how many turns there are, the power says.
     while p <= over {
         p *= 5;
         e += 1;

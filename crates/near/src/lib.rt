@@ -35,18 +35,24 @@ pub fn first_seen(m: u32, keys: &[u32]) -> Seen
         from: 0,
         end: 0,
     };
-    let near = match keys {
-        [0] => Near {
-            first: 0,
-            from: 0,
-            end: blocks::pow5(m),
-        },
-        _ => nowhere,
+    let none = Seen {
+        run: runs::inside(0, 0, 0),
+        near: nowhere,
+        other: nowhere,
+    };
+    if keys.len() != 1 {
+        return none;
+    }
+    if keys[0] != 0 {
+        return none;
+    }
+    let whole = Near {
+        end: blocks::pow5(m),
+        ..nowhere
     };
     Seen {
-        run: runs::inside(0, 0, 0),
-        near,
-        other: nowhere,
+        near: whole,
+        ..none
     }
 }
 

@@ -44,6 +44,7 @@ pub fn put_stretch(m: u32, from: Spot, end: u32, out: &mut [u32], n: u32) -> u32
 {
     let mut spot = from;
     let mut k = n;
+    // No iterator: each block says where the next one stands, and one field of it is written.
     while spot.place < end {
         let next = next_block(m, spot, end);
         answers::put(out, k, next.key);

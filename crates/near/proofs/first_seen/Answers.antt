@@ -2,15 +2,15 @@
 use Rattle.std.proofs.Common.{arith}
 use Rattle.near.proofs.Known.{known-none, known-whole}
 use Rattle.near.proofs.first_seen.Goals as goal
-use Rattle.near.proofs.first_seen.Goals.{in-0, in_default, in_default-2, in_default-3}
+
+pub returns-then-keys-ne1 : goal.returns-then-keys-ne1
+returns-then-keys-ne1 c = (known-none c.args.m c.args.keys.now, known-none c.args.m c.args.keys.now)
+
+pub returns-then-keys-ne0 : goal.returns-then-keys-ne0
+returns-then-keys-ne0 c = (known-none c.args.m c.args.keys.now, known-none c.args.m c.args.keys.now)
 
 pub returns : goal.returns
 returns c = (
-  elim c.if-keys-lt1.branch [
-    | in-0 w ↦ rw w.near-is (known-whole c.requires.1 w.in-0.len_at_least (omega arith) w.pow5.ensures.is)
-    | in_default w ↦ rw w.near-is (known-none c.args.m c.args.keys.now)
-    | in_default-2 w ↦ rw w.near-is (known-none c.args.m c.args.keys.now)
-    | in_default-3 w ↦ rw w.near-is (known-none c.args.m c.args.keys.now)
-  ],
+  known-whole c.requires.1 (omega (arith, c.if-keys-ne1.false)) (omega (arith, c.if-keys-ne0.false)) c.pow5.ensures.is,
   known-none c.args.m c.args.keys.now,
 )

@@ -39,4 +39,5 @@ returns-then-spot-exponent c =
 pub returns : goal.returns
 returns c =
     let g = (goal.at.returns c) in
-    fits-here c.requires.1 (before g.Else-spot-pow4) c.requires.0 (tells g.After-ones) (less g.After-ones) ((tells g.After-ones).entry ∙ sym c.ones.ensures ∙ c.if-ones-over.false) c.if-spot-exponent.false
+    let told = (tells g.After-ones).entry ∙ sym c.ones.ensures ∙ c.if-ones-over.false in
+    fits-here c.requires.1 (before g.Else-spot-pow4) c.requires.0 (tells g.After-ones) (less g.After-ones) told c.if-spot-exponent.false
