@@ -10,6 +10,7 @@ ghost use Rattle.used.specs.Used.{Usable};
 ghost use Rattle.exist.specs.Exist.{existing, exist_of};
 
 use answers::Refused;
+use map::Run;
 use window::Window;
 
 // What exist answers: whether some pixel has the class. It cannot tell where none has it and some were not seen.
@@ -27,17 +28,17 @@ struct Looked {
     unseen: bool,
 }
 
-// Looks through the `count` records from the first on, to the last of them: a loop that may end before takes them one by one, this one many at a time.
-fn look(classes: &[u8], class: u8, first: u32, count: u32) -> Looked
-    requires { (first + count ≤ length classes.now) × (length classes.now ≤ 65536) }
-    ensures { (result.has ≡ any (classed classes.now class) (up_from first count)) × (result.unseen ≡ any (classed classes.now not_seen) (up_from first count)) }
+// Looks through the records of a run, to the last of them: a loop that may end before takes them one by one, this one many at a time.
+fn look(classes: &[u8], class: u8, run: Run) -> Looked
+    requires { (run.first + run.count ≤ length classes.now) × (length classes.now ≤ 65536) }
+    ensures { (result.has ≡ any (classed classes.now class) (up_from run.first run.count)) × (result.unseen ≡ any (classed classes.now not_seen) (up_from run.first run.count)) }
 {
-    let from = first as usize;
+    let first = run.first as usize;
     let mut has = false;
     let mut unseen = false;
-    for here in &classes[from..from + count as usize] {
-        has = has | (*here == class);
-        unseen = unseen | (*here == map::NOT_SEEN);
+    for here in &classes[first..first + run.count as usize] {
+        has |= *here == class;
+        unseen |= *here == map::NOT_SEEN;
     }
     Looked { has, unseen }
 }
@@ -59,12 +60,12 @@ fn seek(
     let mut at = openings::start(window);
     let mut unseen = false;
     while let Some(opening) = openings::next_opening(m, m, keys, window, &mut at, border) {
-        let looked = look(classes, class, opening.run.first, opening.run.count);
+        let looked = look(classes, class, opening.run);
         if looked.has {
             step::fill(border, 0, w, window.r0 + window.h);
             return Existence::Yes;
         }
-        unseen = unseen | looked.unseen;
+        unseen |= looked.unseen;
     }
     if unseen {
         Existence::CannotTell
