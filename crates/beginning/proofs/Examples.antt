@@ -4,6 +4,7 @@ use mathlib.Core.Path.{◌≡◌, refl}
 use mathlib.Core.List.{List, [], ◌∷◌}
 use Prim.Native.Nat.{ℕ}
 use lib.ListN.{take}
+use Rattle.std.specs.Prelude.{Some, None}
 use Rattle.answers.specs.Refusals.{answer}
 use Rattle.answers.specs.Sizes.{wrong_count, size_refusals_in, picture_refusals, count_refusals}
 use Rattle.answers.proofs.P1.{keys, classes}
@@ -14,7 +15,7 @@ use Rattle.numbers.specs.Numbers.{bytes, number, bytes_of, numbers}
 use Rattle.house.specs.File.{header, file_of, layout_refusals, file_m, file_q, read_refusals_in, file_keys, file_classes}
 use Rattle.text.specs.Text.{digits, digits_of, spaced, line_of}
 use Rattle.input.specs.Input.{announced_of, whole_of}
-use Rattle.beginning.specs.Beginning.{map_text, start_refusals, start_text, file_in}
+use Rattle.beginning.specs.Beginning.{map_text, start_refusals, start_text}
 
 abbrev file : List ℕ
 file = file_of 2 keys classes
@@ -28,12 +29,12 @@ pub record Examples : Type 0 where
   pub p9-start : start_text file-9 ≡ line_of 82 (5 ∷ 6 ∷ [])
   pub p9-map : map_text 2 (take 6 keys) (take 6 classes) ≡ line_of 82 (5 ∷ 6 ∷ [])
   pub no-file : start_text [] ≡ line_of 82 (9 ∷ 0 ∷ [])
-  pub p1-length : announced_of file ≡ 55
-  pub no_room : announced_of (take 54 file) ≡ 0
+  pub p1-length : announced_of file ≡ Some 55
+  pub no_room : announced_of (take 54 file) ≡ None
   -- all 55 bytes came, or one less, or the input ended in the length itself
-  pub p1-whole : file_in file 55 ≡ file
-  pub p1-cut : file_in file 54 ≡ []
-  pub in-length : file_in file 3 ≡ []
+  pub p1-whole : whole_of file 55 ≡ file
+  pub p1-cut : whole_of file 54 ≡ []
+  pub in-length : whole_of file 3 ≡ []
 
 pub examples : Examples
 unfolding picture_refusals count_refusals answer wrong_count size_refusals_in from form_of spans.malformed spans.form_exponent spans.start spans.end late refusals_from

@@ -1,100 +1,92 @@
--- What is printed for a map and for a file, as the calls answer; and that where nothing is, the map is sound.
+-- What is printed for a file, as reading it and looking at its map answer; and that where nothing is, the map is sound.
 -- Assumes nothing.
 use mathlib.Core.Path.{◌≡◌, refl, sym, ap, ◌∙◌}
 use mathlib.Core.Bool.{true}
-use mathlib.Core.List.{List, [], ◌∷◌}
-use Prim.Native.Nat.{ℕ, ◌≤◌}
+use mathlib.Core.List.{List, []}
+use Prim.Native.Nat.{ℕ}
 use native.Mathlib.Omega.{arith}
 use lib.ListN.{length, take}
-use Rattle.answers.specs.declared.Verdict.TheVariants.{Passed, Refused}
-use Rattle.answers.specs.Refusals.{verdict}
+use Rattle.std.specs.Prelude.{Result, Ok, Err}
+use Rattle.answers.specs.declared.Refused.{Refused}
+use Rattle.answers.specs.Refusals.{Refusal, answer, refuse, verdict}
 use Rattle.answers.specs.After.{After, after}
-use Rattle.answers.proofs.Laws.{answer-append, answer-part, on-refused}
+use Rattle.answers.proofs.Laws.{accepted, on-passed, on-refused, append-passed, append-refused}
 use Rattle.map.specs.Check.{map_refusals}
 use Rattle.map.specs.Sound.{SoundMap}
-use Rattle.house.specs.declared.Reading.{Reading}
-use Rattle.house.specs.declared.Reading.TheVariants as reading
-use Rattle.house.specs.File.{file_m, file_q, file_keys, file_classes, FileMap, read_refusals, read_of}
+use Rattle.house.specs.declared.Header.{Header}
+use Rattle.house.specs.File.{file_m, file_q, file_keys, file_classes, Reading, read, read_refusals, read_of}
 use Rattle.house.proofs.Laws.{read-room, read-holds, read-by-lengths}
-use Rattle.text.proofs.Laws.{put-there}
+use Rattle.text.specs.Text.{put_of}
 use Rattle.lines.specs.Lines.{refusal_line}
-use Rattle.lines.proofs.Laws.{line-some, refused-most, silent}
-use Rattle.beginning.specs.declared.Begun.{Begun}
-use Rattle.beginning.specs.Beginning.{map_text, start_refusals, start_text, Started}
+use Rattle.lines.proofs.Laws.{line-some, silent}
+use Rattle.beginning.specs.Beginning.{start_refusals, start_text, start_of, Held, Begun, Said}
 use Rattle.beginning.proofs.Silent.{start-silent}
 
--- ---- a map
+-- what an answer tells of its table
+told : {A : Type 0} (rs : List Refusal) (a : A) {e : Refused} → answer refuse rs (Ok a) ≡ Err e → verdict rs ≡ Err e
+told {A} rs a {e} d = go (verdict rs) refl
+  where
+    go : (v : Result Unit Refused) → verdict rs ≡ v → verdict rs ≡ Err e
+    go (Ok tt) p = let never : ◌≡◌ {A = Result A Refused} (Ok a) (Err e) = sym (on-passed refuse rs (Ok a) p) ∙ d in cc
+    go (Err r) p = let same : ◌≡◌ {A = Result A Refused} (Err r) (Err e) = sym (on-refused refuse rs (Ok a) p) ∙ d in
+        let r-is : r ≡ e = cc in p ∙ ap Err r-is
 
-module _ (m : ℕ) (keys classes : List ℕ) where
-  pub map-passed : verdict (map_refusals m keys (length classes)) ≡ Passed → map_text m keys classes ≡ []
-  unfolding map_text
-  map-passed e = (silent _).1 e
+-- ---- a file was read into cells for 1,000 records: the answer, and the cells then
 
-  pub map-refused : {n p : ℕ} → verdict (map_refusals m keys (length classes)) ≡ Refused n p → map_text m keys classes ≡ refusal_line n p
-  unfolding map_text
-  map-refused e = on-refused refusal_line _ [] e
-
--- ---- a file
-
--- what is printed for a file, by what reading it answers
-unfoldable by : List ℕ → Reading → List ℕ
-by text (reading.Refused n p) = refusal_line n p
-by text (reading.Read m q) = text
-
--- what is printed for the map of a file
-abbrev mapped : List ℕ → List ℕ
-mapped file = map_text (file_m file) (file_keys file) (file_classes file)
-
-start-by : (file ks cs : List ℕ) → length ks ≡ 1000 → length cs ≡ 1000 → by (mapped file) (read_of file ks cs).answer ≡ start_text file
-unfolding start_text start_refusals map_text by
-start-by file ks cs k c =
-    let read = read_refusals file 1000 1000 in
-    rw (read-by-lengths true file ks cs, k, c)
-    (answer-part (by (mapped file)) reading.Refused read (reading.Read (file_m file) (file_q file)) ∙ sym (answer-append refusal_line read _ []))
-
--- a file was read into cells for 1,000 records: the answer, and the cells then
 pub record Got (file ks cs : List ℕ) (r : Reading) (ks' cs' : List ℕ) : Type 0 where
   pub is : after r (ks', cs') ≡ read_of file ks cs
   pub keys : length ks ≡ 1000
   pub classes : length cs ≡ 1000
 
 module _ {file ks cs : List ℕ} {r : Reading} {ks' cs' : List ℕ} (g : Got file ks cs r ks' cs') where
-  told : {a : Reading} → r ≡ a → read_of file ks cs ≡ after a (ks', cs')
-  told d = sym g.is ∙ ap (λ (x : Reading). after x (ks', cs')) d
+  says : answer refuse (read_refusals file 1000 1000) (read (file_m file) (file_q file)) ≡ r
+  says = sym (read-by-lengths true file ks cs ∙ rw (g.keys, g.classes)) ∙ ap (λ (x : After Reading (List ℕ × List ℕ)). x.answer) (sym g.is)
 
-  pub start-room : {m q : ℕ} → r ≡ reading.Read m q → q ≤ 1000
-  start-room d = omega (arith, read-room true file ks cs (told d), g.keys)
+  module _ {e : Refused} (d : r ≡ Err e) where
+    pub read-refused : start_of file ≡ Err e
+    unfolding start_of start_refusals
+    read-refused = append-refused refuse (read_refusals file 1000 1000) _ _ (told _ _ (says ∙ d))
 
-  pub start-holds : {m q : ℕ} → r ≡ reading.Read m q → FileMap file m (take q ks') (take q cs')
-  start-holds d = read-holds true file ks cs (told d)
+  module _ {h : Header} (d : r ≡ Ok h) where
+    whole : read_of file ks cs ≡ after (Ok h) (ks', cs')
+    whole = sym g.is ∙ ap (λ (x : Reading). after x (ks', cs')) d
 
-  by_answer : {a : Reading} → r ≡ a → by (mapped file) a ≡ start_text file
-  by_answer d = rw (← ap (λ (x : After Reading (List ℕ × List ℕ)). x.answer) (told d)) (start-by file ks cs g.keys g.classes)
+    pub read-held : Held file h ks' cs'
+    read-held = record { few = omega (arith, read-room true file ks cs whole, g.keys); map = read-holds true file ks cs whole }
 
-  pub start-refused : {n p : ℕ} → r ≡ reading.Refused n p → refusal_line n p ≡ start_text file
-  unfolding by
-  start-refused d = by_answer d
+    passed : (verdict (read_refusals file 1000 1000) ≡ Ok tt) × (read (file_m file) (file_q file) ≡ Ok h)
+    passed = accepted refuse (read_refusals file 1000 1000) _ (λ c p f. cc) (says ∙ d)
+
+    pub map-refused : {e : Refused} → verdict (map_refusals h.m (take h.count ks') (length (take h.count cs'))) ≡ Err e → start_of file ≡ Err e
+    unfolding start_of start_refusals
+    map-refused {e} v =
+        let h = read-held.map in
+        let same : verdict (map_refusals (file_m file) (file_keys file) (length (file_classes file))) ≡ Err e = rw (h.m-is, h.keys-are, h.classes-are) at v in
+        append-passed refuse (read_refusals file 1000 1000) _ _ passed.0 ∙ on-refused refuse _ _ same
+
+    pub map-passed : verdict (map_refusals h.m (take h.count ks') (length (take h.count cs'))) ≡ Ok tt → start_of file ≡ Ok h
+    unfolding start_of start_refusals
+    map-passed v =
+        let h = read-held.map in
+        let same : verdict (map_refusals (file_m file) (file_keys file) (length (file_classes file))) ≡ Ok tt = rw (h.m-is, h.keys-are, h.classes-are) at v in
+        append-passed refuse (read_refusals file 1000 1000) _ _ passed.0 ∙ on-passed refuse _ _ same ∙ passed.1
+
+-- ---- what is printed
+
+module _ (file : List ℕ) where
+  pub start-begun : {h : Header} {keys classes out : List ℕ} → Ok h ≡ start_of file → Held file h keys classes → Begun file h keys classes out out
+  unfolding start_of start_text
+  start-begun d held = record { silent = (silent _).1 (accepted refuse (start_refusals file) _ (λ c p f. cc) (sym d)).0; held = held; kept = refl }
+
+  start-refused : {e : Refused} → Err e ≡ start_of file → start_text file ≡ refusal_line e.cause e.place
+  unfolding start_of start_text
+  start-refused d = on-refused refusal_line (start_refusals file) [] (told _ _ (sym d))
 
   -- a file that is refused is not passed over
-  pub start-some : {A : Type 0} {n p : ℕ} → r ≡ reading.Refused n p → start_text file ≡ [] → A
-  start-some d e = absurd (line-some _ _ (start-refused d ∙ e))
+  pub start-said : {e : Refused} {said : ℕ} {out out' : List ℕ} → Err e ≡ start_of file → after said out' ≡ put_of (refusal_line e.cause e.place) out → Said file said out out'
+  start-said d put = record { some = λ f. line-some _ _ (sym (start-refused d) ∙ f); text = rw (start-refused d) put }
 
-  pub start-read : {m q : ℕ} → r ≡ reading.Read m q → map_text m (take q ks') (take q cs') ≡ start_text file
-  unfolding by
-  start-read d = let h = start-holds d in rw (h.m-is, h.keys-are, h.classes-are) (by_answer d)
-
--- ---- where nothing was put
-
-none : (text : List ℕ) → length text ≡ 0 → text ≡ []
-none [] e = refl
-none (x ∷ text) e = absurd (omega arith)
-
--- though there was room for a line, the map is sound
-pub begun-sound : {file : List ℕ} {b : Begun} {keys classes out out' : List ℕ} → Started file b keys classes out out' → 24 ≤ length out → b.said ≡ 0
-    → SoundMap b.m (take b.count keys) (length (take b.count classes))
-unfolding start_text
-begun-sound {file} {b} {out = out} g room e =
-    let put = put-there (start_text file) out g.text (omega (arith, refused-most (start_refusals file))) in
-    let nothing = none (start_text file) (sym put.0 ∙ e) in
-    let h = g.map nothing in
-    rw (h.m-is, h.keys-are, h.classes-are) ((start-silent file).0 nothing).1
+-- where nothing is printed, the map is sound
+pub begun-sound : {file : List ℕ} {header : Header} {keys classes out out' : List ℕ} → Begun file header keys classes out out'
+    → SoundMap header.m (take header.count keys) (length (take header.count classes))
+begun-sound {file} b = let h = b.held.map in rw (h.m-is, h.keys-are, h.classes-are) ((start-silent file).0 b.silent).1

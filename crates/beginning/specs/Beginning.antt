@@ -1,14 +1,13 @@
 -- What is printed before the first window.
 -- Assumes nothing.
-use Rattle.std.specs.Prelude.{◌≡◌, List, [], ◌++◌, ℕ, ◌≤◌, length, take}
-use Rattle.answers.specs.Refusals.{Refusal}
+use Rattle.std.specs.Prelude.{◌≡◌, List, [], ◌++◌, ℕ, ◌≤◌, length, take, Result, Ok, Err}
+use Rattle.answers.specs.Refusals.{Refusal, answer, refuse}
 use Rattle.answers.specs.After.{after}
 use Rattle.map.specs.Check.{map_refusals}
-use Rattle.house.specs.File.{file_m, file_keys, file_classes, FileMap, read_refusals}
+use Rattle.house.specs.declared.Header.{Header}
+use Rattle.house.specs.File.{file_m, file_q, file_keys, file_classes, FileMap, Reading, read, read_refusals}
 use Rattle.text.specs.Text.{put_of}
 use Rattle.lines.specs.Lines.{refused_text}
-use Rattle.input.specs.Input.{whole_of}
-use Rattle.beginning.specs.declared.Begun.{Begun}
 
 -- what is printed for a map
 unfoldable pub map_text : ℕ → List ℕ → List ℕ → List ℕ
@@ -22,12 +21,26 @@ start_refusals file = read_refusals file 1000 1000 ++ map_refusals (file_m file)
 unfoldable pub start_text : List ℕ → List ℕ
 start_text file = refused_text (start_refusals file)
 
--- what is printed was put, and where that is nothing, the first cells are the map that the file holds
-pub record Started (file : List ℕ) (b : Begun) (keys classes out out' : List ℕ) : Type 0 where
-  pub text : after b.said out' ≡ put_of (start_text file) out
-  pub few : b.count ≤ 1000
-  pub map : start_text file ≡ [] → FileMap file b.m (take b.count keys) (take b.count classes)
+-- what that answers: m and the number of records, or a refusal
+unfoldable pub start_of : List ℕ → Reading
+start_of file = answer refuse (start_refusals file) (read (file_m file) (file_q file))
 
--- of bytes of which so many came: the file, where all of it did, and else none
-abbrev pub file_in : List ℕ → ℕ → List ℕ
-file_in bytes got = take (whole_of bytes got) bytes
+-- the first cells are the map that the file holds
+pub record Held (file : List ℕ) (header : Header) (keys classes : List ℕ) : Type 0 where
+  pub few : header.count ≤ 1000
+  pub map : FileMap file header.m (take header.count keys) (take header.count classes)
+
+-- nothing is printed for a file, and its map is held
+pub record Begun (file : List ℕ) (header : Header) (keys classes out out' : List ℕ) : Type 0 where
+  pub silent : start_text file ≡ []
+  pub held : Held file header keys classes
+  pub kept : out' ≡ out
+
+-- what is printed for it, which is not nothing, was put
+pub record Said (file : List ℕ) (said : ℕ) (out out' : List ℕ) : Type 0 where
+  pub some : start_text file ≡ [] → ⊥
+  pub text : after said out' ≡ put_of (start_text file) out
+
+abbrev pub Started : List ℕ → Result Header ℕ → List ℕ → List ℕ → List ℕ → List ℕ → Type 0
+Started file (Ok header) keys classes out out' = Begun file header keys classes out out'
+Started file (Err said) keys classes out out' = Said file said out out'
