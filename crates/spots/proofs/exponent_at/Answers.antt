@@ -28,16 +28,16 @@ module _ (c : After-ones) where
 
 pub returns-then-ones-over : goal.returns-then-ones-over
 returns-then-ones-over c =
-    let g = (goal.at.returns-then-ones-over c) in
+    let g = goal.at.returns-then-ones-over c in
     fits-unlike c.requires.1 (before g.Else-spot-pow4) c.requires.0 (tells g.After-ones) (less g.After-ones) (λ e. c.if-ones-over.true (c.ones.ensures ∙ sym (tells g.After-ones).entry ∙ e))
 
 pub returns-then-spot-exponent : goal.returns-then-spot-exponent
 returns-then-spot-exponent c =
-    let g = (goal.at.returns-then-spot-exponent c) in
+    let g = goal.at.returns-then-spot-exponent c in
     fits-large c.requires.1 (before g.Else-spot-pow4) c.requires.0 (tells g.After-ones) (less g.After-ones) c.if-spot-exponent.true
 
 pub returns : goal.returns
 returns c =
-    let g = (goal.at.returns c) in
-    let told = (tells g.After-ones).entry ∙ sym c.ones.ensures ∙ c.if-ones-over.false in
-    fits-here c.requires.1 (before g.Else-spot-pow4) c.requires.0 (tells g.After-ones) (less g.After-ones) told c.if-spot-exponent.false
+    let g = goal.at.returns c in
+    let equal = (tells g.After-ones).entry ∙ sym c.ones.ensures ∙ c.if-ones-over.false in
+    fits-here c.requires.1 (before g.Else-spot-pow4) c.requires.0 (tells g.After-ones) (less g.After-ones) equal c.if-spot-exponent.false
