@@ -5,7 +5,6 @@ ghost use Rattle.std.specs.Prelude.{◌≡◌, false, ◌+◌, ◌^◌, ◌≤�
 ghost use Rattle.answers.specs.Cells.{Listed};
 ghost use Rattle.answers.specs.After.{after};
 ghost use Rattle.key.specs.Blocks.{SomeBlock};
-ghost use Rattle.key.specs.Along.{ones_table};
 ghost use Rattle.window.specs.Window.{Inside};
 ghost use Rattle.map.specs.Sound.{Spaced};
 ghost use Rattle.pieces.specs.Pair.{Pair, class_over_map};
@@ -13,39 +12,43 @@ ghost use Rattle.pieces.specs.Cursors.{StandsAt};
 ghost use Rattle.select.specs.Select.{keys_into, select_keys};
 ghost use Rattle.overlay.specs.Select.{class_blocks, class_selection};
 ghost use Rattle.overlay.specs.Meeting.{Meeting};
-ghost use Rattle.overlay.specs.Overlay.{pairing, exist_over, report_over, select_over, view_of, part_in};
+ghost use Rattle.overlay.specs.declared.Layer.TheVariants.{Neither};
+ghost use Rattle.overlay.specs.Overlay.{of_map, pairing, exist_over, report_over, select_over, view_of, part_in};
 
-use answers::Verdict;
+use answers::{Cause, Refused};
 use exist::Existence;
 use pieces::Ahead;
-use report::Reported;
-use select::Selected;
-use window::{Next, Window};
+use window::Window;
 
-// What the check of both maps says: they can be laid over each other; or a refusal, of today's map, which is 1, of the baseline, which is 2, or of neither, which is 0.
-#[derive(Clone, Copy)]
-pub enum Pairing {
-    Passed,
-    Refused { map: u32, number: u32, place: u32 },
+// Which of the two maps a refusal is of: today's, the baseline, or neither.
+#[derive(Clone, Copy, Debug, PartialEq, Eq)]
+pub enum Layer {
+    Neither,
+    Today,
+    Baseline,
 }
 
-// What exist answers where both maps are sound and of one m, or why they are not. The same of report and of select.
-#[derive(Clone, Copy)]
-pub enum ExistOver {
-    Told { existence: Existence },
-    Refused { map: u32, number: u32, place: u32 },
+// Why there is no answer: a map is refused, or the two cannot be laid over each other, or what is asked of them is refused.
+#[derive(Clone, Copy, Debug, PartialEq, Eq)]
+pub struct Unpaired {
+    pub map: Layer,
+    pub refused: Refused,
 }
 
-#[derive(Clone, Copy)]
-pub enum ReportOver {
-    Told { reported: Reported },
-    Refused { map: u32, number: u32, place: u32 },
+impl Layer {
+    fn refuses(self, refused: Refused) -> Unpaired
+        ensures { result ≡ of_map self refused }
+    {
+        Unpaired { map: self, refused }
+    }
 }
 
-#[derive(Clone, Copy)]
-pub enum SelectOver {
-    Told { selected: Selected },
-    Refused { map: u32, number: u32, place: u32 },
+impl From<Refused> for Unpaired {
+    ghost from_gives = { λ refused u. u ≡ of_map Neither refused };
+
+    fn from(refused: Refused) -> Unpaired {
+        Layer::Neither.refuses(refused)
+    }
 }
 
 // So many records of a map, from the first on.
@@ -55,12 +58,11 @@ pub struct Records {
     pub count: u32,
 }
 
-// Which part of whose classes a viewer is lent, or a refusal.
+// Which part of whose classes a viewer is lent.
 #[derive(Clone, Copy)]
 pub enum Viewed {
     Today { first: u32, count: u32 },
     Baseline { first: u32, count: u32 },
-    Refused { map: u32, number: u32, place: u32 },
 }
 
 // Refusals 1 to 4 of today's map, 1 to 5 of the baseline, and 15.
@@ -71,39 +73,20 @@ pub fn check_pair(
     depth: u32,
     base: &[u32],
     beneath: &[u8],
-) -> Pairing
+) -> Result<(), Unpaired>
     ensures { result ≡ pairing m keys.now (length classes.now) depth base.now (length beneath.now) }
 {
-    let today = checks::sound(m, keys, classes, false);
-    if let Verdict::Refused { number, place } = today {
-        return Pairing::Refused {
-            map: 1,
-            number,
-            place,
-        };
-    }
-    let under = checks::sound(depth, base, beneath, true);
-    if let Verdict::Refused { number, place } = under {
-        return Pairing::Refused {
-            map: 2,
-            number,
-            place,
-        };
-    }
+    checks::sound(m, keys, classes, false).map_err(|refused| Layer::Today.refuses(refused))?;
+    checks::sound(depth, base, beneath, true).map_err(|refused| Layer::Baseline.refuses(refused))?;
     if m != depth {
-        return Pairing::Refused {
-            map: 0,
-            number: 15,
-            place: 0,
-        };
+        return Err(Layer::Neither.refuses(Cause::OtherM.at(0)));
     }
-    Pairing::Passed
+    Ok(())
 }
 
 // Of the block ahead, lists the fewest blocks that make up its places of the class behind n others. How many there are then.
 // Pieces of the class that follow one another are joined: the run from `from` on goes on with the next piece, or is listed.
 fn put_class(
-    ones: &[u32; 13],
     m: u32,
     keys: &[u32],
     classes: &[u8],
@@ -114,7 +97,7 @@ fn put_class(
     out: &mut [u32],
     n: u32,
 ) -> u32
-    requires ones_value { (ones.now ≡ ones_table) × Pair m keys.now (length classes.now) base.now (length beneath.now) × StandsAt m keys.now base.now ahead.stand × (ahead.stand.place ≤ ahead.end) × (ahead.end ≤ 4 ^ m) }
+    requires paired { Pair m keys.now (length classes.now) base.now (length beneath.now) × StandsAt m keys.now base.now ahead.stand × (ahead.stand.place ≤ ahead.end) × (ahead.end ≤ 4 ^ m) }
     requires end_bound { n + length (class_blocks m (class_over_map m keys.now classes.now base.now beneath.now) class ahead.stand.place ahead.end) ≤ 4294967295 }
     ensures { Listed n (class_blocks m (class_over_map m keys.now classes.now base.now beneath.now) class ahead.stand.place ahead.end) out.old result out.new }
 {
@@ -127,11 +110,11 @@ fn put_class(
         let piece = pieces::next_piece(m, keys, classes, base, beneath, stand, end);
         stand = pieces::go_on(m, keys, base, stand, piece.end);
         if piece.class != class {
-            k = stretch::put_between(ones, m, from, at, out, k);
+            k = stretch::put_between(m, from, at, out, k);
             from = piece.end;
         }
     }
-    stretch::put_between(ones, m, from, end, out, k)
+    stretch::put_between(m, from, end, out, k)
 }
 
 // Goes through the window's maximal blocks and lists what each has of the class. How many keys there are; those are written for which there is room.
@@ -148,29 +131,14 @@ fn put_all(
     requires { Pair m keys.now (length classes.now) base.now (length beneath.now) × Inside m window }
     ensures { Listed 0 (class_selection m (class_over_map m keys.now classes.now base.now beneath.now) window class) out.old result out.new }
 {
-    let ones = spots::ones_table();
-    let table = blocks::spread_table();
     let mut at = pieces::first_stand(m, keys, base);
-    let mut r = window.r0;
-    let mut c = window.c0;
     let mut n: u32 = 0;
-    loop {
-        let next = walk::next_block(window, m, r, c);
-        let Next::Block {
-            row,
-            col,
-            exponent,
-            after,
-        } = next
-        else {
-            return n;
-        };
-        let ahead = pieces::block_ahead(&table, m, keys, base, at, exponent, row, col);
+    for block in walk::blocks(window, m) {
+        let ahead = pieces::block_ahead(m, keys, base, at, block);
         at = ahead.stand;
-        n = put_class(&ones, m, keys, classes, base, beneath, ahead, class, out, n);
-        r = row;
-        c = after;
+        n = put_class(m, keys, classes, base, beneath, ahead, class, out, n);
     }
+    n
 }
 
 // The keys of the class, in the order of maximal blocks. A slice with a cell for each pixel of the window takes one pass; otherwise a first pass counts them and writes none, since 8
@@ -184,31 +152,19 @@ fn list_class(
     window: Window,
     class: u8,
     out: &mut [u32],
-) -> Selected
+) -> Result<u32, Refused>
     requires { Pair m keys.now (length classes.now) base.now (length beneath.now) × Inside m window }
     ensures { after result out.new ≡ keys_into (class_selection m (class_over_map m keys.now classes.now base.now beneath.now) window class) out.old }
 {
     let most = (window.h as usize) * (window.w as usize);
     if out.len() < most {
-        let needed = put_all(
-            m,
-            keys,
-            classes,
-            base,
-            beneath,
-            window,
-            class,
-            &mut out[..0],
-        );
+        let needed = put_all(m, keys, classes, base, beneath, window, class, &mut out[..0]);
         if out.len() < needed as usize {
-            return Selected::Refused {
-                number: 8,
-                place: needed,
-            };
+            return Err(Cause::ShortRoom.at(needed));
         }
     }
     let count = put_all(m, keys, classes, base, beneath, window, class, out);
-    Selected::Done { count }
+    Ok(count)
 }
 
 // The keys of a class in the window, of maps that were checked. Refusals 6 to 8.
@@ -222,14 +178,11 @@ fn select_pair(
     class: u8,
     border: &mut [u16],
     out: &mut [u32],
-) -> Selected
+) -> Result<u32, Refused>
     requires { Pair m keys.now (length classes.now) base.now (length beneath.now) }
     ensures { after result (border.new, out.new) ≡ select_keys false (class_selection m (class_over_map m keys.now classes.now base.now beneath.now) window class) m m keys.now (length classes.now) window border.old out.old }
 {
-    let verdict = used::in_view(m, window, border.len());
-    if let Verdict::Refused { number, place } = verdict {
-        return Selected::Refused { number, place };
-    }
+    used::in_view(m, window, border.len())?;
     sparse::spend(window, border);
     list_class(m, keys, classes, base, beneath, window, class, out)
 }
@@ -245,15 +198,12 @@ pub fn exist(
     window: Window,
     class: u8,
     border: &mut [u16],
-) -> ExistOver
+) -> Result<Existence, Unpaired>
     ensures { after result border.new ≡ exist_over m keys.now classes.now depth base.now beneath.now window class border.old }
 {
-    let pairing = check_pair(m, keys, classes, depth, base, beneath);
-    if let Pairing::Refused { map, number, place } = pairing {
-        return ExistOver::Refused { map, number, place };
-    }
-    let existence = sparse::exist_over(m, keys, classes, base, beneath, window, class, border);
-    ExistOver::Told { existence }
+    check_pair(m, keys, classes, depth, base, beneath)?;
+    let existence = sparse::exist_over(m, keys, classes, base, beneath, window, class, border)?;
+    Ok(existence)
 }
 
 // How many pixels of the window each class has.
@@ -267,15 +217,12 @@ pub fn report(
     window: Window,
     border: &mut [u16],
     out: &mut [u32],
-) -> ReportOver
+) -> Result<u32, Unpaired>
     ensures { after result (border.new, out.new) ≡ report_over m keys.now classes.now depth base.now beneath.now window border.old out.old }
 {
-    let pairing = check_pair(m, keys, classes, depth, base, beneath);
-    if let Pairing::Refused { map, number, place } = pairing {
-        return ReportOver::Refused { map, number, place };
-    }
-    let reported = sparse::report_over(m, keys, classes, base, beneath, window, border, out);
-    ReportOver::Told { reported }
+    check_pair(m, keys, classes, depth, base, beneath)?;
+    let pixels = sparse::report_over(m, keys, classes, base, beneath, window, border, out)?;
+    Ok(pixels)
 }
 
 // The keys of a class in the window: of each maximal block the fewest that make up its pixels of the class.
@@ -290,15 +237,12 @@ pub fn select(
     class: u8,
     border: &mut [u16],
     out: &mut [u32],
-) -> SelectOver
+) -> Result<u32, Unpaired>
     ensures { after result (border.new, out.new) ≡ select_over m keys.now classes.now depth base.now beneath.now window class border.old out.old }
 {
-    let pairing = check_pair(m, keys, classes, depth, base, beneath);
-    if let Pairing::Refused { map, number, place } = pairing {
-        return SelectOver::Refused { map, number, place };
-    }
-    let selected = select_pair(m, keys, classes, base, beneath, window, class, border, out);
-    SelectOver::Told { selected }
+    check_pair(m, keys, classes, depth, base, beneath)?;
+    let count = select_pair(m, keys, classes, base, beneath, window, class, border, out)?;
+    Ok(count)
 }
 
 // The records of a map that overlap the block of a key: from the first that ends behind its first place up to those with keys beyond its own. `runs::records_of`, which says how far
@@ -308,9 +252,8 @@ fn overlapping(m: u32, keys: &[u32], key: u32) -> Records
     ensures { Meeting m keys.now key result }
 {
     let block = digits::span_of(m, key);
-    let table = blocks::spread_table();
     let from = pieces::seek(m, keys, key, block.start).next;
-    let beyond = key + blocks::pow5(&table, block.exponent);
+    let beyond = key + blocks::pow5(block.exponent);
     let count = runs::keys_below(keys, beyond, from) - from;
     Records {
         first: from as u32,
@@ -319,7 +262,7 @@ fn overlapping(m: u32, keys: &[u32], key: u32) -> Records
 }
 
 // Which part of whose classes a viewer is lent for the block of a key: those of today's records that overlap it, or where none does those of the baseline's.
-// The key is looked at as the check looks at that of a record: 27 is given where it would give 3.
+// The key is read as the check reads that of a record: 27 is given where it would give 3.
 pub fn view(
     m: u32,
     keys: &[u32],
@@ -328,37 +271,25 @@ pub fn view(
     base: &[u32],
     beneath: &[u8],
     key: u32,
-) -> Viewed
+) -> Result<Viewed, Unpaired>
     ensures { result ≡ view_of m keys.now (length classes.now) depth base.now (length beneath.now) key }
 {
-    let pairing = check_pair(m, keys, classes, depth, base, beneath);
-    if let Pairing::Refused { map, number, place } = pairing {
-        return Viewed::Refused { map, number, place };
-    }
-    let block: [u32; 1] = [key];
-    let class: [u8; 1] = [0];
-    let sound = checks::sound(m, &block, &class, false);
-    if let Verdict::Refused {
-        number: _,
-        place: _,
-    } = sound
-    {
-        return Viewed::Refused {
-            map: 0,
-            number: 27,
-            place: 0,
-        };
+    check_pair(m, keys, classes, depth, base, beneath)?;
+    if digits::read_key(m, key).is_none() {
+        return Err(Layer::Neither.refuses(Cause::NoBlock.at(0)));
     }
     let today = overlapping(m, keys, key);
-    let first = today.first;
-    let count = today.count;
-    if count == 0 {
+    if today.count == 0 {
         let under = overlapping(m, base, key);
-        let first = under.first;
-        let count = under.count;
-        return Viewed::Baseline { first, count };
+        return Ok(Viewed::Baseline {
+            first: under.first,
+            count: under.count,
+        });
     }
-    Viewed::Today { first, count }
+    Ok(Viewed::Today {
+        first: today.first,
+        count: today.count,
+    })
 }
 
 // The part itself, of the caller's own slice; empty on a refusal.
@@ -373,24 +304,17 @@ pub fn part<'a>(
 ) -> &'a [u8]
     ensures { result.now ≡ part_in classes.now beneath.now (view_of m keys.now (length classes.now) depth base.now (length beneath.now) key) }
 {
-    let viewed = view(m, keys, classes, depth, base, beneath, key);
-    match viewed {
-        Viewed::Today { first, count } => {
+    match view(m, keys, classes, depth, base, beneath, key) {
+        Ok(Viewed::Today { first, count }) => {
             let start = first as usize;
             let end = start + (count as usize);
-            return &classes[start..end];
+            &classes[start..end]
         }
-        Viewed::Baseline { first, count } => {
+        Ok(Viewed::Baseline { first, count }) => {
             let start = first as usize;
             let end = start + (count as usize);
-            return &beneath[start..end];
+            &beneath[start..end]
         }
-        Viewed::Refused {
-            map: _,
-            number: _,
-            place: _,
-        } => {
-            return &classes[..0];
-        }
+        Err(_) => &classes[..0],
     }
 }
