@@ -158,7 +158,7 @@ fn list_class(
 {
     let most = (window.h as usize) * (window.w as usize);
     if out.len() < most {
-        let needed = put_all(m, keys, classes, base, beneath, window, class, &mut out[..0]);
+        let needed = put_all(m, keys, classes, base, beneath, window, class, &mut []);
         if out.len() < needed as usize {
             return Err(Cause::ShortRoom.at(needed));
         }

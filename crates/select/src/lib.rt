@@ -56,7 +56,7 @@ pub fn list_keys(
     ensures { after result out.new ≡ keys_into (selection m top keys.now classes.now window class) out.old }
 {
     if out.len() < walk::most_blocks(window, top) + keys.len() {
-        let needed = pick_all(m, keys, classes, window, top, class, &mut out[..0]);
+        let needed = pick_all(m, keys, classes, window, top, class, &mut []);
         if out.len() < needed as usize {
             return Err(Cause::ShortRoom.at(needed));
         }

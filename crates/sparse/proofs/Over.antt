@@ -6,8 +6,8 @@ use mathlib.Core.List.{List, [], ◌∷◌}
 use Prim.Native.Nat.{ℕ}
 use native.Mathlib.Omega.{arith}
 use lib.ListN.{length}
-use Rattle.answers.specs.declared.Verdict.{Verdict}
-use Rattle.answers.specs.declared.Verdict.TheVariants.{Passed}
+use Rattle.std.specs.Prelude.{Result, Ok}
+use Rattle.answers.specs.declared.Refused.{Refused}
 use Rattle.answers.specs.Refusals.{verdict}
 use Rattle.answers.proofs.Laws.{tile-passed}
 use Rattle.window.specs.declared.Window.{Window}
@@ -25,20 +25,20 @@ use Rattle.pieces.specs.Pair.{Pair, class_over_map}
 use Rattle.pieces.proofs.Laws.{pair-today, one-pair, one-exists, one-totals}
 
 module _ {m : ℕ} {keys : List ℕ} {classes : ℕ} {base : List ℕ} {beneath : ℕ} (P : Pair m keys classes base beneath) where
-  module _ (W : Window) (cells : ℕ) {v : Verdict} (e : v ≡ verdict (view_refusals m W cells)) where
+  module _ (W : Window) (cells : ℕ) {v : Result Unit Refused} (e : v ≡ verdict (view_refusals m W cells)) where
     -- what 6 and 7 say
-    pub pair-view : {t : Verdict} → v ≡ t → verdict (use_refusals_in false m keys classes W cells) ≡ t
+    pub pair-view : {t : Result Unit Refused} → v ≡ t → verdict (use_refusals_in false m keys classes W cells) ≡ t
     pair-view d = use-view false m keys classes W cells ((sound-map m keys classes).1 (pair-today P)) ∙ sym e ∙ d
 
     -- blocks as large as the picture are refused by nothing else
-    pub pair-tiled : {t : Verdict} → v ≡ t → verdict (tiled_refusals false m m keys classes W cells) ≡ t
+    pub pair-tiled : {t : Result Unit Refused} → v ≡ t → verdict (tiled_refusals false m m keys classes W cells) ≡ t
     pair-tiled d = tiled-next false m m keys classes W cells ((tile-passed m m).1 (P.small, omega arith)) ∙ pair-view d
 
-    pub pair-known : v ≡ Passed → Usable m m keys W cells
+    pub pair-known : v ≡ Ok tt → Usable m m keys W cells
     pair-known d = use-known false m keys classes W cells (pair-view d)
 
 -- where refusals 1 to 4 do not hold, the map is over a baseline of one record
-module _ (m : ℕ) (keys classes : List ℕ) (e : verdict (map_refusals_in false m keys (length classes)) ≡ Passed) where
+module _ (m : ℕ) (keys classes : List ℕ) (e : verdict (map_refusals_in false m keys (length classes)) ≡ Ok tt) where
   sound : SoundIn false m keys (length classes)
   sound = (sound-map m keys (length classes)).0 e
 

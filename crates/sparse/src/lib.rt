@@ -23,7 +23,7 @@ pub fn spend(window: Window, border: &mut [u16])
     requires { Inside 12 window × (window.w ≤ length border.old) }
     ensures { border.new ≡ spent window border.old }
 {
-    step::fill(border, 0, window.w as usize, window.r0 + window.h);
+    border[..window.w as usize].fill(window.r0 + window.h);
 }
 
 // Yes, no, or it cannot tell.

@@ -32,15 +32,13 @@ fn put_run(
     let end = block.start + blocks::pow4(block.exponent);
     let mut spot = spots::begin(m, key, block.exponent, block.start);
     let mut k = n;
-    let mut i = run.first as usize;
-    let last = i + (run.count as usize);
-    while i < last {
+    let first = run.first as usize;
+    for i in first..first + (run.count as usize) {
         let own = keys[i];
         let at = digits::span_of(m, own);
         k = stretch::put_stretch(m, spot, at.start, out, k);
         k = pick::pick_around(classes, class, own, i, out, k);
         spot = spots::advance(m, own, at.exponent, at.start);
-        i += 1;
     }
     stretch::put_stretch(m, spot, end, out, k)
 }
@@ -110,7 +108,7 @@ fn list_background(
 {
     let most = (window.h as usize) * (window.w as usize);
     if out.len() < most {
-        let needed = put_all(m, keys, classes, window, top, class, &mut out[..0]);
+        let needed = put_all(m, keys, classes, window, top, class, &mut []);
         if out.len() < needed as usize {
             return Err(Cause::ShortRoom.at(needed));
         }

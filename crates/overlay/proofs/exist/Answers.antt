@@ -1,34 +1,24 @@
 -- `overlay::exist` meets its contract: behind the check of both maps.
-use mathlib.Core.Path.{◌≡◌, sym, ◌∙◌}
-use lib.ListN.{length}
-use Rattle.overlay.specs.declared.Pairing.TheVariants.{Passed}
-use Rattle.overlay.specs.declared.ExistOver.TheVariants.{Told, Refused}
-use Rattle.overlay.specs.Overlay.{pairing, exist_over}
+use mathlib.Core.Path.{sym, ◌∙◌}
+use Rattle.answers.proofs.Laws.{handed-on}
+use Rattle.overlay.specs.Overlay.{of_both, exist_over}
 use Rattle.overlay.proofs.Pairs.{paired, over-refused, over-told}
 use Rattle.overlay.proofs.exist.Goals as goal
-use Rattle.overlay.proofs.exist.Goals.{Start}
-use Rattle.overlay.proofs.exist.Lts as lts
-use Rattle.overlay.proofs.exist.Reads as reads
-use Rattle.overlay.proofs.exist.Tie as tie
 
-abbrev In_default : Type 0
-In_default = lts.Past-After-enum_told tie.the-claims reads.Pre reads.Post
-
-pub returns-in-Refused : goal.returns-in-Refused
+pub returns-in_err-check_pair : goal.returns-in_err-check_pair
 unfolding exist_over
-returns-in-Refused c = over-refused Refused Told _ _ (sym c.check_pair-pairing.ensures ∙ c.in-Refused.is)
+returns-in_err-check_pair c = rw (handed-on c.from_residual.ensures) (over-refused of_both _ _ (sym c.check_pair.ensures ∙ c.in_err-check_pair.was))
 
 -- both are sound
-module _ (c : In_default) where
-  abbrev entry : Start
-  entry = c.before.before.before.before.before.before.before
+pub exist_over-requires : goal.exist_over-requires
+exist_over-requires c = paired _ _ _ _ _ _ (sym c.check_pair.ensures ∙ c.in_ok-check_pair.was)
 
-  passed : pairing entry.args.m entry.args.keys.now (length entry.args.classes.now) entry.args.depth entry.args.base.now (length entry.args.beneath.now) ≡ Passed
-  passed = sym c.check_pair-pairing.ensures ∙ c.in_default.is
-
-pub exist_over-existence-requires : goal.exist_over-existence-requires
-exist_over-existence-requires c = paired _ _ _ _ _ _ (passed c.before.before)
+pub returns-in_err-existence : goal.returns-in_err-existence
+unfolding exist_over
+returns-in_err-existence c =
+    rw (handed-on c.from_residual-in_err-existence.ensures)
+    (over-told of_both _ _ (sym c.check_pair.ensures ∙ c.in_ok-check_pair.was) (rw c.in_err-existence.was at c.exist_over.ensures))
 
 pub returns : goal.returns
 unfolding exist_over
-returns c = over-told Refused Told _ _ (passed c.before.before.before.before.before) c.exist_over-existence.ensures
+returns c = over-told of_both _ _ (sym c.check_pair.ensures ∙ c.in_ok-check_pair.was) (rw c.in_ok-existence.was at c.exist_over.ensures)

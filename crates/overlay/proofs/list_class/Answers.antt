@@ -1,67 +1,30 @@
 -- `overlay::list_class` meets its contract. The pass that counts writes nothing; where keys are written there is room for all.
-use mathlib.Core.Path.{◌≡◌, ap, ◌∙◌}
-use mathlib.Core.List.{List}
-use Prim.Native.Nat.{ℕ, ◌*◌, ◌≤◌}
+use mathlib.Core.Path.{refl}
 use native.Mathlib.Omega.{arith}
 use lib.ListN.{length}
-use Rattle.answers.proofs.Laws.{listed-nothing, listed_same}
+use Prim.Native.Nat.{◌≤◌}
 use Rattle.window.proofs.Laws.{inside-12, pixels-most}
 use Rattle.select.proofs.Laws.{keys-short, keys-done}
 use Rattle.pieces.specs.Pair.{class_over_map}
 use Rattle.overlay.specs.Select.{class_selection}
 use Rattle.overlay.proofs.Blocks.{class-most}
 use Rattle.overlay.proofs.list_class.Goals as goal
-use Rattle.overlay.proofs.list_class.Goals.{Start}
-use Rattle.overlay.proofs.list_class.Lts as lts
-use Rattle.overlay.proofs.list_class.Reads as reads
-use Rattle.overlay.proofs.list_class.Tie as tie
-
-abbrev Joined-out-most : Type 0
-Joined-out-most = lts.Joined1 tie.the-claims reads.Pre reads.Post
-
--- what is lent, and chosen from it
-module _ (entry : Start) where
-  abbrev rule : ℕ → ℕ
-  rule = class_over_map entry.args.m entry.args.keys.now entry.args.classes.now entry.args.base.now entry.args.beneath.now
-
-  abbrev chosen : List ℕ
-  chosen = class_selection entry.args.m rule entry.args.window entry.args.class
-
-  abbrev lent : List ℕ
-  lent = entry.args.out.now
-
-  few : length chosen ≤ entry.args.window.h * entry.args.window.w
-  few = class-most entry.args.m rule entry.args.class entry.requires.0.today entry.requires.1
 
 pub overflow_mul-most : goal.overflow_mul-most
 overflow_mul-most c = omega (arith, pixels-most c.args.window (inside-12 c.requires.0.small c.requires.1))
 
 pub returns-then-out-needed : goal.returns-then-out-needed
 returns-then-out-needed c =
-    let k = c.before.before.before.before.before.before.before.before.before.before.before.before.before.before in
     let L = c.put_all-needed.ensures in
-    let same = listed-nothing {xs = chosen k} L (lent k) in
-    keys-short (chosen k) (lent k) (omega (arith, L.count)) (omega (arith, c.if-out-needed.true, ap length same)) same
-
--- where the keys are written: the slice is as it was, and has room for all
-abbrev start : Joined-out-most → Start
-start c = c.before.before.before.before.before.before.before.before
-
-ready : (c : Joined-out-most) → (c.if-out-most.out ≡ lent (start c)) × (length (chosen (start c)) ≤ length (lent (start c)))
-ready c =
-    let e = start c in
-    elim c.if-out-most.branch [
-      | goal.then-out-most+else-out-needed w ↦
-          let same = listed-nothing {xs = chosen e} w.put_all-needed.ensures (lent e) in
-          (w.out-is ∙ same, omega (arith, w.put_all-needed.ensures.count, w.if-out-needed.false, ap length same))
-      | goal.else-out-most w ↦ (w.out-is, omega (arith, few e, w.if-out-most.false))
-    ]
-
-pub shape_of-out : goal.shape_of-out
-shape_of-out c = listed_same c.put_all-count.ensures ∙ ap length (ready c.before.before.before.before.before).0
+    rw c.at.ensures (keys-short _ _ (omega (arith, L.count)) (omega (arith, c.if-out-needed.true)) refl)
 
 pub returns : goal.returns
 returns c =
-    let k = c.before.before.before.before.before in
-    let r = ready k in
-    keys-done (chosen (start k)) _ (rw r.0 at c.put_all-count.ensures) r.1
+    let a = c.args in
+    let few = class-most a.m (class_over_map a.m a.keys.now a.classes.now a.base.now a.beneath.now) a.class c.requires.0.today c.requires.1 in
+    let room : length (class_selection a.m (class_over_map a.m a.keys.now a.classes.now a.base.now a.beneath.now) a.window a.class) ≤ length a.out.now =
+    elim c.if-out-most.branch [
+      | goal.then-out-most+else-out-needed w ↦ omega (arith, w.put_all-needed.ensures.count, w.if-out-needed.false)
+      | goal.else-out-most w ↦ omega (arith, few, w.if-out-most.false)
+    ] in
+    keys-done _ _ c.put_all-count.ensures room

@@ -1,34 +1,24 @@
 -- `overlay::select` meets its contract: behind the check of both maps.
-use mathlib.Core.Path.{◌≡◌, sym, ◌∙◌}
-use lib.ListN.{length}
-use Rattle.overlay.specs.declared.Pairing.TheVariants.{Passed}
-use Rattle.overlay.specs.declared.SelectOver.TheVariants.{Told, Refused}
-use Rattle.overlay.specs.Overlay.{pairing, select_over}
+use mathlib.Core.Path.{sym, ◌∙◌}
+use Rattle.answers.proofs.Laws.{handed-on}
+use Rattle.overlay.specs.Overlay.{of_both, select_over}
 use Rattle.overlay.proofs.Pairs.{paired, over-refused, over-told}
 use Rattle.overlay.proofs.select.Goals as goal
-use Rattle.overlay.proofs.select.Goals.{Start}
-use Rattle.overlay.proofs.select.Lts as lts
-use Rattle.overlay.proofs.select.Reads as reads
-use Rattle.overlay.proofs.select.Tie as tie
 
-abbrev In_default : Type 0
-In_default = lts.Past-After-enum_told tie.the-claims reads.Pre reads.Post
-
-pub returns-in-Refused : goal.returns-in-Refused
+pub returns-in_err-check_pair : goal.returns-in_err-check_pair
 unfolding select_over
-returns-in-Refused c = over-refused Refused Told _ _ (sym c.check_pair-pairing.ensures ∙ c.in-Refused.is)
+returns-in_err-check_pair c = rw (handed-on c.from_residual.ensures) (over-refused of_both _ _ (sym c.check_pair.ensures ∙ c.in_err-check_pair.was))
 
 -- both are sound
-module _ (c : In_default) where
-  abbrev entry : Start
-  entry = c.before.before.before.before.before.before.before.before
+pub select_pair-requires : goal.select_pair-requires
+select_pair-requires c = paired _ _ _ _ _ _ (sym c.check_pair.ensures ∙ c.in_ok-check_pair.was)
 
-  passed : pairing entry.args.m entry.args.keys.now (length entry.args.classes.now) entry.args.depth entry.args.base.now (length entry.args.beneath.now) ≡ Passed
-  passed = sym c.check_pair-pairing.ensures ∙ c.in_default.is
-
-pub select_pair-selected-requires : goal.select_pair-selected-requires
-select_pair-selected-requires c = paired _ _ _ _ _ _ (passed c.before.before.before)
+pub returns-in_err-count : goal.returns-in_err-count
+unfolding select_over
+returns-in_err-count c =
+    rw (handed-on c.from_residual-in_err-count.ensures)
+    (over-told of_both _ _ (sym c.check_pair.ensures ∙ c.in_ok-check_pair.was) (rw c.in_err-count.was at c.select_pair.ensures))
 
 pub returns : goal.returns
 unfolding select_over
-returns c = over-told Refused Told _ _ (passed c.before.before.before.before.before.before.before.before) c.select_pair-selected.ensures
+returns c = over-told of_both _ _ (sym c.check_pair.ensures ∙ c.in_ok-check_pair.was) (rw c.in_ok-count.was at c.select_pair.ensures)

@@ -1,11 +1,6 @@
--- `select::pick_all` meets its contract. The invariant is `Selecting`, the measure the number of blocks left.
-use lib.ListN.{length}
-use Rattle.window.specs.Walk.{blocks_from}
+-- `select::pick_all` meets its contract. The invariant is `Selecting`.
 use Rattle.select.proofs.Selects.{Selecting}
 use Rattle.select.proofs.pick_all.Given as goal
 
-abbrev pub invariant-loop-row : goal.invariant-loop-row
-invariant-loop-row l = Selecting l.m l.top l.keys l.classes l.window l.class l.initial.out l.out (l.r, l.c) l.n l.seen
-
-abbrev pub decreases-loop-row : goal.decreases-loop-row
-decreases-loop-row l = length (blocks_from l.window l.top (l.r, l.c))
+abbrev pub invariant-loop-block : goal.invariant-loop-block
+invariant-loop-block l = Selecting l.m l.top l.keys l.classes l.fn.window l.class l.initial.out l.out l.block-iterator l.n l.seen

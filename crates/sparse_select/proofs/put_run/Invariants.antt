@@ -1,10 +1,6 @@
--- `sparse_select::put_run` meets its contract. The invariant is `Merging`, the measure the number of records left.
-use Prim.Native.Nat.{◌-◌}
+-- `sparse_select::put_run` meets its contract. The invariant is `Merging`.
 use Rattle.sparse_select.proofs.Merging.{Merging}
 use Rattle.sparse_select.proofs.put_run.Given as goal
 
 abbrev pub invariant-loop-i : goal.invariant-loop-i
-invariant-loop-i l = Merging l.m l.keys l.classes l.class l.key l.end l.last l.n l.initial.out l.out l.spot l.i l.k
-
-abbrev pub decreases-loop-i : goal.decreases-loop-i
-decreases-loop-i l = l.last - l.i
+invariant-loop-i l = Merging l.m l.keys l.classes l.class l.key l.end l.i-end l.n l.initial.out l.out l.spot l.i l.k
