@@ -14,12 +14,6 @@ pub keys_below-first-requires : goal.keys_below-first-requires
 keys_below-first-requires c = (keys-rise c.requires.0.spaced, between_first _ _)
 
 -- where no record lies in the block: the one around it, or none
-pub record_around-run-requires : goal.record_around-run-requires
-record_around-run-requires c =
-    let p = c.requires in
-    let none : Splits c.args.keys.now (c.args.key + 5 ^ c.args.exponent) c.keys_below-first.result = rw (c.if-count-eq0.true, add-zero) at c.records_inside-count.ensures in
-    (p.0.small, p.0.few, p.0.spaced, p.1, c.keys_below-first.ensures, none)
-
 pub pick_around-requires : goal.pick_around-requires
 pick_around-requires c =
     let A = asked-run c.requires.0 c.record_around-run.ensures in

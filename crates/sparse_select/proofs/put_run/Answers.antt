@@ -6,32 +6,17 @@ use Rattle.key.proofs.Laws.{one_block, block-lies, pow-most}
 use Rattle.sparse_select.proofs.Merging.{merging-room, merging-first, merging-record, merging-some, merging-next, merging-few, merging-last}
 use Rattle.sparse_select.proofs.put_run.Goals as goal
 
-pub span_of-block-requires : goal.span_of-block-requires
-span_of-block-requires c = let b = c.requires.1 in (c.requires.0.small, record { exponent = c.args.run.reach; start = b.start; names = b.names })
-
 pub pow4-requires : goal.pow4-requires
 pow4-requires c = omega (arith, (block-lies c.span_of-block.ensures).small, c.requires.0.small)
 
 pub overflow_add-end : goal.overflow_add-end
 overflow_add-end c = omega (arith, (block-lies c.span_of-block.ensures).span, pow-most 3 c.args.m c.requires.0.small, c.pow4.ensures)
 
-pub begin-spot-requires : goal.begin-spot-requires
-begin-spot-requires c = (c.requires.0.small, c.span_of-block.ensures)
-
-pub overflow_add-i : goal.overflow_add-i
-overflow_add-i c = let short = (one_block c.requires.1.names c.span_of-block.ensures).0 in omega (arith, merging-room c.requires.0 c.span_of-block.ensures short)
-
 pub loop-i-init : goal.loop-i-init
 loop-i-init c =
     let short = (one_block c.requires.1.names c.span_of-block.ensures).0 in
     let g = c.begin-spot.ensures in
     merging-first c.requires.0 c.span_of-block.ensures short _ g.0 g.1 (omega (arith, c.pow4.ensures.is)) refl
-
-pub bounds-keys-i : goal.bounds-keys-i
-bounds-keys-i c = (merging-record c.loop-i.invariant c.loop-i-test.true).0
-
-pub span_of-at-requires : goal.span_of-at-requires
-span_of-at-requires c = (c.requires.0.small, (merging-record c.loop-i.invariant c.loop-i-test.true).1)
 
 pub put_stretch-k-requires : goal.put_stretch-k-requires
 put_stretch-k-requires c =
@@ -45,9 +30,6 @@ pick_around-k-requires c =
     let some = merging-some S c.loop-i-test.true c.span_of-at.ensures in
     (rw (← c.requires.0.same) (merging-record S c.loop-i-test.true).0, omega (arith, some, c.put_stretch-k.ensures.count, c.requires.0.room))
 
-pub advance-spot-requires : goal.advance-spot-requires
-advance-spot-requires c = (c.requires.0.small, c.span_of-at.ensures)
-
 pub loop-i-preserved : goal.loop-i-preserved
 loop-i-preserved c =
     let e = c.advance-spot.ensures in
@@ -59,9 +41,6 @@ put_stretch-requires c =
     let l = (block-lies c.span_of-block.ensures).span in
     let few = merging-few M (omega (arith, c.loop-i-test.false)) in
     (c.requires.0.small, M.stands, omega (arith, l, c.pow4.ensures.is), omega (arith, few, c.requires.0.room))
-
-pub shape_of-out : goal.shape_of-out
-shape_of-out c = listed_same c.put_stretch.ensures ∙ listed_same c.loop-i.invariant.listing
 
 pub returns : goal.returns
 returns c = merging-last c.loop-i.invariant (omega (arith, c.loop-i-test.false)) c.put_stretch.ensures
