@@ -13,7 +13,7 @@ use Rattle.lists.specs.Lists.{up_from, keep, Ordered, none, more}
 use Rattle.lists.proofs.Laws.{distinct-map, up_in, up-distinct, keep-in, keep-true, in-keep, ordered-keep}
 use Rattle.key.specs.Form.{form_of}
 use Rattle.key.specs.Blocks.{Names, Among}
-use Rattle.key.proofs.Laws.{Covers, Stand, within as lies_in, around as stands-around, after, before, within, blocks-stand}
+use Rattle.key.proofs.Laws.{Covers, Stand, within as lies_in, around as stands-around, after, before, blocks-stand}
 use Rattle.map.specs.Spans.{holds}
 use Rattle.map.specs.Sound.{Spaced}
 use Rattle.map.specs.Records.{record_of}

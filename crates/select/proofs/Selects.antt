@@ -97,7 +97,7 @@ module _ {m top : ℕ} {keys classes : List ℕ} {W : Window} {class : ℕ} {out
     pub selecting-run : Overlapped keys b.exponent own
     selecting-run = record { some = λ l. omega (arith, ap (λ (x : Run). x.count) f, (around l).one); room = rw found (met-room U.spaced U.inside U.cap K) }
 
-    pub selecting-next : {out' : List ℕ} {n' : ℕ} {after : Seen} → Listed n (picked keys classes class key i own) out n' out'
+    pub selecting-next : {out' : List ℕ} {n' : ℕ} {after : Seen} → Listed n (picked keys classes class key b.exponent own) out n' out'
         → Known m keys after.near × Known m keys after.other → Selecting m top keys classes W class out₀ out' t n' after
     selecting-next L k =
         let p : picked keys classes class key b.exponent own ≡ selected m keys classes class (key_of m top W (corner_of b)) =

@@ -1,6 +1,6 @@
 -- Selecting a class: for each maximal block its own key, or the keys of records inside it.
 -- Assumes nothing.
-use Rattle.std.specs.Prelude.{Bool, true, cond, ◌&&◌, List, [], ◌∷◌, ◌++◌, map, ℕ, ◌+◌, length, get_or, Result, Ok}
+use Rattle.std.specs.Prelude.{Bool, true, cond, ◌&&◌, List, [], ◌∷◌, ◌++◌, map, ℕ, length, get_or, Result, Ok}
 use Rattle.lists.specs.Lists.{up_from, any, keep}
 use Rattle.answers.specs.declared.Refused.{Refused}
 use Rattle.answers.specs.Refusals.{refuse}

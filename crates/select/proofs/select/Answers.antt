@@ -24,7 +24,7 @@ pub slice_bounds-fill-end : goal.slice_bounds-fill-end
 slice_bounds-fill-end c = (tiled-known true _ _ _ _ _ _ (sym c.usable_tiled.ensures ∙ c.in_ok-usable_tiled.was)).wide
 
 pub slice_bounds-fill-end-2 : goal.slice_bounds-fill-end-2
-slice_bounds-fill-end-2 c = 
+slice_bounds-fill-end-2 c =
     let wide = (tiled-known true _ _ _ _ _ _ (sym c.usable_tiled.ensures ∙ c.in_ok-usable_tiled.was)).wide in
     simp length-take (omega arith)
 
