@@ -6,7 +6,7 @@ use mathlib.Core.List.{List}
 use Prim.Native.Nat.{ℕ, ◌*◌, ◌≤◌}
 use native.Mathlib.Omega.{arith}
 use lib.ListN.{length, take}
-use Rattle.std.specs.Prelude.{Ok, Err}
+use Rattle.std.specs.Prelude.{Result, Ok, Err}
 use Rattle.answers.specs.declared.Cause.{Cause}
 use Rattle.answers.specs.declared.Refused.{Refused}
 use Rattle.answers.specs.Refusals.{refuse, verdict}
@@ -43,4 +43,8 @@ module _ (m : ℕ) (keys classes : List ℕ) (W : Window) (border out : List ℕ
   unfolding report_in
   uncounted {r} room e =
       let fits : length (totals m keys classes W) ≤ length out = omega (arith, totals-length m keys classes W) in
-      ? (used-roomy true refuse (Ok (W.h * W.w)) (totals m keys classes W) m keys (length classes) W border out (λ c p. reported-apart c p) fits e)
+      go (used-roomy true refuse (Ok (W.h * W.w)) (totals m keys classes W) m keys (length classes) W border out (λ c p. reported-apart c p) fits e)
+    where
+      go : (q : Refused) × (verdict (use_refusals m keys (length classes) W (length border)) ≡ Err q) × (◌≡◌ {A = Result ℕ Refused} (Err q) (Err r))
+          → verdict (use_refusals m keys (length classes) W (length border)) ≡ Err r
+      go (q, v, same) = let f : q ≡ r = cc in v ∙ rw f

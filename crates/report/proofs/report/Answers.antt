@@ -1,10 +1,9 @@
 -- `report::report` meets its contract. Each test decides what its law in `Tables` says.
-use mathlib.Core.Path.{◌≡◌, refl, ap, sym, ◌∙◌}
+use mathlib.Core.Path.{refl, sym, ◌∙◌}
 use mathlib.Core.Bool.{true}
 use native.Mathlib.Omega.{arith}
-use lib.ListN.{length}
 use Rattle.answers.proofs.Laws.{handed-on}
-use Rattle.window.proofs.Laws.{inside-12, pixels-most, totals-by-length}
+use Rattle.window.proofs.Laws.{inside-12}
 use Rattle.border.proofs.Laws.{filled-spent}
 use Rattle.used.proofs.Laws.{use-known, use-same, use-whole}
 use Rattle.report.proofs.Tables.{report-refused, report-short, report-done}
@@ -30,14 +29,6 @@ pub count-requires : goal.count-requires
 count-requires c =
     let ok = sym c.usable.ensures ∙ c.in_ok-usable.was in
     (use-known true _ _ _ _ _ ok, use-same true _ _ _ _ _ ok, refl, use-whole _ _ _ _ _ ok)
-
-pub put_totals-requires : goal.put_totals-requires
-put_totals-requires c = (ap length c.count.ensures.0 ∙ totals-by-length _ _, omega (arith, c.if-out-lt256.false))
-
-pub overflow_mul-result : goal.overflow_mul-result
-overflow_mul-result c =
-    let u = use-known true _ _ _ _ _ (sym c.usable.ensures ∙ c.in_ok-usable.was) in
-    omega (arith, pixels-most c.args.window (inside-12 u.small u.inside))
 
 pub returns : goal.returns
 returns c =

@@ -1,29 +1,17 @@
 -- `sums::count` meets its contract, by the invariant beside this.
 use mathlib.Core.Path.{◌∙◌}
-use native.Mathlib.Omega.{arith}
-use Rattle.border.proofs.Laws.{fresh-usable, fresh-spent, finding-first, finding-usable, finding-last, finds-opens}
+use Rattle.border.proofs.Laws.{fresh-spent, finding-first, finding-last, finds-opens}
 use Rattle.totals.proofs.Loops.{totalling-first, totalling-hands, totalling-once, totalling-next, totalling-last}
 use Rattle.sums.proofs.count.Goals as goal
 
-pub fill-requires : goal.fill-requires
-fill-requires c = (omega arith, c.requires.0.wide)
-
 pub loop-opening-init : goal.loop-opening-init
 loop-opening-init c = rw (c.start-at.ensures, c.requires.2) (totalling-first _ (finding-first _ c.requires.0 c.fill.ensures))
-
-pub next_opening-requires : goal.next_opening-requires
-next_opening-requires c =
-    let F = c.loop-opening.invariant.finding in
-    (finding-usable F (fresh-usable _ c.requires.0 c.fill.ensures), F.reached)
 
 pub gather-requires : goal.gather-requires
 gather-requires c =
     let T = c.loop-opening.invariant in
     let O = finds-opens c.requires.0 T.finding c.in-Some.ensures in
     (totalling-hands _ c.requires.0 c.requires.3 T O c.requires.1, totalling-once _ c.requires.0 c.requires.3 T O)
-
-pub loop-opening-smaller : goal.loop-opening-smaller
-loop-opening-smaller c = (finds-opens c.requires.0 c.loop-opening.invariant.finding c.in-Some.ensures).fewer
 
 pub loop-opening-preserved : goal.loop-opening-preserved
 loop-opening-preserved c =
