@@ -1,6 +1,6 @@
 -- On which side of a window a record lies: the first that is true of all its pixels. A record that lies on a side shares no pixel with the window.
 -- Assumes nothing.
-use mathlib.Core.Path.{◌≡◌, refl, sym, ap}
+use mathlib.Core.Path.{◌≡◌, refl, sym}
 use mathlib.Core.Logic.{◌↔◌}
 use mathlib.Core.Bool.{Bool, true, false}
 use mathlib.Core.List.{List, Memᴰ}
@@ -8,6 +8,7 @@ use Prim.Native.Nat.{ℕ, ◌+◌, ◌^◌, ◌≤◌, ◌<◌}
 use native.Mathlib.Omega.{arith}
 use lib.Dec.{eqb, leb, ltb}
 use borrow.Author.Tests.{leb-true, ltb-true, le-leb, lt-ltb, eqb-true, eq-eqb}
+use Rattle.std.specs.Prelude.{Option, Some}
 use Rattle.lists.specs.Lists.{all}
 use Rattle.lists.proofs.Laws.{never, refuted, keep-in, keep-true, in-keep, all-is}
 use Rattle.key.specs.Picture.{Pixel, Px}
@@ -18,8 +19,6 @@ use Rattle.window.proofs.Laws.{in-pixels, pixel-in}
 use Rattle.map.specs.Records.{pixel_record}
 use Rattle.border.specs.Promises.{Touches}
 use Rattle.why.specs.declared.Side.{Side}
-use Rattle.why.specs.declared.Lies.{Lies}
-use Rattle.why.specs.declared.Lies.TheVariants.{Outside}
 use Rattle.why.specs.Why.{pixels_of, is_north, is_south, is_west, is_east, first_side, lies_of}
 use Rattle.why.specs.Promises.{EachPixel, AllNorth, AllSouth, AllWest, AllEast, FirstTrue, north, south, west, east, none}
 
@@ -61,8 +60,8 @@ module _ {North South West East : Type 0} where
   first-true false false false false a b c d = none (fails a) (fails b) (fails c) (fails d)
 
   -- and no other is
-  pub true-first : (n s w e : Bool) → (n ≡ true) ↔ North → (s ≡ true) ↔ South → (w ≡ true) ↔ West → (e ≡ true) ↔ East → {l : Lies} → FirstTrue North South West East l
-      → l ≡ first_side n s w e
+  pub true-first : (n s w e : Bool) → (n ≡ true) ↔ North → (s ≡ true) ↔ South → (w ≡ true) ↔ West → (e ≡ true) ↔ East
+      → {l : Option Side} → FirstTrue North South West East l → l ≡ first_side n s w e
   unfolding first_side
   true-first n s w e a b c d (north p) = rw (a.1 p)
   true-first n s w e a b c d (south p q) = rw (untrue n a p, b.1 q)
@@ -80,7 +79,7 @@ below a b = (ltb-true a b, lt-ltb a b)
 
 module _ (m : ℕ) (keys : List ℕ) (W : Window) (n : ℕ) where
   -- where it lies, the first true one of the four
-  abbrev pub RecordLies : Lies → Type 0
+  abbrev pub RecordLies : Option Side → Type 0
   RecordLies = FirstTrue (AllNorth m keys W n) (AllSouth m keys W n) (AllWest m keys W n) (AllEast m keys W n)
 
   norths : (all (is_north W) (pixels_of m keys n) ≡ true) ↔ AllNorth m keys W n
@@ -99,12 +98,12 @@ module _ (m : ℕ) (keys : List ℕ) (W : Window) (n : ℕ) where
   unfolding lies_of
   lies-first = first-true _ _ _ _ norths souths wests easts
 
-  pub first-lies : {l : Lies} → RecordLies l → l ≡ lies_of W (pixels_of m keys n)
+  pub first-lies : {l : Option Side} → RecordLies l → l ≡ lies_of W (pixels_of m keys n)
   unfolding lies_of
   first-lies = true-first _ _ _ _ norths souths wests easts
 
   -- then it shares no pixel with the window
-  pub side-apart : Inside m W → {side : Side} → RecordLies (Outside side) → Touches m keys W n → ⊥
+  pub side-apart : Inside m W → {side : Side} → RecordLies (Some side) → Touches m keys W n → ⊥
   side-apart I (north h) t = omega (arith, t.inside, h t.at (pixel-in I t.inside) t.is)
   side-apart I (south a h) t = omega (arith, t.inside, h t.at (pixel-in I t.inside) t.is)
   side-apart I (west a b h) t = omega (arith, t.inside, h t.at (pixel-in I t.inside) t.is)

@@ -1,14 +1,14 @@
 -- A record as a square: each side is told by one comparison, and one that lies on no side shares a pixel with the window.
 -- Assumes nothing.
-use mathlib.Core.Path.{◌≡◌, refl, sym, ap, ◌∙◌}
-use mathlib.Core.Logic.{◌↔◌}
-use mathlib.Core.Bool.{Bool, true, false}
-use mathlib.Core.List.{List, Memᴰ}
+use mathlib.Core.Path.{◌≡◌, refl, sym, ◌∙◌}
+use mathlib.Core.Bool.{Bool, true}
+use mathlib.Core.List.{List}
 use Prim.Native.Nat.{ℕ, max, ◌+◌, ◌-◌, ◌^◌, ◌≤◌, ◌<◌}
 use native.Mathlib.Omega.{arith}
 use lib.Dec.{leb, ltb}
 use lib.ListN.{length, get_or}
 use borrow.Author.Tests.{leb-true, ltb-true, le-leb, lt-ltb}
+use Rattle.std.specs.Prelude.{Option, None}
 use Rattle.lists.specs.Lists.{all}
 use Rattle.lists.proofs.Laws.{agree, all-is}
 use Rattle.key.specs.declared.Square.{Square}
@@ -21,8 +21,7 @@ use Rattle.window.proofs.Laws.{pixel-in}
 use Rattle.map.specs.Sound.{Spaced}
 use Rattle.map.proofs.Laws.{Record, record-at, record-square}
 use Rattle.border.specs.Promises.{Touches}
-use Rattle.why.specs.declared.Lies.{Lies}
-use Rattle.why.specs.declared.Lies.TheVariants.{Across}
+use Rattle.why.specs.declared.Side.{Side}
 use Rattle.why.specs.Why.{pixels_of, lies_of}
 use Rattle.why.specs.Parts.{square_lies}
 use Rattle.why.specs.Promises.{FirstTrue, none}
@@ -32,14 +31,14 @@ use Rattle.why.proofs.Sides.{pixels-of, first-true, true-first, at_most}
 
 module _ (W : Window) (i r c : ℕ) where
   -- where a square lies, by four comparisons
-  abbrev pub SquareLies : Lies → Type 0
+  abbrev pub SquareLies : Option Side → Type 0
   SquareLies = FirstTrue (r + 2 ^ i ≤ W.r0) (W.r0 + W.h ≤ r) (c + 2 ^ i ≤ W.c0) (W.c0 + W.w ≤ c)
 
   pub square-lies : SquareLies (square_lies W i (r, c))
   unfolding square_lies
   square-lies = first-true _ _ _ _ (at_most (r + 2 ^ i) W.r0) (at_most (W.r0 + W.h) r) (at_most (c + 2 ^ i) W.c0) (at_most (W.c0 + W.w) c)
 
-  pub lies_so : {l : Lies} → SquareLies l → l ≡ square_lies W i (r, c)
+  pub lies_so : {l : Option Side} → SquareLies l → l ≡ square_lies W i (r, c)
   unfolding square_lies
   lies_so = true-first _ _ _ _ (at_most (r + 2 ^ i) W.r0) (at_most (W.r0 + W.h) r) (at_most (c + 2 ^ i) W.c0) (at_most (W.c0 + W.w) c)
 
@@ -105,10 +104,10 @@ module _ {m : ℕ} {keys : List ℕ} (F : Spaced m 0 keys) {n i r c : ℕ} (R : 
         )
 
     -- on no side: a pixel is shared
-    pub across-shares : Inside m W → square_lies W i (r, c) ≡ Across → Touches m keys W n
+    pub across-shares : Inside m W → square_lies W i (r, c) ≡ None → Touches m keys W n
     across-shares I e = meets (rw e at (square-lies W i r c))
       where
-        meets : SquareLies W i r c Across → Touches m keys W n
+        meets : SquareLies W i r c None → Touches m keys W n
         meets (none a b d e) =
             let y : ℕ = max r W.r0 in
             let x : ℕ = max c W.c0 in
@@ -123,7 +122,7 @@ module _ {m : ℕ} {keys : List ℕ} (F : Spaced m 0 keys) {n : ℕ} (within : n
 
 -- a record of the map that lies on no side shares a pixel with the window
 pub across-touches : {m : ℕ} {keys : List ℕ} → Spaced m 0 keys → {n : ℕ} → n < length keys → {W : Window} → Inside m W
-    → lies_of W (pixels_of m keys n) ≡ Across → Touches m keys W n
+    → lies_of W (pixels_of m keys n) ≡ None → Touches m keys W n
 across-touches {m} {keys} F {n} l {W} I e =
     let R = record-at F n l in
     let b = block-lies R.is.names in

@@ -1,11 +1,10 @@
 -- The words in which it is said where a record lies.
 -- Assumes nothing.
-use Rattle.std.specs.Prelude.{◌≡◌, List, ℕ, ◌+◌, ◌≤◌, ◌<◌}
+use Rattle.std.specs.Prelude.{◌≡◌, Option, Some, None, List, ℕ, ◌+◌, ◌≤◌, ◌<◌}
 use Rattle.key.specs.Picture.{Pixel, Px}
 use Rattle.window.specs.declared.Window.{Window}
 use Rattle.map.specs.Records.{pixel_record}
-use Rattle.why.specs.declared.Lies.{Lies}
-use Rattle.why.specs.declared.Lies.TheVariants.{Outside, Across}
+use Rattle.why.specs.declared.Side.{Side}
 use Rattle.why.specs.declared.Side.TheVariants.{North, South, West, East}
 
 -- each pixel of record n is so
@@ -26,9 +25,9 @@ abbrev pub AllEast : ℕ → List ℕ → Window → ℕ → Type 0
 AllEast m keys W n = EachPixel m keys n (λ p. W.c0 + W.w ≤ p.1)
 
 -- of four statements the first that is true, or none
-pub data FirstTrue (north south west east : Type 0) : Lies → Type 0 where
-  north : north → FirstTrue north south west east (Outside North)
-  south : ¬ north → south → FirstTrue north south west east (Outside South)
-  west : ¬ north → ¬ south → west → FirstTrue north south west east (Outside West)
-  east : ¬ north → ¬ south → ¬ west → east → FirstTrue north south west east (Outside East)
-  none : ¬ north → ¬ south → ¬ west → ¬ east → FirstTrue north south west east Across
+pub data FirstTrue (north south west east : Type 0) : Option Side → Type 0 where
+  north : north → FirstTrue north south west east (Some North)
+  south : ¬ north → south → FirstTrue north south west east (Some South)
+  west : ¬ north → ¬ south → west → FirstTrue north south west east (Some West)
+  east : ¬ north → ¬ south → ¬ west → east → FirstTrue north south west east (Some East)
+  none : ¬ north → ¬ south → ¬ west → ¬ east → FirstTrue north south west east None

@@ -1,8 +1,10 @@
 -- Why a record, or a maximal block, is on the list of a window's openings or is not: the answer and every lent cell, on every input.
 -- Assumes nothing.
-use Rattle.std.specs.Prelude.{Bool, cond, not, ◌&&◌, List, [], ◌∷◌, ◌++◌, ℕ, ◌+◌, ◌^◌, eqb, leb, ltb, length}
+use Rattle.std.specs.Prelude.{Result, Ok, Option, Some, None, Bool, cond, not, ◌&&◌, List, [], ◌∷◌, ◌++◌, ℕ, ◌+◌, ◌^◌, eqb, leb, ltb, length}
 use Rattle.lists.specs.Lists.{any, all, keep, before}
-use Rattle.answers.specs.Refusals.{Refusal, refusal}
+use Rattle.answers.specs.declared.Cause.TheVariants.{NoRecord, NotMaximal}
+use Rattle.answers.specs.declared.Refused.{Refused}
+use Rattle.answers.specs.Refusals.{Refusal, refusal, refuse}
 use Rattle.answers.specs.After.{After, after, unless}
 use Rattle.key.specs.Picture.{Px}
 use Rattle.window.specs.declared.Window.{Window}
@@ -13,11 +15,10 @@ use Rattle.map.specs.Records.{pixel_record}
 use Rattle.map.specs.Runs.{run_of}
 use Rattle.border.specs.Openings.{Opening, openings}
 use Rattle.used.specs.Used.{use_refusals, spent}
-use Rattle.why.specs.declared.Lies.{Lies}
-use Rattle.why.specs.declared.Lies.TheVariants as lies
+use Rattle.why.specs.declared.Side.{Side}
 use Rattle.why.specs.declared.Side.TheVariants.{North, South, West, East}
 use Rattle.why.specs.declared.Why.{Why}
-use Rattle.why.specs.declared.Why.TheVariants.{Handed, Outside, Opened, Skipped, Refused}
+use Rattle.why.specs.declared.Why.TheVariants.{Handed, Outside, Opened, Skipped}
 
 -- ---- a record
 
@@ -39,12 +40,12 @@ abbrev pub is_east : Window → Px → Bool
 is_east W p = leb (W.c0 + W.w) p.1
 
 -- the first side that is true of north, south, west and east, or none
-unfoldable pub first_side : Bool → Bool → Bool → Bool → Lies
+unfoldable pub first_side : Bool → Bool → Bool → Bool → Option Side
 first_side north south west east =
-    cond north (lies.Outside North) (cond south (lies.Outside South) (cond west (lies.Outside West) (cond east (lies.Outside East) lies.Across)))
+    cond north (Some North) (cond south (Some South) (cond west (Some West) (cond east (Some East) None)))
 
--- where pixels lie: all of them on one side, the first that is true; or not so
-unfoldable pub lies_of : Window → List Px → Lies
+-- on which side of the window pixels lie, all of them, the first that is true; or on none
+unfoldable pub lies_of : Window → List Px → Option Side
 lies_of W ps = first_side (all (is_north W) ps) (all (is_south W) ps) (all (is_west W) ps) (all (is_east W) ps)
 
 -- an opening hands out record n
@@ -56,9 +57,9 @@ unfoldable pub bringer : List Opening → ℕ → ℕ
 bringer os n = before (hands_out n) os
 
 -- of record n, by where it lies and by that number: outside of the window, on which side; or handed out, by which opening
-unfoldable pub said_of : ℕ → Lies → ℕ → Why
-said_of n (lies.Outside side) k = Outside n side
-said_of n lies.Across k = Handed n k
+unfoldable pub said_of : ℕ → Option Side → ℕ → Why
+said_of n (Some side) k = Outside n side
+said_of n None k = Handed n k
 
 unfoldable pub record_said : ℕ → List ℕ → Window → ℕ → Why
 record_said m keys W n = said_of n (lies_of W (pixels_of m keys n)) (bringer (openings m m keys W) n)
@@ -80,18 +81,18 @@ block_said m keys W key =
 
 -- refusal 19, of the number of records and an index: there is no such record
 unfoldable pub index_refusals : ℕ → ℕ → List Refusal
-index_refusals q n = refusal (leb q n) 19 0 ∷ []
+index_refusals q n = refusal (leb q n) NoRecord 0 ∷ []
 
 -- refusal 22: the key is that of no maximal block of the window
 unfoldable pub key_refusals : ℕ → Window → ℕ → List Refusal
-key_refusals m W key = refusal (not (any (eqb key) (keys_of m m W))) 22 0 ∷ []
+key_refusals m W key = refusal (not (any (eqb key) (keys_of m m W))) NotMaximal 0 ∷ []
 
 -- what is said, behind refusals 1 to 7 and one more: the border is spent. A refusal leaves it as it was
-unfoldable pub why_for : List Refusal → Why → ℕ → List ℕ → ℕ → Window → List ℕ → After Why (List ℕ)
-why_for more said m keys classes W border = unless Refused (use_refusals m keys classes W (length border) ++ more) border (after said (spent W border))
+unfoldable pub why_for : List Refusal → Why → ℕ → List ℕ → ℕ → Window → List ℕ → After (Result Why Refused) (List ℕ)
+why_for more said m keys classes W border = unless refuse (use_refusals m keys classes W (length border) ++ more) border (after (Ok said) (spent W border))
 
-abbrev pub why_record_of : ℕ → List ℕ → ℕ → Window → ℕ → List ℕ → After Why (List ℕ)
+abbrev pub why_record_of : ℕ → List ℕ → ℕ → Window → ℕ → List ℕ → After (Result Why Refused) (List ℕ)
 why_record_of m keys classes W n = why_for (index_refusals (length keys) n) (record_said m keys W n) m keys classes W
 
-abbrev pub why_block_of : ℕ → List ℕ → ℕ → Window → ℕ → List ℕ → After Why (List ℕ)
+abbrev pub why_block_of : ℕ → List ℕ → ℕ → Window → ℕ → List ℕ → After (Result Why Refused) (List ℕ)
 why_block_of m keys classes W key = why_for (key_refusals m W key) (block_said m keys W key) m keys classes W
