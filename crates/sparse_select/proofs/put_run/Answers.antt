@@ -1,9 +1,8 @@
 -- `sparse_select::put_run` meets its contract, by the invariant beside this.
-use mathlib.Core.Path.{refl, ◌∙◌}
+use mathlib.Core.Path.{refl}
 use native.Mathlib.Omega.{arith}
-use Rattle.answers.proofs.Laws.{listed_same}
 use Rattle.key.proofs.Laws.{one_block, block-lies, pow-most}
-use Rattle.sparse_select.proofs.Merging.{merging-room, merging-first, merging-record, merging-some, merging-next, merging-few, merging-last}
+use Rattle.sparse_select.proofs.Merging.{merging-first, merging-record, merging-some, merging-next, merging-few, merging-last}
 use Rattle.sparse_select.proofs.put_run.Goals as goal
 
 pub pow4-requires : goal.pow4-requires
