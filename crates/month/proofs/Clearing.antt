@@ -51,7 +51,7 @@ module _ (m : ℕ) (W : Window) where
 
       module _ (e : outside m W ≡ false) where
         pub clear-short : length table < 1030 → clear_of m W table ≡ after (refuse ShortRoom 1030) table
-        clear-short h = clear-is ∙ rw empty-length at (drawn-short refuse (Ok tt) empty m W table l e (rw empty-length h))
+        clear-short h = clear-is ∙ rw empty-length at (drawn-short refuse (Ok (tt {0})) empty m W table l e (rw empty-length h))
 
         -- the first five cells are stored, and behind them zeros
         pub clear-done : 1030 ≤ length table → {head zeros : List ℕ} → head ≡ head_of m W → zeros ≡ replicate 1025 0

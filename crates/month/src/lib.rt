@@ -93,13 +93,7 @@ fn ongoing(m: u32, table: &[u64]) -> Result<(), Refused>
 }
 
 // All refusals of adding, with a border of so many cells.
-fn addable(
-    m: u32,
-    keys: &[u32],
-    classes: &[u8],
-    cells: usize,
-    table: &[u64],
-) -> Result<(), Refused>
+fn addable(m: u32, keys: &[u32], classes: &[u8], cells: usize, table: &[u64]) -> Result<(), Refused>
     ensures { result ≡ verdict (add_refusals m keys.now (length classes.now) cells table.now) }
 {
     checks::sound(m, keys, classes, true)?;
