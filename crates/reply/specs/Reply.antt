@@ -1,12 +1,14 @@
 -- What is printed for a window, or for bytes left over where one should begin.
 -- Assumes nothing.
-use Rattle.std.specs.Prelude.{◌≡◌, cond, List, ◌++◌, ℕ, ◌*◌, ◌≤◌, ltb, length}
-use Rattle.answers.specs.declared.Verdict.TheVariants.{Passed}
-use Rattle.answers.specs.Refusals.{answer, verdict}
+use Rattle.std.specs.Prelude.{◌≡◌, cond, List, ◌++◌, ℕ, ◌*◌, ltb, length, Result, Ok, Err}
+use Rattle.answers.specs.declared.Refused.{Refused}
+use Rattle.answers.specs.Refusals.{answer}
+use Rattle.answers.specs.After.{after}
 use Rattle.window.specs.declared.Window.{Window}
 use Rattle.border.specs.Openings.{openings, handed_count, cells_of}
 use Rattle.used.specs.Used.{use_refusals}
 use Rattle.totals.specs.Totals.{totals}
+use Rattle.text.specs.Text.{put_of}
 use Rattle.lines.specs.Lines.{window_line, refusal_line, found_lines}
 use Rattle.input.specs.Input.{window_of, left_text}
 
@@ -22,10 +24,10 @@ result_of m keys classes W = answer refusal_line (use_refusals m keys (length cl
 unfoldable pub answer_of : ℕ → List ℕ → List ℕ → Window → List ℕ
 answer_of m keys classes W = window_line W ++ result_of m keys classes W
 
--- a window that can be opened on a map of 1,000 records or fewer, with so many cells of border
-pub record Openable (m : ℕ) (keys classes : List ℕ) (W : Window) (border : ℕ) : Type 0 where
-  pub passed : verdict (use_refusals m keys (length classes) W border) ≡ Passed
-  pub few : length keys ≤ 1000
+-- a text was put; or there is a refusal, of which the text is the line, and nothing was put
+abbrev pub Found : List ℕ → Result ℕ Refused → List ℕ → List ℕ → Type 0
+Found text (Ok put) out out' = after put out' ≡ put_of text out
+Found text (Err refused) out out' = (text ≡ refusal_line refused.cause refused.place) × (out' ≡ out)
 
 -- what is printed when so many of eight bytes are there: all are a window, and fewer are left over
 unfoldable pub next_text : ℕ → List ℕ → List ℕ → ℕ → List ℕ → List ℕ

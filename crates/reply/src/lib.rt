@@ -4,35 +4,46 @@
 ghost use Rattle.std.specs.Prelude.{◌≡◌, ◌≤◌, length};
 ghost use Rattle.answers.specs.After.{after};
 ghost use Rattle.text.specs.Text.{put_of};
-ghost use Rattle.reply.specs.Reply.{found_by, result_of, answer_of, Openable, next_text};
+ghost use Rattle.reply.specs.Reply.{result_of, answer_of, Found, next_text};
 
-use open::Opened;
-use report::Reported;
+use answers::Refused;
 use window::Window;
 
-// What was found in a window that is not refused, when its pixels have been counted by class. Three cells for each of 1,000 records are room for all openings.
-fn put_opened(
+// Puts what is found in a window, where it is not refused: its openings, and its pixels by class. Three cells for each of 1,000 records are room for all openings.
+fn put_found(
     m: u32,
     keys: &[u32],
     classes: &[u8],
     window: Window,
-    border: &mut [u16],
-    totals: &[u32],
-    pixels: u32,
     out: &mut [u8],
-) -> usize
-    requires { Openable m keys.now classes.now window (length border.old) × (length totals.now ≤ 256) × (42179 ≤ length out.old) }
-    ensures { after result out.new ≡ put_of (found_by m keys.now window totals.now pixels) out.old }
+) -> Result<usize, Refused>
+    requires { (length keys.now ≤ 1000) × (42179 ≤ length out.old) }
+    ensures { Found (result_of m keys.now classes.now window) result out.old out.new }
 {
+    let mut border = [0u16; 4096];
+    let mut totals = [0u32; 256];
     let mut cells = [0u32; 3000];
-    let opened = open::open(m, m, keys, classes, window, border, &mut cells, true);
-    match opened {
-        Opened::Refused { number, place } => lines::put_refusal(number, place, out),
-        Opened::Done { openings, records } => {
-            let n = 3 * (openings as usize);
-            lines::put_found(&cells[..n], totals, openings, records, pixels, out)
-        }
-    }
+    let pixels = report::report(m, keys, classes, window, &mut border, &mut totals)?;
+    let opened = open::open(
+        m,
+        m,
+        keys,
+        classes,
+        window,
+        &mut border,
+        &mut cells,
+        true,
+    )?;
+    let n = 3 * opened.openings as usize;
+    let records = opened.records;
+    Ok(lines::put_found(
+        &cells[..n],
+        &totals,
+        opened.openings,
+        records,
+        pixels,
+        out,
+    ))
 }
 
 // What is said of a window behind its first line.
@@ -40,21 +51,9 @@ fn put_result(m: u32, keys: &[u32], classes: &[u8], window: Window, out: &mut [u
     requires { (length keys.now ≤ 1000) × (42179 ≤ length out.old) }
     ensures { after result out.new ≡ put_of (result_of m keys.now classes.now window) out.old }
 {
-    let mut border = [0u16; 4096];
-    let mut totals = [0u32; 256];
-    let reported = report::report(m, keys, classes, window, &mut border, &mut totals);
-    match reported {
-        Reported::Refused { number, place } => lines::put_refusal(number, place, out),
-        Reported::Done { pixels } => put_opened(
-            m,
-            keys,
-            classes,
-            window,
-            &mut border,
-            &totals,
-            pixels,
-            out,
-        ),
+    match put_found(m, keys, classes, window, out) {
+        Ok(put) => put,
+        Err(refused) => lines::put_refusal(refused, out),
     }
 }
 

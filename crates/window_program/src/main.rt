@@ -3,17 +3,33 @@
 // Where a read or a write fails, one line on standard error says so, and the program ends; its status is 0 then too.
 #![tactic(auto)]
 
-ghost use Rattle.std.specs.Prelude.{◌≤◌, length};
+ghost use Rattle.std.specs.Prelude.{◌≡◌, ◌≤◌, length, IfOk};
 ghost use Rattle.map.specs.Sound.{SoundMap};
 ghost use Rattle.window_program.specs.Received.{Received};
+ghost use Rattle.window_program.specs.declared.Lost.TheVariants.{Output};
 
-use std::io::Read;
-use streams::{Printed, Taken};
+use std::io::{Error, Read};
+use streams::{Taken, Unprinted};
 
 // Where the system tells what standard output and standard error are.
 const OUTPUT_PATH: &str = "/proc/self/fd/1";
 
 const ERROR_PATH: &str = "/proc/self/fd/2";
+
+// Why the program ends though windows may be left.
+#[derive(Clone, Copy)]
+enum Lost {
+    Input(Error),
+    Output(Unprinted),
+}
+
+impl From<Unprinted> for Lost {
+    ghost from_gives = { λ unprinted lost. lost ≡ Output unprinted };
+
+    fn from(unprinted: Unprinted) -> Lost {
+        Lost::Output(unprinted)
+    }
+}
 
 // Reads the first four bytes of a file, and then as many more as they announce. Answers how many came.
 fn receive<R: Read>(from: &mut R, file: &mut [u8]) -> Taken
@@ -24,10 +40,9 @@ fn receive<R: Read>(from: &mut R, file: &mut [u8]) -> Taken
     if first.count < 4 {
         return first;
     }
-    let size = input::announced(file);
-    if size == 0 {
+    let Some(size) = input::announced(file) else {
         return first;
-    }
+    };
     let more = streams::take(from, &mut file[4..size]);
     Taken {
         count: 4 + more.count,
@@ -35,76 +50,82 @@ fn receive<R: Read>(from: &mut R, file: &mut [u8]) -> Taken
     }
 }
 
-// Prints a text. False where not all of it was taken; that is then said.
-fn print(rt: &HostRuntime, text: &[u8]) -> bool {
-    match streams::print(&mut rt.stdout(), rt, OUTPUT_PATH, text) {
-        Printed::Whole => true,
-        Printed::Partly => {
-            streams::print(
+// How many bytes came, where no read failed.
+fn count(taken: Taken) -> Result<usize, Lost>
+    ensures { IfOk result (λ count. count ≡ taken.count) }
+{
+    match taken.failed {
+        Some(error) => Err(Lost::Input(error)),
+        None => Ok(taken.count),
+    }
+}
+
+fn print(rt: &HostRuntime, text: &[u8]) -> Result<(), Lost> {
+    streams::print(&mut rt.stdout(), rt, OUTPUT_PATH, text)?;
+    Ok(())
+}
+
+// Reads one window and prints its answer. False where there is no other: at the end of the input, where bytes may be left over.
+fn answer_next(rt: &HostRuntime, m: u32, keys: &[u32], classes: &[u8]) -> Result<bool, Lost>
+    requires { length keys.now ≤ 1000 }
+{
+    let mut bytes = [0u8; 8];
+    let got = count(streams::take(&mut rt.stdin(), &mut bytes))?;
+    let mut text = [0u8; 42225];
+    let n = reply::put_next(m, keys, classes, &bytes, got, &mut text);
+    print(rt, &text[..n])?;
+    Ok(got == 8)
+}
+
+// Answers window after window, on a map that was looked at before. A proved loop ends: no input has so many windows as are counted here.
+fn answer_all(rt: &HostRuntime, m: u32, keys: &[u32], classes: &[u8]) -> Result<(), Lost>
+    requires { (length keys.now ≤ 1000) × SoundMap m keys.now (length classes.now) }
+{
+    for _ in 0..u64::MAX {
+        if !answer_next(rt, m, keys, classes)? {
+            break;
+        }
+    }
+    Ok(())
+}
+
+fn run(rt: &HostRuntime) -> Result<(), Lost> {
+    let mut file = [0u8; 5020];
+    let got = count(receive(&mut rt.stdin(), &mut file))?;
+    let mut keys = [0u32; 1000];
+    let mut classes = [0u8; 1000];
+    let mut line = [0u8; 24];
+    match beginning::put_received(&file, got, &mut keys, &mut classes, &mut line) {
+        Ok(header) => {
+            let q = header.count as usize;
+            answer_all(rt, header.m, &keys[..q], &classes[..q])
+        }
+        Err(said) => print(rt, &line[..said]),
+    }
+}
+
+// Says on standard error why the program ends.
+fn say(rt: &HostRuntime, lost: Lost) {
+    match lost {
+        Lost::Input(error) => {
+            let _ = eprintln!(rt; "window_program: cannot read standard input: {error}");
+        }
+        Lost::Output(Unprinted::Failed(error)) => {
+            let _ = eprintln!(rt; "window_program: cannot write standard output: {error}");
+        }
+        Lost::Output(Unprinted::Partly) => {
+            let _ = streams::print(
                 &mut rt.stderr(),
                 rt,
                 ERROR_PATH,
                 b"window_program: cannot write standard output: it takes no more\n",
             );
-            false
         }
-        Printed::Failed(error) => {
-            let _ = eprintln!(rt; "window_program: cannot write standard output: {error}");
-            false
-        }
-    }
-}
-
-// Whether a read failed; that is then said.
-fn is_lost(rt: &HostRuntime, taken: Taken) -> bool {
-    match taken.failed {
-        Some(error) => {
-            let _ = eprintln!(rt; "window_program: cannot read standard input: {error}");
-            true
-        }
-        None => false,
-    }
-}
-
-// Reads one window and prints its answer. False where there is no other: at the end of the input, where bytes may be left over, or where a read or a write failed.
-fn answer_next(rt: &HostRuntime, m: u32, keys: &[u32], classes: &[u8]) -> bool
-    requires { length keys.now ≤ 1000 }
-{
-    let mut bytes = [0u8; 8];
-    let got = streams::take(&mut rt.stdin(), &mut bytes);
-    if is_lost(rt, got) {
-        return false;
-    }
-    let mut text = [0u8; 42225];
-    let n = reply::put_next(m, keys, classes, &bytes, got.count, &mut text);
-    print(rt, &text[..n]) && got.count == 8
-}
-
-// Answers window after window, on a map that was looked at before. A proved loop ends: no input has so many windows as are counted here.
-fn answer_all(rt: &HostRuntime, m: u32, keys: &[u32], classes: &[u8])
-    requires { (length keys.now ≤ 1000) × SoundMap m keys.now (length classes.now) }
-{
-    let mut left = u64::MAX;
-    while left > 0 && answer_next(rt, m, keys, classes) {
-        left -= 1;
     }
 }
 
 fn main(rt: HostRuntime) {
-    let mut file = [0u8; 5020];
-    let got = receive(&mut rt.stdin(), &mut file);
-    if is_lost(&rt, got) {
-        return;
+    if let Err(lost) = run(&rt) {
+        say(&rt, lost);
     }
-    let mut keys = [0u32; 1000];
-    let mut classes = [0u8; 1000];
-    let mut line = [0u8; 24];
-    let begun = beginning::put_received(&file, got.count, &mut keys, &mut classes, &mut line);
-    let said = begun.said;
-    if said > 0 {
-        print(&rt, &line[..said]);
-        return;
-    }
-    let q = begun.count as usize;
-    answer_all(&rt, begun.m, &keys[..q], &classes[..q]);
 }
