@@ -24,23 +24,13 @@ fn put_found(
     let mut totals = [0u32; 256];
     let mut cells = [0u32; 3000];
     let pixels = report::report(m, keys, classes, window, &mut border, &mut totals)?;
-    let opened = open::open(
-        m,
-        m,
-        keys,
-        classes,
-        window,
-        &mut border,
-        &mut cells,
-        true,
-    )?;
+    let opened = open::open(m, m, keys, classes, window, &mut border, &mut cells, true)?;
     let n = 3 * opened.openings as usize;
-    let records = opened.records;
     Ok(lines::put_found(
         &cells[..n],
         &totals,
         opened.openings,
-        records,
+        opened.records,
         pixels,
         out,
     ))
