@@ -1,6 +1,6 @@
 -- Refusal 26: the window of a table, and which tables it lets pass.
 -- Assumes nothing.
-use mathlib.Core.Path.{◌≡◌, refl, sym, ◌∙◌}
+use mathlib.Core.Path.{◌≡◌, refl, sym, ap, ◌∙◌}
 use mathlib.Core.Logic.{◌↔◌}
 use mathlib.Core.Bool.{Bool, true, false, ◌||◌}
 use mathlib.Core.List.{List}
@@ -37,6 +37,14 @@ narrowed-outside m W l = go (outside m (narrowed W)) refl (outside m W) refl
     go false d b e = let same : narrowed W ≡ W = narrowed-same (inside-12 l (inside m (narrowed W) d)) in rw same
     go true d true e = d ∙ sym e
     go true d false e = let same : narrowed W ≡ W = narrowed-inside (inside-12 l (inside m W e)) in rw same
+
+-- of a window that is told so
+module _ {m : ℕ} (W : Window) {V : Window} (l : m ≤ 12) (e : V ≡ narrowed W) where
+  pub narrowed-told : outside m W ≡ outside m V
+  narrowed-told = sym (narrowed-outside m W l) ∙ ap (outside m) (sym e)
+
+  pub narrowed-known : outside m V ≡ false → (V ≡ W) × Inside 12 V
+  narrowed-known o = let I = inside-12 l (inside m V o) in (e ∙ narrowed-same (rw e at I), I)
 
 -- ---- 26
 

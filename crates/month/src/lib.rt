@@ -1,9 +1,8 @@
 // A month: a running table of what maps have in one window.
 #![tactic(auto)]
 
-ghost use Rattle.std.specs.Prelude.{◌≡◌, ◌++◌, min, ◌≤◌, length, replicate, take};
+ghost use Rattle.std.specs.Prelude.{◌≡◌, min, ◌≤◌, length};
 ghost use Rattle.answers.specs.Refusals.{verdict};
-ghost use Rattle.answers.specs.Cells.{overwrite};
 ghost use Rattle.answers.specs.After.{after};
 ghost use Rattle.month.specs.Month.{clear_of, window_in, spoiled, table_refusals, add_refusals, add_of};
 ghost use Rattle.month.specs.Narrow.{narrowed};

@@ -4,7 +4,6 @@
 ghost use Rattle.std.specs.Prelude.{◌≡◌, ◌≤◌, length};
 ghost use Rattle.answers.specs.Cells.{overwrite};
 ghost use Rattle.answers.specs.After.{after};
-ghost use Rattle.totals.specs.Totals.{totals};
 ghost use Rattle.report.specs.Report.{report_of};
 
 use answers::{Cause, Refused};
