@@ -12,9 +12,6 @@ use Rattle.input.specs.Input.{announced_of}
 use Rattle.input.proofs.Laws.{announced-bounds, announced-same}
 use Rattle.window_program.specs.Received.{Received}
 
-pub received-few : {got : ℕ} (bytes : List ℕ) → got ≤ 4 → 4 ≤ length bytes → Received got bytes
-received-few {got} bytes l room = record { counts = (omega arith, sym (length-take-le got bytes (omega arith))); few = λ m. absurd (omega arith) }
-
 -- the bytes behind the first four were read, and these are as they were
 pub received : (file : List ℕ) {n more : ℕ} → announced_of file ≡ Some n → (ys : List ℕ) → length ys ≡ length (mid_of 4 (n - 4) file) → more ≤ length ys
     → Received (4 + more) (put_mid 4 (n - 4) file ys)
