@@ -14,7 +14,6 @@ use Rattle.window.specs.declared.Window.{Window}
 use Rattle.window.specs.Window.{Inside}
 use Rattle.window.specs.Keys.{keys_of}
 use Rattle.window.proofs.Laws.{inside-12}
-use Rattle.map.specs.Spans.{end}
 use Rattle.map.specs.Sound.{Spaced}
 use Rattle.map.proofs.Laws.{start_is, end_is}
 use Rattle.stretch.specs.Promises.{MakesUp, Runs, last, next, stretches}

@@ -3,7 +3,7 @@
 use mathlib.Core.Path.{◌≡◌, refl, sym, ap, ◌∙◌}
 use mathlib.Core.Bool.{true, false}
 use mathlib.Core.List.{List, [], ◌∷◌, map}
-use Prim.Native.Nat.{ℕ, zero, suc, ◌+◌, ◌^◌, ◌≤◌}
+use Prim.Native.Nat.{ℕ, zero, suc, ◌+◌, ◌≤◌}
 use native.Mathlib.Decide.{ℕ_discrete}
 use native.Mathlib.Omega.{arith}
 use lib.ListN.{length, get_or, take, drop}
@@ -11,7 +11,7 @@ use lib.Seq.{drop-cons}
 use borrow.Author.Tests.{eq-eqb, ne_eqb}
 use Rattle.lists.specs.Lists.{up_from}
 use Rattle.lists.proofs.Laws.{never, up_none, up_next}
-use Rattle.std.specs.Prelude.{Option, Some, None, Result, Ok, Err}
+use Rattle.std.specs.Prelude.{Option, Some, None, is_some, Result, Ok, Err}
 use Rattle.answers.specs.declared.Cause.TheVariants.{NoBlock}
 use Rattle.answers.specs.Refusals.{answer, refused}
 use Rattle.answers.specs.After.{after}
@@ -19,17 +19,34 @@ use Rattle.answers.proofs.Laws.{refusal-held, refusal-clear, answer-none}
 use Rattle.key.specs.declared.Span.{Span}
 use Rattle.key.specs.Form.{form_of}
 use Rattle.key.specs.Blocks.{Names, SomeBlock}
-use Rattle.map.specs.Check.{map_refusals_in}
 use Rattle.map.specs.Spans.{malformed}
-use Rattle.map.specs.Sound.{Spaced, ended, later, SoundIn}
 use Rattle.map.specs.Runs.{run_of}
-use Rattle.map.proofs.Laws.{spaced, sound-map, malformed-not, malformed-is, block-records}
+use Rattle.map.proofs.Laws.{spaced, malformed-not, malformed-is, block-records}
 use Rattle.overlay.specs.declared.Layer.TheVariants as layer
 use Rattle.overlay.specs.declared.Unpaired.{Unpaired}
 use Rattle.overlay.specs.declared.Viewed.{Viewed}
 use Rattle.overlay.specs.declared.Viewed.TheVariants.{Today, Baseline}
 use Rattle.overlay.specs.Overlay.{of_map, refuse_of, pairing, behind, over_pair, block_refusals, records_over, view_of, part_in}
 use Rattle.overlay.proofs.Pairs.{paired, behind-refused, behind-passed}
+
+-- ---- the key, as it was read
+
+module _ (m key : ℕ) {read : Option Span} (is : read ≡ form_of m key) where
+  -- it is that of a block where one was found
+  pub read-block : is_some read ≡ true → SomeBlock m key
+  read-block some = go read is some
+    where
+      go : (r : Option Span) → r ≡ form_of m key → is_some r ≡ true → SomeBlock m key
+      go (Some b) e h = record { exponent = b.exponent; start = b.start; names = record { is = sym e } }
+      go None e h = never (sym h)
+
+  -- and only there
+  pub read-malformed : is_some read ≡ false → malformed (form_of m key) ≡ true
+  read-malformed none = go read is none
+    where
+      go : (r : Option Span) → r ≡ form_of m key → is_some r ≡ false → malformed (form_of m key) ≡ true
+      go (Some b) e h = never h
+      go None e h = malformed-is m key (sym e)
 
 -- ---- what is answered, case by case
 
@@ -115,14 +132,15 @@ pub part-are : (xs : List ℕ) (first count : ℕ) → first + count ≤ length 
 part-are xs first zero l = rw (up_none first)
 part-are xs first (suc count) l = rw (drop-cons xs first 0 (omega arith), up_next first count) (ap (λ (ys : List ℕ). get_or xs first 0 ∷ ys) (part-are xs (suc first) count (omega arith)))
 
-pub part-today : (classes base_classes : List ℕ) {first count : ℕ} {v : Result Viewed Unpaired} → v ≡ Ok (Today first count) → part_in classes base_classes v ≡ take count (drop first classes)
-unfolding part_in
-part-today classes base_classes e = rw e
+module _ (classes base_classes : List ℕ) {v : Result Viewed Unpaired} where
+  pub part-today : {first count : ℕ} → v ≡ Ok (Today first count) → part_in classes base_classes v ≡ take count (drop first classes)
+  unfolding part_in
+  part-today e = rw e
 
-pub part-baseline : (classes base_classes : List ℕ) {first count : ℕ} {v : Result Viewed Unpaired} → v ≡ Ok (Baseline first count) → part_in classes base_classes v ≡ take count (drop first base_classes)
-unfolding part_in
-part-baseline classes base_classes e = rw e
+  pub part-baseline : {first count : ℕ} → v ≡ Ok (Baseline first count) → part_in classes base_classes v ≡ take count (drop first base_classes)
+  unfolding part_in
+  part-baseline e = rw e
 
-pub part-refused : (classes base_classes : List ℕ) {e : Unpaired} {v : Result Viewed Unpaired} → v ≡ Err e → part_in classes base_classes v ≡ []
-unfolding part_in
-part-refused classes base_classes e = rw e
+  pub part-refused : {e : Unpaired} → v ≡ Err e → part_in classes base_classes v ≡ []
+  unfolding part_in
+  part-refused e = rw e

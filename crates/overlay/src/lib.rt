@@ -59,7 +59,7 @@ pub struct Records {
 }
 
 // Which part of whose classes a viewer is lent.
-#[derive(Clone, Copy)]
+#[derive(Clone, Copy, Debug, PartialEq, Eq)]
 pub enum Viewed {
     Today { first: u32, count: u32 },
     Baseline { first: u32, count: u32 },

@@ -1,5 +1,5 @@
 -- `overlay::put_all` meets its contract, by the invariant beside this.
-use mathlib.Core.Path.{◌≡◌, refl}
+use mathlib.Core.Path.{refl}
 use Prim.Native.Nat.{ℕ}
 use native.Mathlib.Omega.{arith}
 use Rattle.map.proofs.Laws.{spaced}

@@ -1,5 +1,4 @@
 -- `overlay::put_class` meets its contract, by the invariant beside this.
-use Prim.Native.Nat.{◌-◌}
 use native.Mathlib.Omega.{arith}
 use Rattle.answers.proofs.Laws.{listed_same}
 use Rattle.overlay.proofs.Joins.{joining-first, joining-same, joining-room, joining-other, joining-rest, joining-last}
