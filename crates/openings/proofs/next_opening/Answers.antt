@@ -11,9 +11,6 @@ returns-then-at-eq0 c = reached-done c.requires.1 c.if-at-eq0.true
 pub blocks_from-ahead-requires : goal.blocks_from-ahead-requires
 blocks_from-ahead-requires c = let u = c.requires.0 in (omega (arith, u.small, u.cap), inside-12 u.small u.inside, c.requires.1.walked.cursor)
 
-pub loop-block-init : goal.loop-block-init
-loop-block-init c = looking-first c.requires.1 c.blocks_from-ahead.ensures
-
 pub step-requires : goal.step-requires
 step-requires c = looking-ready c.requires.0 c.loop-block.invariant c.in-Some.ensures.steps
 

@@ -4,16 +4,8 @@ use Rattle.border.proofs.Laws.{fresh-usable, finding-usable, finds-opens}
 use Rattle.border.proofs.Loops.{passing-first, passing-next, passing-few, passing-last}
 use Rattle.passes.proofs.pass.Goals as goal
 
-pub fill-requires : goal.fill-requires
-fill-requires c = (omega arith, omega (arith, c.requires.wide))
-
 pub loop-opening-init : goal.loop-opening-init
 loop-opening-init c = rw c.start-at.ensures (passing-first _ c.requires c.fill.ensures _)
-
-pub next_opening-requires : goal.next_opening-requires
-next_opening-requires c =
-    let F = c.loop-opening.invariant.finding in
-    (finding-usable F (fresh-usable _ c.requires c.fill.ensures), F.reached)
 
 pub overflow_add-openings : goal.overflow_add-openings
 overflow_add-openings c =
@@ -24,9 +16,6 @@ pub overflow_add-records : goal.overflow_add-records
 overflow_add-records c =
     let P = c.loop-opening.invariant in
     omega (arith, passing-few P (finds-opens c.requires P.finding c.in-Some.ensures) c.requires)
-
-pub loop-opening-smaller : goal.loop-opening-smaller
-loop-opening-smaller c = (finds-opens c.requires c.loop-opening.invariant.finding c.in-Some.ensures).fewer
 
 pub loop-opening-preserved : goal.loop-opening-preserved
 loop-opening-preserved c =

@@ -8,11 +8,5 @@ use Rattle.passes.proofs.put_opening.Goals as goal
 pub returns-then-out-at : goal.returns-then-out-at
 returns-then-out-at c = sym (entered-late _ _ _ _ _ (omega (arith, c.if-out-at.true)))
 
-pub bounds-out-at-2 : goal.bounds-out-at-2
-bounds-out-at-2 c = simp length-set (omega (arith, c.if-out-at.false))
-
-pub bounds-out-at-3 : goal.bounds-out-at-3
-bounds-out-at-3 c = simp length-set (omega (arith, c.if-out-at.false))
-
 pub returns : goal.returns
 returns c = entered-there _ _ _ _ _ (omega (arith, c.if-out-at.false))
