@@ -2,7 +2,7 @@
 use native.Mathlib.Omega.{arith}
 use Rattle.window.proofs.Laws.{inside-12}
 use Rattle.border.proofs.Loops.{reached-done}
-use Rattle.openings.proofs.Looking.{looking-first, looking-end, looking-ready, looking-next, looking-room, looking-found}
+use Rattle.openings.proofs.Looking.{looking-end, looking-ready, looking-next, looking-room, looking-found}
 use Rattle.openings.proofs.next_opening.Goals as goal
 
 pub returns-then-at-eq0 : goal.returns-then-at-eq0

@@ -1,6 +1,6 @@
 -- `passes::pass` meets its contract, by the invariant beside this.
 use native.Mathlib.Omega.{arith}
-use Rattle.border.proofs.Laws.{fresh-usable, finding-usable, finds-opens}
+use Rattle.border.proofs.Laws.{finds-opens}
 use Rattle.border.proofs.Loops.{passing-first, passing-next, passing-few, passing-last}
 use Rattle.passes.proofs.pass.Goals as goal
 

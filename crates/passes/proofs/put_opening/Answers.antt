@@ -1,7 +1,6 @@
 -- `passes::put_opening` meets its contract.
 use mathlib.Core.Path.{sym}
 use native.Mathlib.Omega.{arith}
-use lib.ListN.{length-set}
 use Rattle.border.proofs.Loops.{entered-late, entered-there}
 use Rattle.passes.proofs.put_opening.Goals as goal
 
