@@ -47,7 +47,7 @@ pub struct Piece {
 }
 
 // Places, looked through: one has the class, one was not seen. The second is told only where the first is not so.
-#[derive(Clone, Copy)]
+#[derive(Clone, Copy, Debug, PartialEq, Eq)]
 pub struct Looked {
     pub has: bool,
     pub unseen: bool,

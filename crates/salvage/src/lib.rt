@@ -67,22 +67,16 @@ fn fill(
     ensures stands_behind { (result.spot.place ≡ end) × Stands m result.spot }
     ensures gap_filled { MakesAny (fills m from.spot.place end) (sheet from.records from.entries mended.old painted.old log.old) (sheet result.records result.entries mended.new painted.new log.new) }
 {
-    let mut spot = from.spot;
-    let mut records = from.records;
-    let mut entries = from.entries;
-    while spot.place < end {
-        let next = stretch::next_block(m, spot, end);
-        put_record(mended, painted, records, next.key, map::NOT_SEEN);
-        put_entry(log, entries, next.key, Cause::Gap);
-        records += 1;
-        entries += 1;
-        spot = next.behind;
+    let mut now = from;
+    while now.spot.place < end {
+        let next = stretch::next_block(m, now.spot, end);
+        put_record(mended, painted, now.records, next.key, map::NOT_SEEN);
+        put_entry(log, now.entries, next.key, Cause::Gap);
+        now.records += 1;
+        now.entries += 1;
+        now.spot = next.behind;
     }
-    Mending {
-        spot,
-        records,
-        entries,
-    }
+    now
 }
 
 // Keeps the records from n up to `end`, behind so many others. Where there is no room for the first, there is none for any.
@@ -102,6 +96,7 @@ fn keep(
         return;
     }
     let mut count = records;
+    // By the index: over a `zip` of the two slices the proof has to say where each pair stands in both, and is three times as long.
     for i in n..end {
         put_record(mended, painted, count, keys[i], classes[i]);
         count += 1;
@@ -127,7 +122,7 @@ fn keep_along(
     let now = Mending {
         spot: gone.spot,
         records: records + (next - from.next) as u32,
-        entries: from.now.entries,
+        ..from.now
     };
     Progress { now, next }
 }
@@ -140,9 +135,8 @@ fn leave_out(from: Progress, cause: Cause, log: &mut [u32]) -> Progress
 {
     put_entry(log, from.now.entries, from.next as u32, cause);
     let now = Mending {
-        spot: from.now.spot,
-        records: from.now.records,
         entries: from.now.entries + 1,
+        ..from.now
     };
     Progress {
         now,
@@ -185,10 +179,7 @@ fn mend(
         return leave_out(from, Cause::Overlap, log);
     }
     let now = fill(m, from.now, block.start, mended, painted, log);
-    Progress {
-        now,
-        next: from.next,
-    }
+    Progress { now, ..from }
 }
 
 // Mends a map: the records of the mended one and the entries of the log are written as far as there is room, and counted.
@@ -199,7 +190,7 @@ fn pass(
     mended: &mut [u32],
     painted: &mut [u8],
     log: &mut [u32],
-) -> Mending
+) -> Mended
     requires { (m ≤ 12) × (length keys.now ≡ length classes.now) × (length keys.now ≤ 65536) }
     ensures { Makes keys.now classes.now (mends m keys.now) (sheet 0 0 mended.old painted.old log.old) (sheet result.records result.entries mended.new painted.new log.new) }
 {
@@ -214,23 +205,22 @@ fn pass(
     loop {
         let kept = keep_along(m, keys, classes, at, mended, painted);
         if kept.next == keys.len() {
-            return fill(m, kept.now, blocks::pow4(m), mended, painted, log);
+            let done = fill(m, kept.now, blocks::pow4(m), mended, painted, log);
+            return Mended {
+                records: done.records,
+                entries: done.entries,
+            };
         }
         at = mend(m, keys, kept, mended, painted, log);
     }
 }
 
 // Refusals 2 and 8 of a mended map of so many records and a log of so many entries, by the lengths of the slices.
-fn room(
-    records: u32,
-    entries: u32,
-    mended: usize,
-    painted: usize,
-    log: usize,
-) -> Result<(), Refused>
-    requires { entries ≤ 2147483647 }
-    ensures { result ≡ verdict (result_refusals records entries mended painted log) }
+fn room(counted: Mended, mended: usize, painted: usize, log: usize) -> Result<(), Refused>
+    requires { counted.entries ≤ 2147483647 }
+    ensures { result ≡ verdict (result_refusals counted.records counted.entries mended painted log) }
 {
+    let records = counted.records;
     if 65536 < records {
         return Err(Cause::BadCount.at(0));
     }
@@ -240,7 +230,7 @@ fn room(
     if painted < (records as usize) {
         return Err(Cause::ShortRoom.at(records));
     }
-    let cells = 2 * entries;
+    let cells = 2 * counted.entries;
     if log < (cells as usize) {
         return Err(Cause::ShortRoom.at(cells));
     }
@@ -260,9 +250,7 @@ pub fn salvage(
 {
     answers::sizes(m, keys.len(), classes.len(), false)?;
     let counted = pass(m, keys, classes, &mut [], &mut [], &mut []);
-    let records = counted.records;
-    let entries = counted.entries;
-    room(records, entries, mended.len(), painted.len(), log.len())?;
+    room(counted, mended.len(), painted.len(), log.len())?;
     pass(m, keys, classes, mended, painted, log);
-    Ok(Mended { records, entries })
+    Ok(counted)
 }

@@ -18,23 +18,11 @@ more : {m a : ℕ} {keys : List ℕ} {cursor : Cursor} → Follow m 0 keys → S
     → (cursor.next + 1 ≡ length keys → ⊥) → cursor.next + 1 < length keys
 more F C h e d = omega (arith, advance-room (spaced F) C h e)
 
-pub overflow_add-next : goal.overflow_add-next
-overflow_add-next c = let p = c.requires in omega (arith, advance-room (spaced p.2) p.5 p.3 (omega (arith, c.if-a-cursor.false)), p.1)
-
 pub overflow_add-result : goal.overflow_add-result
 overflow_add-result c = omega (arith, c.if-a-cursor.false, c.requires.3, pow-most 3 _ c.requires.0)
 
 pub returns-then-next-keys : goal.returns-then-next-keys
 returns-then-next-keys c = let p = c.requires in whole-left p.2 p.5 p.3 (omega (arith, c.if-a-cursor.false)) p.6 refl refl c.if-next-keys.true refl
-
-pub offset_bounds-keys-next : goal.offset_bounds-keys-next
-offset_bounds-keys-next c = let p = c.requires in omega (arith, more p.2 p.5 p.3 (omega (arith, c.if-a-cursor.false)) c.if-next-keys.false, p.1)
-
-pub bounds-keys-next : goal.bounds-keys-next
-bounds-keys-next c = let p = c.requires in more p.2 p.5 p.3 (omega (arith, c.if-a-cursor.false)) c.if-next-keys.false
-
-pub pow4-requires : goal.pow4-requires
-pow4-requires c = omega (arith, c.zeros_of.ensures.most, c.requires.0)
 
 pub overflow_add-end : goal.overflow_add-end
 overflow_add-end c =

@@ -1,10 +1,7 @@
 -- `pieces::block_ahead` meets its contract.
-use mathlib.Core.Path.{◌≡◌, ap₂, ◌∙◌}
+use mathlib.Core.Path.{ap₂, ◌∙◌}
 use Prim.Native.Nat.{ℕ, ◌+◌}
 use native.Mathlib.Omega.{arith}
-use Rattle.key.specs.Key.{block_key}
-use Rattle.key.specs.Blocks.{Names}
-use Rattle.key.specs.Along.{Begins}
 use Rattle.key.proofs.Laws.{block-lies, pow-most}
 use Rattle.key.proofs.Loops.{larger}
 use Rattle.pieces.proofs.block_ahead.Goals as goal
@@ -12,17 +9,8 @@ use Rattle.pieces.proofs.block_ahead.Goals as goal
 pub place-start-requires : goal.place-start-requires
 place-start-requires c = larger c.requires.0 c.requires.5
 
--- the key is that of a block that starts at the place
-begins : {m key first k i s : ℕ} → key ≡ k → first ≡ s → Names m k i s → Begins m first key
-begins {i = i} e d n = record { exponent = i; names = rw (e, d) n }
-
 pub overflow_add-end : goal.overflow_add-end
 overflow_add-end c = omega (arith, c.place-start.ensures, c.pow4.ensures.is, (block-lies c.requires.6).span, pow-most 3 _ c.requires.0)
-
-pub stand_at-stand-requires : goal.stand_at-stand-requires
-stand_at-stand-requires c =
-    let p = c.requires in
-    (p.0, p.1, p.2, p.3, begins {k = block_key _ _ _ _} c.block_key-key.ensures c.place-start.ensures p.6)
 
 -- where the block ends
 pub returns : goal.returns

@@ -22,9 +22,6 @@ block_ahead-ahead-requires c =
     let b = goes-block c.requires.1 (omega arith) (finding-goes c.requires.1 v.0 c.in-Some.ensures.steps) in
     (p.small, p.today, spaced p.under, v.1, b.0, b.1, b.2)
 
-pub look-looked-requires : goal.look-looked-requires
-look-looked-requires c = let b = c.block_ahead-ahead.ensures in (c.requires.0, b.3, omega (arith, b.0, b.1), b.2)
-
 pub returns-then-looked : goal.returns-then-looked
 returns-then-looked c =
     let b = c.block_ahead-ahead.ensures in

@@ -4,11 +4,8 @@ use Prim.Native.Nat.{ℕ, ◌+◌}
 use native.Mathlib.Omega.{arith}
 use Rattle.key.proofs.Laws.{block-lies, pow-most}
 use Rattle.map.proofs.Laws.{record-at}
-use Rattle.pieces.specs.Cursors.{held, left}
+use Rattle.pieces.specs.Cursors.{held}
 use Rattle.pieces.proofs.read_record.Goals as goal
-
-pub returns-then-n-keys : goal.returns-then-n-keys
-returns-then-n-keys c = (refl, left c.if-n-keys.true c.pow4-picture.ensures.is (ap (λ (x : ℕ). x + 1) c.pow4-picture.ensures.is))
 
 pub span_of-block-requires : goal.span_of-block-requires
 span_of-block-requires c =

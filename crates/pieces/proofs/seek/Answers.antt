@@ -14,16 +14,10 @@ returns-then-next-eq0 c =
     let none : Splits c.args.keys.now c.args.key 0 = rw c.if-next-eq0.true at c.keys_below-next.ensures in
     seek-here c.requires.1 c.requires.2.names none c.read_record.ensures.1 c.read_record.ensures.0 (past-none _ _ _)
 
-pub read_record-before-requires : goal.read_record-before-requires
-read_record-before-requires c = (c.requires.0, c.requires.1, omega (arith, c.keys_below-next.ensures.room))
-
 pub returns-then-a-before : goal.returns-then-a-before
 returns-then-a-before c =
     let r = c.read_record-before.ensures in
     seek-before c.requires.1 c.requires.2.names c.keys_below-next.ensures r.1 r.0 c.if-next-eq0.false c.if-a-before.true
-
-pub read_record-requires-2 : goal.read_record-requires-2
-read_record-requires-2 c = (c.requires.0, c.requires.1, c.keys_below-next.ensures.room)
 
 pub returns : goal.returns
 returns c =

@@ -4,9 +4,10 @@ use Rattle.salvage.specs.Making.{sheet}
 use Rattle.salvage.proofs.Filling.{Filling}
 use Rattle.salvage.proofs.fill.Given as goal
 
-abbrev pub invariant-loop-spot : goal.invariant-loop-spot
-invariant-loop-spot l =
-    Filling l.m l.initial.spot.place l.end (sheet l.initial.records l.initial.entries l.initial.mended l.initial.painted l.initial.log) (sheet l.records l.entries l.mended l.painted l.log) l.spot
+abbrev pub invariant-loop-now : goal.invariant-loop-now
+invariant-loop-now l =
+    Filling l.m l.initial.now.spot.place l.end (sheet l.initial.now.records l.initial.now.entries l.initial.mended l.initial.painted l.initial.log)
+    (sheet l.now.records l.now.entries l.mended l.painted l.log) l.now.spot
 
-abbrev pub decreases-loop-spot : goal.decreases-loop-spot
-decreases-loop-spot l = l.end - l.spot.place
+abbrev pub decreases-loop-now : goal.decreases-loop-now
+decreases-loop-now l = l.end - l.now.spot.place

@@ -13,8 +13,8 @@ keep_along-kept-requires c =
     (p.0, p.1, p.2, G.within, G.stands, going-records G p.0 p.2)
 
 -- behind the last record
-pub fill-requires : goal.fill-requires
-fill-requires c =
+pub fill-done-requires : goal.fill-done-requires
+fill-done-requires c =
     let G = c.keep_along-kept.ensures.goes _ _ c.loop-kept.invariant in
     let last = going-rest G c.requires.0 c.requires.2 (omega (arith, c.if-kept-keys.true)) in
     let e = c.pow4.ensures.is in
@@ -23,7 +23,7 @@ fill-requires c =
 pub returns-then-kept-keys : goal.returns-then-kept-keys
 returns-then-kept-keys c =
     let G = c.keep_along-kept.ensures.goes _ _ c.loop-kept.invariant in
-    going-last G (omega (arith, c.if-kept-keys.true)) (rw c.pow4.ensures.is at c.fill.ensures.gap_filled)
+    going-last G (omega (arith, c.if-kept-keys.true)) (rw c.pow4.ensures.is at c.fill-done.ensures.gap_filled)
 
 -- before a record that does not start where the walk stands
 pub mend-at-requires-clause-countable : goal.mend-at-requires-clause-countable
