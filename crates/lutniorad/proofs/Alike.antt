@@ -6,7 +6,7 @@ use mathlib.Core.Bool.{true}
 use mathlib.Core.List.{List, ◌++◌}
 use Prim.Native.Nat.{ℕ, ◌*◌, ◌≤◌}
 use lib.ListN.{length}
-use Rattle.answers.specs.declared.Verdict.TheVariants.{Passed}
+use Rattle.std.specs.Prelude.{Ok}
 use Rattle.answers.specs.Refusals.{answer, verdict}
 use Rattle.answers.specs.Sizes.{tile_refusals}
 use Rattle.answers.specs.After.{room_refusals}
@@ -26,7 +26,7 @@ use Rattle.totals.proofs.Laws.{totals-length}
 use Rattle.select.specs.Select.{selection}
 use Rattle.select.proofs.Laws.{selection-view}
 use Rattle.lutniorad.specs.declared.Answer.{Answer}
-use Rattle.lutniorad.specs.Numbers.{values, refused, of_existence}
+use Rattle.lutniorad.specs.Numbers.{values, refusing, existence_values}
 use Rattle.lutniorad.specs.Calls.{OpenTiled, Exist, Report, SelectTiled}
 use Rattle.lutniorad.proofs.Answered.{exist-says}
 use Rattle.lutniorad.proofs.Opening.{open-says}
@@ -36,28 +36,28 @@ use Rattle.lutniorad.proofs.Selecting.{select-says}
 module _ {m : ℕ} {keys keys' : List ℕ} {n n' : ℕ} (S : SoundMap m keys n) (S' : SoundMap m keys' n') (W : Window) where
   -- behind refusals 1 to 7
   used : {cells cells' : ℕ} → cells ≡ cells' → (a a' : Answer) → (Inside m W → a ≡ a')
-      → answer refused (use_refusals m keys n W cells) a ≡ answer refused (use_refusals m keys' n' W cells') a'
+      → answer refusing (use_refusals m keys n W cells) a ≡ answer refusing (use_refusals m keys' n' W cells') a'
   used {cells' = cells'} e a a' h =
-      rw e (use-alike S S' W cells' refused a a' h)
+      rw e (use-alike S S' W cells' refusing a a' h)
 
   -- and behind 17, before 8
   tiled : (top : ℕ) {cells cells' room room' : ℕ} → cells ≡ cells' → room ≡ room' → {needed needed' : ℕ} (a a' : Answer)
       → (top ≤ m → Inside m W → (needed ≡ needed') × (a ≡ a'))
-      → answer refused (tile_refusals m top ++ (use_refusals m keys n W cells ++ room_refusals room needed)) a
-      ≡ answer refused (tile_refusals m top ++ (use_refusals m keys' n' W cells' ++ room_refusals room' needed')) a'
+      → answer refusing (tile_refusals m top ++ (use_refusals m keys n W cells ++ room_refusals room needed)) a
+      ≡ answer refusing (tile_refusals m top ++ (use_refusals m keys' n' W cells' ++ room_refusals room' needed')) a'
   tiled top {cells} {cells'} {room} {room'} e d {needed} {needed'} a a' h =
-      answer-append refused (tile_refusals m top) _ a ∙ answer-same refused (tile_refusals m top) _ _ behind ∙ sym (answer-append refused (tile_refusals m top) _ a')
+      answer-append refusing (tile_refusals m top) _ a ∙ answer-same refusing (tile_refusals m top) _ _ behind ∙ sym (answer-append refusing (tile_refusals m top) _ a')
     where
-      fits : top ≤ m → Inside m W → answer refused (room_refusals room needed) a ≡ answer refused (room_refusals room' needed') a'
+      fits : top ≤ m → Inside m W → answer refusing (room_refusals room needed) a ≡ answer refusing (room_refusals room' needed') a'
       fits cap I = let t = h cap I in rw (d, t.0, t.1)
 
-      behind : verdict (tile_refusals m top) ≡ Passed
-          → answer refused (use_refusals m keys n W cells ++ room_refusals room needed) a
-          ≡ answer refused (use_refusals m keys' n' W cells' ++ room_refusals room' needed') a'
+      behind : verdict (tile_refusals m top) ≡ Ok tt
+          → answer refusing (use_refusals m keys n W cells ++ room_refusals room needed) a
+          ≡ answer refusing (use_refusals m keys' n' W cells' ++ room_refusals room' needed') a'
       behind passed =
-          answer-append refused (use_refusals m keys n W cells) (room_refusals room needed) a
+          answer-append refusing (use_refusals m keys n W cells) (room_refusals room needed) a
           ∙ used e _ _ (fits ((tile-passed m top).0 passed).1)
-          ∙ sym (answer-append refused (use_refusals m keys' n' W cells') (room_refusals room' needed') a')
+          ∙ sym (answer-append refusing (use_refusals m keys' n' W cells') (room_refusals room' needed') a')
 
 -- report says how many pixels the window has, whatever is in them
 pub report-alike : (m : ℕ) (keys classes keys' classes' : List ℕ) (W : Window) (border out other older : List ℕ) {r r' : Answer} {border' out' other' older' : List ℕ}
@@ -65,9 +65,9 @@ pub report-alike : (m : ℕ) (keys classes keys' classes' : List ℕ) (W : Windo
     → Report m keys classes W border out r border' out' → Report m keys' classes' W other older r' other' older' → r ≡ r'
 report-alike m keys classes keys' classes' W border out other older e d S S' call call' =
     report-says true (class_in m keys classes) m keys classes W border out call
-    ∙ answer-append refused (use_refusals m keys (length classes) W (length border)) _ _
+    ∙ answer-append refusing (use_refusals m keys (length classes) W (length border)) _ _
     ∙ used S S' W e _ _ (λ I. rw (d, totals-length m keys classes W, totals-length m keys' classes' W))
-    ∙ sym (answer-append refused (use_refusals m keys' (length classes') W (length other)) _ _)
+    ∙ sym (answer-append refusing (use_refusals m keys' (length classes') W (length other)) _ _)
     ∙ sym (report-says true (class_in m keys' classes') m keys' classes' W other older call')
 
 module _ {m : ℕ} {keys classes keys' classes' : List ℕ} {W : Window} (S : SoundMap m keys (length classes)) (S' : SoundMap m keys' (length classes'))
@@ -93,7 +93,7 @@ module _ {m : ℕ} {keys classes keys' classes' : List ℕ} {W : Window} (S : So
       → Exist m keys classes W class border r border' → Exist m keys' classes' W class other r' other' → r ≡ r'
   exist-alike class border other e call call' =
       exist-says true (class_in m keys classes) m keys classes W class border call
-      ∙ used S S' W e _ _ (λ I. ap of_existence (presence-view S.records S'.records I same class))
+      ∙ used S S' W e _ _ (λ I. ap existence_values (presence-view S.records S'.records I same class))
       ∙ sym (exist-says true (class_in m keys' classes') m keys' classes' W class other call')
 
   pub select-alike : (top class : ℕ) (border out other older : List ℕ) {r r' : Answer} {border' out' other' older' : List ℕ}

@@ -8,12 +8,11 @@ use mathlib.Core.List.{List}
 use Prim.Native.Nat.{ℕ, ◌+◌, ◌*◌, ◌≤◌}
 use native.Mathlib.Omega.{arith}
 use lib.ListN.{length}
-use Rattle.answers.specs.Refusals.{answer}
+use Rattle.answers.specs.Refusals.{answer, refuse}
 use Rattle.answers.specs.Sizes.{SizedIn}
 use Rattle.answers.proofs.Laws.{answer-part, on-passed}
 use Rattle.window.specs.declared.Window.{Window}
 use Rattle.window.specs.Rules.{exists_by}
-use Rattle.map.specs.declared.Checked.TheVariants as checked
 use Rattle.map.specs.Classes.{not_seen}
 use Rattle.map.specs.Check.{map_refusals_in}
 use Rattle.map.specs.Sound.{SoundIn}
@@ -21,8 +20,6 @@ use Rattle.map.proofs.Laws.{sound-map, check-is, numbered-map}
 use Rattle.used.specs.Used.{use_refusals_in}
 use Rattle.used.specs.Promises.{AnswerableIn}
 use Rattle.used.proofs.Laws.{use-answerable, numbered-use}
-use Rattle.house.specs.declared.Reading.TheVariants as reading
-use Rattle.house.specs.declared.Writing.TheVariants as writing
 use Rattle.house.specs.File.{read_refusals_in, write_refusals_in, file_m, file_q}
 use Rattle.house.specs.Promises.{ReadableIn}
 use Rattle.house.proofs.Laws.{numbered-read, read-passed, read-by-lengths, read-untouched, numbered-write, write-passed, write-by-length, write-untouched}
@@ -30,7 +27,7 @@ use Rattle.exist.specs.declared.Existence.TheVariants as existence
 use Rattle.exist.specs.Exist.{presence_by}
 use Rattle.exist.proofs.Laws.{presence-is, exist-by-lengths, exist-untouched}
 use Rattle.lutniorad.specs.declared.Answer.{Answer}
-use Rattle.lutniorad.specs.Numbers.{values, refused, of_count, of_existence, of_reading}
+use Rattle.lutniorad.specs.Numbers.{values, refusing, of_count, existence_values, of_existence, of_reading}
 use Rattle.lutniorad.specs.Calls.{CheckIn, ExistIn, ReadIn, WriteIn}
 use Rattle.lutniorad.proofs.Crossing.{both-slices}
 use Rattle.lutniorad.proofs.Told.{four, told-most, told-when, told-kept}
@@ -38,8 +35,8 @@ use Rattle.lutniorad.proofs.Told.{four, told-most, told-when, told-kept}
 -- ---- checking
 
 module _ (whole : Bool) (m : ℕ) (keys classes : List ℕ) {r : Answer} (call : CheckIn whole m keys classes r) where
-  pub check-says : r ≡ answer refused (map_refusals_in whole m keys (length classes)) (values (length keys) 0)
-  check-says = call.answer ∙ ap of_count (check-is whole m keys (length classes)) ∙ answer-part of_count checked.Refused (map_refusals_in whole m keys (length classes)) _
+  pub check-says : r ≡ answer refusing (map_refusals_in whole m keys (length classes)) (values (length keys) 0)
+  check-says = call.answer ∙ ap of_count (check-is whole m keys (length classes)) ∙ answer-part of_count refuse (map_refusals_in whole m keys (length classes)) _
 
   pub check-numbered : r.refusal ≤ 5
   check-numbered = told-most four _ refl (numbered-map (omega arith) whole m keys (length classes)) check-says
@@ -48,27 +45,27 @@ module _ (whole : Bool) (m : ℕ) (keys classes : List ℕ) {r : Answer} (call :
   check-answered = told-when four _ refl (numbered-map {most = 5} (omega arith) whole m keys (length classes)) check-says (sound-map m keys (length classes))
 
   pub check-promise : r.refusal ≡ 0 → r ≡ values (length keys) 0
-  check-promise z = check-says ∙ on-passed refused _ _ ((sound-map m keys (length classes)).1 (check-answered.0 z))
+  check-promise z = check-says ∙ on-passed refusing _ _ ((sound-map m keys (length classes)).1 (check-answered.0 z))
 
 -- ---- exist
 
 -- yes, no or can't tell, as a number
 abbrev pub say_exists : (ℕ → ℕ) → Window → ℕ → Answer
-say_exists rule W class = of_existence (presence_by rule W class)
+say_exists rule W class = existence_values (presence_by rule W class)
 
 module _ (whole : Bool) (rule : ℕ → ℕ) (m : ℕ) (keys classes : List ℕ) (W : Window) (class : ℕ) (border : List ℕ) {border' : List ℕ} {r : Answer}
     (call : ExistIn whole rule m keys classes W class border r border') where
-  pub exist-says : r ≡ answer refused (use_refusals_in whole m keys (length classes) W (length border)) (say_exists rule W class)
+  pub exist-says : r ≡ answer refusing (use_refusals_in whole m keys (length classes) W (length border)) (say_exists rule W class)
   exist-says =
       call.answer
       ∙ ap of_existence (exist-by-lengths whole rule m keys (length classes) W class border)
-      ∙ answer-part of_existence existence.Refused (use_refusals_in whole m keys (length classes) W (length border)) _
+      ∙ answer-part of_existence refuse (use_refusals_in whole m keys (length classes) W (length border)) _
 
   -- none of the three is a refusal
   pub exist-clear : (say_exists rule W class).refusal ≡ 0
   exist-clear = rw (presence-is rule W class) (go (exists_by rule W class) (exists_by rule W not_seen))
     where
-      go : (a b : Bool) → (of_existence (cond a existence.Yes (cond b existence.CannotTell existence.No))).refusal ≡ 0
+      go : (a b : Bool) → (existence_values (cond a existence.Yes (cond b existence.CannotTell existence.No))).refusal ≡ 0
       go true b = refl
       go false true = refl
       go false false = refl
@@ -89,9 +86,9 @@ module _ (whole : Bool) (rule : ℕ → ℕ) (m : ℕ) (keys classes : List ℕ)
 -- ---- files
 
 module _ (whole : Bool) (file keys classes : List ℕ) {keys' classes' : List ℕ} {r : Answer} (call : ReadIn whole file keys classes r keys' classes') where
-  pub read-says : r ≡ answer refused (read_refusals_in whole file (length keys) (length classes)) (values (file_m file) (file_q file))
+  pub read-says : r ≡ answer refusing (read_refusals_in whole file (length keys) (length classes)) (values (file_m file) (file_q file))
   read-says =
-      call.answer ∙ ap of_reading (read-by-lengths whole file keys classes) ∙ answer-part of_reading reading.Refused (read_refusals_in whole file (length keys) (length classes)) _
+      call.answer ∙ ap of_reading (read-by-lengths whole file keys classes) ∙ answer-part of_reading refuse (read_refusals_in whole file (length keys) (length classes)) _
 
   pub read-numbered : r.refusal ≤ 9
   read-numbered = told-most four _ refl (numbered-read whole file (length keys) (length classes)) read-says
@@ -103,11 +100,11 @@ module _ (whole : Bool) (file keys classes : List ℕ) {keys' classes' : List �
   read_kept held = both-slices (call.cells ∙ read-untouched whole file keys classes (λ R. held (read-answered.1 R)))
 
 module _ (whole : Bool) (m : ℕ) (keys classes out : List ℕ) {out' : List ℕ} {r : Answer} (call : WriteIn whole m keys classes out r out') where
-  pub write-says : r ≡ answer refused (write_refusals_in whole m (length keys) (length classes) (length out)) (values (20 + 5 * length keys) 0)
+  pub write-says : r ≡ answer refusing (write_refusals_in whole m (length keys) (length classes) (length out)) (values (20 + 5 * length keys) 0)
   write-says =
       call.answer
       ∙ ap of_count (write-by-length whole m keys classes out)
-      ∙ answer-part of_count writing.Refused (write_refusals_in whole m (length keys) (length classes) (length out)) _
+      ∙ answer-part of_count refuse (write_refusals_in whole m (length keys) (length classes) (length out)) _
 
   pub write-numbered : r.refusal ≤ 8
   write-numbered = told-most four _ refl (numbered-write whole m (length keys) (length classes) (length out)) write-says

@@ -8,10 +8,10 @@ use Prim.Native.Nat.{ℕ, ◌*◌, ◌≤◌}
 use native.Mathlib.Omega.{arith}
 use lib.ListN.{length, get_or, take}
 use lib.Seq.{get_or-take}
+use Rattle.std.specs.Prelude.{Ok}
 use Rattle.lists.specs.Promises.{sum}
 use Rattle.lists.proofs.Laws.{never}
-use Rattle.answers.specs.declared.Verdict.TheVariants.{Passed}
-use Rattle.answers.specs.Refusals.{answer, verdict}
+use Rattle.answers.specs.Refusals.{answer, verdict, refuse}
 use Rattle.answers.specs.After.{after, room_refusals}
 use Rattle.answers.proofs.Laws.{on-passed, take-overwrite, drop-overwrite}
 use Rattle.window.specs.declared.Window.{Window}
@@ -24,10 +24,9 @@ use Rattle.used.proofs.Laws.{use-answerable}
 use Rattle.exist.specs.Exist.{presence_by}
 use Rattle.exist.specs.declared.Existence.TheVariants as existence
 use Rattle.exist.proofs.Laws.{presence-is, exist-leaves}
-use Rattle.report.specs.declared.Reported.TheVariants as reported-as
 use Rattle.report.proofs.Laws.{report-is}
 use Rattle.lutniorad.specs.declared.Answer.{Answer}
-use Rattle.lutniorad.specs.Numbers.{values, refused, of_existence, of_count}
+use Rattle.lutniorad.specs.Numbers.{values, refusing, existence_values, of_count}
 use Rattle.lutniorad.specs.Calls.{ExistIn, ReportIn}
 use Rattle.lutniorad.specs.Promises.{RefusalLeaves, ExistPromiseBy, ReportPromiseBy}
 use Rattle.lutniorad.proofs.Answered.{exist-says, exist-answered}
@@ -50,7 +49,7 @@ module _ {r : Answer} {k : ℕ} (e : r ≡ values k 0) where
   other i apart none = (λ d. absurd (apart (sym number ∙ ap (λ (x : Answer). x.first) d)), λ s. absurd (none s))
 
 -- the three answers, from what is known of the class and of what was not seen
-three : {A B : Type 0} {r : Answer} (a b : Bool) → (a ≡ true) ↔ A → (b ≡ true) ↔ B → r ≡ of_existence (cond a existence.Yes (cond b existence.CannotTell existence.No))
+three : {A B : Type 0} {r : Answer} (a b : Bool) → (a ≡ true) ↔ A → (b ≡ true) ↔ B → r ≡ existence_values (cond a existence.Yes (cond b existence.CannotTell existence.No))
     → ((r ≡ values 1 0) ↔ A) × ((r ≡ values 2 0) ↔ ((¬ A) × B)) × ((r ≡ values 0 0) ↔ ((¬ A) × (¬ B))) × ((r.first ≤ 2) × (r ≡ values r.first 0))
 three {A} true b is-a is_b e =
     let has : A = is-a.0 refl in
@@ -66,16 +65,16 @@ three {A} {B} false false is-a is_b e =
 
 module _ (whole : Bool) (rule : ℕ → ℕ) (m : ℕ) (keys classes : List ℕ) (W : Window) (class : ℕ) (border : List ℕ) {border' : List ℕ} {r : Answer}
     (call : ExistIn whole rule m keys classes W class border r border') (z : r.refusal ≡ 0) where
-  passed : verdict (use_refusals_in whole m keys (length classes) W (length border)) ≡ Passed
+  passed : verdict (use_refusals_in whole m keys (length classes) W (length border)) ≡ Ok tt
   passed = (use-answerable whole m keys (length classes) W (length border)).1 ((exist-answered whole rule m keys classes W class border call).0 z)
 
   -- an answered call says one of the three
-  pub exist-three : r ≡ of_existence (presence_by rule W class)
-  exist-three = exist-says whole rule m keys classes W class border call ∙ on-passed refused _ _ passed
+  pub exist-three : r ≡ existence_values (presence_by rule W class)
+  exist-three = exist-says whole rule m keys classes W class border call ∙ on-passed refusing _ _ passed
 
   pub exist-promise : ExistPromiseBy rule W class border r border'
   exist-promise =
-      let said = exist-three ∙ ap of_existence (presence-is rule W class) in
+      let said = exist-three ∙ ap existence_values (presence-is rule W class) in
       let means = exists-by-means rule W in
       let t = three (exists_by rule W class) (exists_by rule W not_seen) (means class) (means not_seen) said in
       record {
@@ -95,13 +94,13 @@ module _ (whole : Bool) (rule : ℕ → ℕ) (m : ℕ) (keys classes : List ℕ)
   counts = totals_by rule W
 
   -- the call in numbers
-  reported : after r (border', out') ≡ used_in whole refused (values (W.h * W.w) 0) counts m keys (length classes) W border out
+  reported : after r (border', out') ≡ used_in whole refusing (values (W.h * W.w) 0) counts m keys (length classes) W border out
   reported =
-      let done = reported-as.Done (W.h * W.w) in
-      used-crossed whole of_count reported-as.Refused done counts m keys (length classes) W border out (report-is whole rule m keys (length classes) W border out) call
+      let done = Ok (W.h * W.w) in
+      used-crossed whole of_count refuse done counts m keys (length classes) W border out (report-is whole rule m keys (length classes) W border out) call
 
   pub report-says : r
-      ≡ answer refused (use_refusals_in whole m keys (length classes) W (length border) ++ room_refusals (length out) (length counts)) (values (W.h * W.w) 0)
+      ≡ answer refusing (use_refusals_in whole m keys (length classes) W (length border) ++ room_refusals (length out) (length counts)) (values (W.h * W.w) 0)
   report-says = used-says whole (W.h * W.w) 0 counts m keys (length classes) W border out reported
 
   -- answered exactly when the map is sound, the window inside, the border has w cells and the slice 256

@@ -6,24 +6,26 @@ use mathlib.Core.List.{List, ◌++◌}
 use Prim.Native.Nat.{ℕ, ◌≤◌, ◌<◌}
 use native.Mathlib.Decide.{dec_le, dec_lt}
 use native.Mathlib.Omega.{arith}
-use Rattle.answers.specs.declared.Verdict.TheVariants.{Refused}
+use Rattle.answers.specs.Refusals as of
+use Rattle.std.specs.Prelude.{Err}
+use Rattle.answers.specs.declared.Refused.{Refused}
 use Rattle.answers.specs.Refusals.{Refusal, answer, verdict}
 use Rattle.answers.specs.Sizes.{tile_refusals}
 use Rattle.answers.specs.After.{After, after, tiled_for}
 use Rattle.answers.proofs.Laws.{answer-append, on-refused, tile-large, tile-over}
 use Rattle.lutniorad.specs.declared.Answer.{Answer}
-use Rattle.lutniorad.specs.Numbers.{refused}
+use Rattle.lutniorad.specs.Numbers.{refusing}
 use Rattle.lutniorad.proofs.Told.{four, guarded-says}
 
-module _ {S : Type 0} (m top : ℕ) (lent : S) (o : After Answer S) {r : Answer} {lent' : S} (call : after r lent' ≡ tiled_for refused m top lent o) where
+module _ {S : Type 0} (m top : ℕ) (lent : S) (o : After Answer S) {r : Answer} {lent' : S} (call : after r lent' ≡ tiled_for refusing m top lent o) where
   -- the four numbers: the first of refusals 1 and 17 that holds, or what is said without them
-  pub capped-says : (rs : List Refusal) (v : Answer) → o.answer ≡ answer refused rs v → r ≡ answer refused (tile_refusals m top ++ rs) v
+  pub capped-says : (rs : List Refusal) (v : Answer) → o.answer ≡ answer refusing rs v → r ≡ answer refusing (tile_refusals m top ++ rs) v
   capped-says rs v said =
       guarded-says four (tile_refusals m top) lent o call
-      ∙ ap (λ (x : Answer). answer refused (tile_refusals m top) x) said
-      ∙ sym (answer-append refused (tile_refusals m top) rs v)
+      ∙ ap (λ (x : Answer). answer refusing (tile_refusals m top) x) said
+      ∙ sym (answer-append refusing (tile_refusals m top) rs v)
 
-  given : {n p : ℕ} → verdict (tile_refusals m top) ≡ Refused n p → (r.refusal ≡ n) × (lent' ≡ lent)
+  given : {e : Refused} → verdict (tile_refusals m top) ≡ Err e → (r.refusal ≡ of.number e.cause) × (lent' ≡ lent)
   given e =
       let d = call ∙ on-refused _ (tile_refusals m top) o e in
       (ap (λ (x : After Answer S). x.answer.refusal) d, ap (λ (x : After Answer S). x.lent) d)

@@ -25,7 +25,7 @@ use Rattle.sparse_select.proofs.Laws.{sparse-whole}
 use Rattle.house.specs.File.{file_q}
 use Rattle.house.proofs.Laws.{read_same, write_same}
 use Rattle.lutniorad.specs.declared.Answer.{Answer}
-use Rattle.lutniorad.specs.Numbers.{refused}
+use Rattle.lutniorad.specs.Numbers.{refused, refusing}
 use Rattle.lutniorad.specs.Calls.{Check, OpenTiled, Exist, Report, SelectTiled, Read, Write}
 use Rattle.lutniorad.specs.Calls.{SparseCheck, SparseOpen, SparseExist, SparseReport, SparseSelect, SparseRead, SparseWrite}
 use Rattle.lutniorad.proofs.Crossing.{alike}
@@ -40,13 +40,13 @@ pub check-gapless : (m : ℕ) (keys classes : List ℕ) {r : Answer} → Check m
     → (r.refusal ≡ 2 → length keys ≡ 0 → length classes ≡ 0 → ⊥) → (r.refusal ≡ 5 → ⊥)
     → Gapless m keys (length classes)
 check-gapless m keys classes call some other = record {
-  some = λ p v. some (by_number (check-says true m keys classes call ∙ on-refused refused _ _ v));
-  closed = λ p v. other (by_number (check-says true m keys classes call ∙ on-refused refused _ _ v));
+  some = λ p v. some (by_number (check-says true m keys classes call ∙ on-refused refusing _ _ v));
+  closed = λ p v. other (by_number (check-says true m keys classes call ∙ on-refused refusing _ _ v));
 }
 
 module _ (m : ℕ) (keys classes : List ℕ) (G : Gapless m keys (length classes)) where
   pub check-complete : {r s : Answer} → SparseCheck m keys classes r → Check m keys classes s → r ≡ s
-  check-complete a b = check-says false m keys classes a ∙ answer-verdict refused _ _ _ (gapless-same G) ∙ sym (check-says true m keys classes b)
+  check-complete a b = check-says false m keys classes a ∙ answer-verdict refusing _ _ _ (gapless-same G) ∙ sym (check-says true m keys classes b)
 
   pub open-complete : (tile : ℕ) (W : Window) (border out : List ℕ) {r s : Answer} {border' out' border'' out'' : List ℕ}
       → SparseOpen m tile keys classes W border out r border' out' → OpenTiled m tile keys classes W border out s border'' out''
@@ -88,8 +88,8 @@ module _ (m : ℕ) (keys classes : List ℕ) (G : Gapless m keys (length classes
 pub read-complete : (file keys classes : List ℕ) {r s : Answer} {keys' classes' keys'' classes'' : List ℕ}
     → SparseRead file keys classes r keys' classes' → Read file keys classes s keys'' classes'' → (s.refusal ≡ 2 → file_q file ≡ 0 → ⊥)
     → (r ≡ s) × (◌≡◌ {A = List ℕ × List ℕ} (keys', classes') (keys'', classes''))
-read-complete file keys classes a b some = alike (read_same file keys classes (λ v. some (by_number (read-says true file keys classes b ∙ on-refused refused _ _ v)))) a b
+read-complete file keys classes a b some = alike (read_same file keys classes (λ v. some (by_number (read-says true file keys classes b ∙ on-refused refusing _ _ v)))) a b
 
 pub write-complete : (m : ℕ) (keys classes out : List ℕ) {r s : Answer} {out' out'' : List ℕ}
     → SparseWrite m keys classes out r out' → Write m keys classes out s out'' → (s.refusal ≡ 2 → length keys ≡ 0 → length classes ≡ 0 → ⊥) → (r ≡ s) × (out' ≡ out'')
-write-complete m keys classes out a b some = alike (write_same m keys classes out (λ v. some (by_number (write-says true m keys classes out b ∙ on-refused refused _ _ v)))) a b
+write-complete m keys classes out a b some = alike (write_same m keys classes out (λ v. some (by_number (write-says true m keys classes out b ∙ on-refused refusing _ _ v)))) a b

@@ -8,8 +8,9 @@ use Prim.Native.Nat.{ℕ, ◌+◌, ◌*◌, ◌/◌, ◌^◌, ◌≤◌, ◌<◌
 use native.Mathlib.Decide.{dec_le}
 use native.Mathlib.Omega.{arith}
 use lib.ListN.{length, length-map}
+use Rattle.std.specs.Prelude.{Ok}
 use Rattle.lists.proofs.Laws.{ordered-map, map_same}
-use Rattle.answers.specs.Refusals.{answer}
+use Rattle.answers.specs.Refusals.{answer, refuse}
 use Rattle.answers.specs.Sizes.{tile_refusals}
 use Rattle.answers.specs.Cells.{overwrite}
 use Rattle.answers.specs.After.{after, tiled_for}
@@ -22,10 +23,9 @@ use Rattle.window.specs.Blocks.{exponent, maximal}
 use Rattle.window.specs.Promises.{Maximal}
 use Rattle.window.specs.Keys.{keys_of}
 use Rattle.window.proofs.Laws.{maximal-listed, listed-ordered, blocks-capped, blocks-few, keys-of, keys_length, key-at, drawn-said, drawn-by-length}
-use Rattle.decompose.specs.declared.Decomposed.TheVariants as decomposed-as
 use Rattle.decompose.proofs.Laws.{decompose-is, decompose-within}
 use Rattle.lutniorad.specs.declared.Answer.{Answer}
-use Rattle.lutniorad.specs.Numbers.{values, refused, of_count}
+use Rattle.lutniorad.specs.Numbers.{values, refusing, of_count}
 use Rattle.lutniorad.specs.Calls.{Decompose, DecomposeTiled}
 use Rattle.lutniorad.specs.Promises.{DecomposePromise}
 use Rattle.lutniorad.proofs.Crossing.{call-one, unless-crossed}
@@ -69,18 +69,18 @@ module _ (m top : ℕ) (W : Window) (out : List ℕ) {out' : List ℕ} {r : Answ
   ks = keys_of m top W
 
   -- the call in numbers
-  decomposed : after r out' ≡ tiled_for refused m top out (drawn_for refused (values (length ks) 0) ks m W out)
+  decomposed : after r out' ≡ tiled_for refusing m top out (drawn_for refusing (values (length ks) 0) ks m W out)
   decomposed =
-      unless-crossed of_count decomposed-as.Refused (tile_refusals m top) out _ (decompose-is m top W out) call
-      ∙ ap (tiled_for refused m top out) (drawn-said decomposed-as.Refused (decomposed-as.Done (length ks)) ks m W out of_count)
+      unless-crossed of_count refuse (tile_refusals m top) out _ (decompose-is m top W out) call
+      ∙ ap (tiled_for refusing m top out) (drawn-said refuse (Ok (length ks)) ks m W out of_count)
 
   -- the first of refusals 1 and 17, and of 1, 6 and 8, or the number of blocks; of the slice only the length counts
-  pub decompose-says : r ≡ answer refused (tile_refusals m top ++ drawn_refusals m W (length ks) (length out)) (values (length ks) 0)
-  decompose-says = capped-says m top out _ decomposed _ _ (drawn-by-length refused (values (length ks) 0) ks m W out)
+  pub decompose-says : r ≡ answer refusing (tile_refusals m top ++ drawn_refusals m W (length ks) (length out)) (values (length ks) 0)
+  decompose-says = capped-says m top out _ decomposed _ _ (drawn-by-length refusing (values (length ks) 0) ks m W out)
 
   -- with a tile no larger than the picture
-  untiled : top ≤ m → after r out' ≡ drawn_for refused (values (length ks) 0) ks m W out
-  untiled cap = drawn-crossed of_count decomposed-as.Refused (decomposed-as.Done (length ks)) ks m W out (decompose-within m top W out cap) call
+  untiled : top ≤ m → after r out' ≡ drawn_for refusing (values (length ks) 0) ks m W out
+  untiled cap = drawn-crossed of_count refuse (Ok (length ks)) ks m W out (decompose-within m top W out cap) call
 
   pub decompose-numbered : top ≤ m → r.refusal ≤ 8
   decompose-numbered cap = drawn-numbered (length ks) ks m W out (untiled cap)

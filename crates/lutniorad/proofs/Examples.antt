@@ -42,14 +42,14 @@ use Rattle.month.specs.Promises.{month_of}
 use Rattle.month.proofs.P1.{empty, first-day}
 use Rattle.month.proofs.Examples.{examples}
 use Rattle.exist.proofs.Examples as queries
-use Rattle.lutniorad.specs.Numbers.{values, refused, reason}
+use Rattle.lutniorad.specs.Numbers.{refused, values, reason}
 use Rattle.lutniorad.specs.Calls.{Decompose, DecomposeTiled, Open, OpenTiled, Windows, WhyRecord, WhyBlock, Exist, MonthClear, MonthAdd, SparseOpen, SparseExist}
 use Rattle.lutniorad.specs.Promises.{DecomposePromise, OpenPromise, SomePixelBy, SomePixel}
 use Rattle.lutniorad.specs.ManyPromises.{WindowsPromise}
 use Rattle.lutniorad.specs.MonthPromises.{MonthRow, cleared, added}
 use Rattle.lutniorad.specs.MonthPromises as months
 use Rattle.lutniorad.specs.SparsePromises.{SparseOpenPromise}
-use Rattle.lutniorad.proofs.Crossing.{crossing}
+use Rattle.lutniorad.proofs.Crossing.{crossing-known}
 use Rattle.lutniorad.proofs.Decomposing.{decompose-promise}
 use Rattle.lutniorad.proofs.Opening.{open-promise}
 use Rattle.lutniorad.proofs.Windows.{windows-promise}
@@ -96,14 +96,14 @@ p1-promise = open-promise 2 2 keys classes W (old 3) (old 12) called.p1 refl
 
 -- P1's record 5, and block 9 of P2: what is said of them is so of the list that stands in P1's cells
 record-call : WhyRecord 2 keys classes W 5 (old 3) (reason 1 5 2) (3 ∷ 3 ∷ 3 ∷ [])
-record-call = crossing refl refl (sym (reasons.examples).fifth)
+record-call = crossing-known refl (sym (reasons.examples).fifth)
 
 record-handed : HandedBy p1-list 2 5
 unfolding openings_in
 record-handed = ((why-record-list 2 keys classes W (old 3) (old 12) called.p1 refl 5 (old 3) record-call refl).handed 2).0 refl
 
 block-call : WhyBlock 2 keys classes W 9 (old 3) (reason 7 0 0) (3 ∷ 3 ∷ 3 ∷ [])
-block-call = crossing refl refl (sym (reasons.examples).skipped)
+block-call = crossing-known refl (sym (reasons.examples).skipped)
 
 block-skipped : SkippedFor 2 2 keys W p1-list 9 0 0
 unfolding openings_in
@@ -119,7 +119,7 @@ p2-promise = decompose-promise 2 2 W (old 6) called.p2 refl
 
 -- P1's window, one that is refused and one pixel, in one call
 many-call : Windows 2 keys classes (drawn ++ below ++ pixel) (old 4) (old 16) (values 3 0) (4 ∷ 3 ∷ 3 ∷ 99 ∷ []) lines
-many-call = crossing refl refl (sym (lists.examples).done)
+many-call = crossing-known refl (sym (lists.examples).done)
 
 many-promise : WindowsPromise 2 keys classes (drawn ++ below ++ pixel) (old 4) (old 16) (values 3 0) (4 ∷ 3 ∷ 3 ∷ 99 ∷ []) lines
 many-promise = windows-promise 2 keys classes (drawn ++ below ++ pixel) (old 4) (old 16) many-call refl
@@ -130,7 +130,7 @@ many-first = many-promise.opened 0 (omega arith) (old 3) (old 12) called.p1 (λ 
 
 -- class 4 in P1's window, where a part was not seen: none was seen with it, and some pixel was not seen
 exist-call : Exist 2 keys glare W 4 (old 4) (values 2 0) (3 ∷ 3 ∷ 3 ∷ 99 ∷ [])
-exist-call = crossing refl refl (sym (queries.examples).cannot-tell)
+exist-call = crossing-known refl (sym (queries.examples).cannot-tell)
 
 none_seen : (¬ SomePixel 2 keys glare W 4) × SomePixel 2 keys glare W not_seen
 none_seen = (exist-promise true (class_in 2 keys glare) 2 keys glare W 4 (old 4) exist-call refl).cannot-tell.0 refl
@@ -138,9 +138,9 @@ none_seen = (exist-promise true (class_in 2 keys glare) 2 keys glare W 4 (old 4)
 -- a month is cleared, P1's map is taken, and a record that is malformed is refused: from the examples of the operations
 month-row : MonthRow 2 W (old 1031) ((keys, classes) ∷ []) (first-day ++ 99 ∷ [])
 month-row =
-    let clears : MonthClear 2 W (old 1031) (values 0 0) (empty ++ 99 ∷ []) = crossing refl refl (sym examples.clears) in
-    let takes : MonthAdd 2 keys classes (old 4) (empty ++ 99 ∷ []) (values 1 0) (3 ∷ 3 ∷ 3 ∷ 99 ∷ []) (first-day ++ 99 ∷ []) = crossing refl refl (sym examples.adds) in
-    let refuses : MonthAdd 2 (1 ∷ []) (3 ∷ []) (old 3) (first-day ++ 99 ∷ []) (refused 3 0) (old 3) (first-day ++ 99 ∷ []) = crossing refl refl (sym examples.refuses) in
+    let clears : MonthClear 2 W (old 1031) (values 0 0) (empty ++ 99 ∷ []) = crossing-known refl (sym examples.clears) in
+    let takes : MonthAdd 2 keys classes (old 4) (empty ++ 99 ∷ []) (values 1 0) (3 ∷ 3 ∷ 3 ∷ 99 ∷ []) (first-day ++ 99 ∷ []) = crossing-known refl (sym examples.adds) in
+    let refuses : MonthAdd 2 (1 ∷ []) (3 ∷ []) (old 3) (first-day ++ 99 ∷ []) (refused 3 0) (old 3) (first-day ++ 99 ∷ []) = crossing-known refl (sym examples.refuses) in
     months.refused (added (cleared clears refl) 2 keys classes (old 4) takes refl) 2 (1 ∷ []) (3 ∷ []) (old 3) refuses (λ e. omega (arith, e))
 
 -- so the table is that of the one map
@@ -156,7 +156,7 @@ abbrev gapped-list : List Opening
 gapped-list = made 7 0 0 ∷ made 10 0 3 ∷ made 9 0 0 ∷ made 17 0 0 ∷ made 21 3 1 ∷ []
 
 gapped-call : SparseOpen 2 2 keys-sparse classes-sparse W (take 4 opens.old) (old 16) (values 5 4) (3 ∷ 3 ∷ 3 ∷ 93 ∷ []) gapped-cells
-gapped-call = crossing refl refl (sym (opens.gaps).done)
+gapped-call = crossing-known refl (sym (opens.gaps).done)
 
 gapped-promise : SparseOpenPromise 2 2 keys-sparse W (take 4 opens.old) (old 16) gapped-list (values 5 4) (3 ∷ 3 ∷ 3 ∷ 93 ∷ []) gapped-cells
 unfolding openings_in
@@ -172,7 +172,7 @@ gapped-two s = gapped-promise.fewest s
 
 -- over a background of 255 the gaps were not seen
 unseen-call : SparseExist 2 255 keys-sparse classes-sparse W 4 (old 3) (values 2 0) (3 ∷ 3 ∷ 3 ∷ [])
-unseen-call = crossing refl refl (sym (queries.gaps).unseen)
+unseen-call = crossing-known refl (sym (queries.gaps).unseen)
 
 gaps-unseen : SomePixelBy (class_over 255 2 keys-sparse classes-sparse) W not_seen
 gaps-unseen = ((exist-promise false (class_over 255 2 keys-sparse classes-sparse) 2 keys-sparse classes-sparse W 4 (old 3) unseen-call refl).cannot-tell.0 refl).1

@@ -7,6 +7,7 @@ use mathlib.Core.List.{List}
 use Prim.Native.Nat.{ℕ, ◌≤◌}
 use native.Mathlib.Omega.{arith}
 use lib.ListN.{length}
+use Rattle.std.specs.Prelude.{Result, Ok, Err}
 use Rattle.lists.proofs.Laws.{never}
 use Rattle.answers.specs.Refusals.{answer}
 use Rattle.answers.specs.After.{after}
@@ -17,10 +18,11 @@ use Rattle.map.specs.Sound.{Spaced, SoundIn, SoundMap}
 use Rattle.map.specs.Runs.{run_of}
 use Rattle.map.proofs.Laws.{spaced, record-at, overlap-is, block-records, some-records, malformed-not}
 use Rattle.border.proofs.Laws.{met-run}
-use Rattle.overlay.specs.declared.Pairing.TheVariants as pairing-of
 use Rattle.overlay.specs.declared.Viewed.{Viewed}
 use Rattle.overlay.specs.declared.Viewed.TheVariants as viewed
-use Rattle.overlay.specs.Overlay.{pairing, block_refusals, records_over, view_of}
+use Rattle.overlay.specs.declared.Layer.TheVariants.{Neither}
+use Rattle.overlay.specs.declared.Unpaired.{Unpaired}
+use Rattle.overlay.specs.Overlay.{refuse_of, pairing, block_refusals, records_over, view_of}
 use Rattle.overlay.proofs.Laws.{Seen, unpaired, blockless, of_today, of_baseline, view-seen, view-over-is, pairing-passed, part-are}
 use Rattle.lutniorad.specs.declared.Answer.{Answer}
 use Rattle.lutniorad.specs.declared.Part.{Part}
@@ -30,8 +32,8 @@ use Rattle.lutniorad.specs.OverlayPromises.{Overlayable, OverlayRefusals, MeetsB
 use Rattle.lutniorad.proofs.Over.{Layers, OnBoth, over-refusals, over-cases, over-other}
 
 -- how it is said
-abbrev viewing : Layers Viewed Viewed Part
-viewing = record { say = of_viewed; refuse = viewed.Refused; tell = λ v. v; number = λ (x : Part). x.refusal; tells = λ map n p. refl }
+abbrev viewing : Layers (Result Viewed Unpaired) Viewed Part
+viewing = record { say = of_viewed; by = no_part; tell = λ v. v; inner = of_viewed; number = λ (x : Part). x.refusal; saying = λ e. refl; telling = λ v. refl; tells = λ map n p. refl }
 
 -- the records of a map that overlap a block, by the run of their numbers
 module _ {m : ℕ} {keys : List ℕ} (F : Spaced m 0 keys) {key i s : ℕ} (B : Names m key i s) where
@@ -63,19 +65,19 @@ module _ (m : ℕ) (keys classes : List ℕ) (base_m : ℕ) (base base_classes :
   said : Overlayable m keys (length classes) base_m base (length base_classes) → Said
   said O = go (view_of m keys (length classes) base_m base (length base_classes) key) refl (view-seen m keys (length classes) base_m base (length base_classes) key)
     where
-      passed : pairing m keys (length classes) base_m base (length base_classes) ≡ pairing-of.Passed
+      passed : pairing m keys (length classes) base_m base (length base_classes) ≡ Ok tt
       passed = (pairing-passed m keys (length classes) base_m base (length base_classes)).1 (O.today, O.baseline, O.same-m)
 
-      numbers : {v : Viewed} → view_of m keys (length classes) base_m base (length base_classes) key ≡ v → r ≡ of_viewed v
+      numbers : {v : Result Viewed Unpaired} → view_of m keys (length classes) base_m base (length base_classes) key ≡ v → r ≡ of_viewed v
       numbers e = call.answer ∙ ap of_viewed e
 
-      go : (v : Viewed) → view_of m keys (length classes) base_m base (length base_classes) key ≡ v → Seen m keys (length classes) base_m base (length base_classes) key v → Said
-      go (viewed.Refused map n p) e (unpaired d) = let z = sym passed ∙ d in let q : ◌≡◌ {A = ℕ} 0 1 = cc in absurd (omega arith)
-      go (viewed.Refused map n p) e (blockless d h) = none h (numbers e)
-      go (viewed.Today f c) e (of_today d N a b h) = own N (numbers e ∙ rw (a, b)) (λ z. h (b ∙ z))
-      go (viewed.Baseline f c) e (of_baseline d N a b h) = under N (numbers e ∙ rw (a, b)) h
+      go : (v : Result Viewed Unpaired) → view_of m keys (length classes) base_m base (length base_classes) key ≡ v → Seen m keys (length classes) base_m base (length base_classes) key v → Said
+      go (Err u) e (unpaired d) = let z = sym passed ∙ d in absurd cc
+      go (Err u) e (blockless d h) = none h (numbers e)
+      go (Ok (viewed.Today f c)) e (of_today d N a b h) = own N (numbers e ∙ rw (a, b)) (λ z. h (b ∙ z))
+      go (Ok (viewed.Baseline f c)) e (of_baseline d N a b h) = under N (numbers e ∙ rw (a, b)) h
 
-  on_both : OnBoth viewing m keys classes base_m base base_classes (tt {0}) (after (answer (viewed.Refused 0) (block_refusals m key) (records_over m keys base key)) (tt {0})) r (tt {0})
+  on_both : OnBoth viewing m keys classes base_m base base_classes (tt {0}) (after (answer (refuse_of Neither) (block_refusals m key) (Ok (records_over m keys base key))) (tt {0})) r (tt {0})
   on_both = record {
     outcome = after (view_of m keys (length classes) base_m base (length base_classes) key) (tt {0});
     is = view-over-is m keys (length classes) base_m base (length base_classes) key (tt {0});

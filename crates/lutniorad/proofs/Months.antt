@@ -7,8 +7,11 @@ use Prim.Native.Nat.{ℕ, ◌+◌, ◌≤◌}
 use native.Mathlib.Nat.{mul-le-mul}
 use native.Mathlib.Omega.{arith}
 use lib.ListN.{length, replicate}
-use Rattle.answers.specs.declared.Verdict.TheVariants as verdict-of
-use Rattle.answers.specs.Refusals.{Refusal, answer, verdict}
+use Rattle.answers.specs.declared.Cause.{Cause}
+use Rattle.answers.specs.Refusals as of
+use Rattle.std.specs.Prelude.{Ok, Err}
+use Rattle.answers.specs.declared.Refused.{Refused}
+use Rattle.answers.specs.Refusals.{Refusal, answer, verdict, refuse}
 use Rattle.answers.specs.Cells.{overwrite}
 use Rattle.answers.specs.After.{After, after, unless}
 use Rattle.answers.proofs.Laws.{on-passed, on-refused, drop-overwrite}
@@ -17,14 +20,12 @@ use Rattle.window.specs.Window.{Inside}
 use Rattle.window.specs.Drawn.{drawn_refusals, drawn_for}
 use Rattle.window.proofs.Laws.{inside-12, pixels-most}
 use Rattle.used.specs.Used.{spent}
-use Rattle.month.specs.declared.Cleared.TheVariants as cleared-as
-use Rattle.month.specs.declared.Added.TheVariants as added-as
 use Rattle.month.specs.Month.{head_of, window_in, maps_in, add_map, add_refusals}
 use Rattle.month.specs.Promises.{Addable}
 use Rattle.month.proofs.Laws.{clear-is, empty-length, numbered-add, add-addable, map-length, add_is, add-table}
 use Rattle.month.proofs.Laws.{month-none, next-m, next-window, next-maps, next_row, sane-next}
 use Rattle.lutniorad.specs.declared.Answer.{Answer}
-use Rattle.lutniorad.specs.Numbers.{values, refused, of_cleared, of_count}
+use Rattle.lutniorad.specs.Numbers.{values, refusing, of_cleared, of_count}
 use Rattle.lutniorad.specs.Calls.{MonthClear, MonthAdd}
 use Rattle.lutniorad.specs.MonthPromises.{MonthClearPromise, MonthAddPromise}
 use Rattle.lutniorad.proofs.Drawing.{drawn-crossed, drawn-says, drawn-numbered, drawn-answered, drawn-kept, drawn-done}
@@ -38,10 +39,10 @@ module _ (m : ℕ) (W : Window) (table : List ℕ) {table' : List ℕ} {r : Answ
   empty = head_of m W ++ replicate 1025 0
 
   -- the call in numbers
-  clears : after r table' ≡ drawn_for refused (values 0 0) empty m W table
-  clears = drawn-crossed of_cleared cleared-as.Refused cleared-as.Done empty m W table (clear-is m W table) call
+  clears : after r table' ≡ drawn_for refusing (values 0 0) empty m W table
+  clears = drawn-crossed of_cleared refuse (Ok tt) empty m W table (clear-is m W table) call
 
-  pub month-clear-says : r ≡ answer refused (drawn_refusals m W 1030 (length table)) (values 0 0)
+  pub month-clear-says : r ≡ answer refusing (drawn_refusals m W 1030 (length table)) (values 0 0)
   month-clear-says = rw (empty-length m W) at (drawn-says 0 empty m W table clears)
 
   pub month-clear-numbered : r.refusal ≤ 8
@@ -66,11 +67,11 @@ module _ (m : ℕ) (keys classes border table : List ℕ) {border' table' : List
 
   -- the call in numbers
   adds : ◌≡◌ {A = After Answer (List ℕ × List ℕ)} (after r (border', table'))
-      (unless refused rs (border, table) (after (values (maps_in table + 1) 0) (spent (window_in table) border, overwrite (add_map m keys classes table) table)))
-  adds = unless-crossed of_count added-as.Refused rs (border, table) _ (add_is m keys classes border table) call
+      (unless refusing rs (border, table) (after (values (maps_in table + 1) 0) (spent (window_in table) border, overwrite (add_map m keys classes table) table)))
+  adds = unless-crossed of_count refuse rs (border, table) _ (add_is m keys classes border table) call
 
   -- the first refusal that holds, or the number of maps; of the border only the length counts
-  pub month-add-says : r ≡ answer refused (add_refusals m keys (length classes) (length border) table) (values (maps_in table + 1) 0)
+  pub month-add-says : r ≡ answer refusing (add_refusals m keys (length classes) (length border) table) (values (maps_in table + 1) 0)
   month-add-says = guarded-says four rs (border, table) _ adds
 
   pub month-add-numbered : r.refusal ≤ 26
@@ -87,7 +88,7 @@ module _ (m : ℕ) (keys classes border table : List ℕ) {border' table' : List
 
   -- an answered one writes the table with the map
   module _ (z : r.refusal ≡ 0) where
-    passed : verdict rs ≡ verdict-of.Passed
+    passed : verdict rs ≡ Ok tt
     passed = (add-addable m keys (length classes) (length border) table).1 (month-add-answered.0 z)
 
     left : (border' ≡ spent (window_in table) border) × (table' ≡ overwrite (add_map m keys classes table) table)
@@ -104,7 +105,7 @@ module _ (m : ℕ) (keys classes border table : List ℕ) {border' table' : List
         let most = mul-le-mul s.few (pixels-most (window_in cells) (inside-12 A.sound.sizes.small s.inside)) in
         let n = map-length m keys classes table in
         rw month-add-table (record {
-          number = month-add-says ∙ on-passed refused rs _ passed;
+          number = month-add-says ∙ on-passed refusing rs _ passed;
           maps = next-maps m keys classes table table;
           same-m = next-m m keys classes table table ∙ sym A.ongoing.same;
           window = next-window m keys classes table table;
@@ -116,8 +117,8 @@ module _ (m : ℕ) (keys classes border table : List ℕ) {border' table' : List
         })
 
   -- what it says, by the verdict
-  pub month-add-number : {n p : ℕ} → verdict (add_refusals m keys (length classes) (length border) table) ≡ verdict-of.Refused n p → r.refusal ≡ n
-  month-add-number e = ap (λ (x : Answer). x.refusal) (month-add-says ∙ on-refused refused rs _ e)
+  pub month-add-number : {e : Refused} → verdict (add_refusals m keys (length classes) (length border) table) ≡ Err e → r.refusal ≡ of.number e.cause
+  month-add-number e = ap (λ (x : Answer). x.refusal) (month-add-says ∙ on-refused refusing rs _ e)
 
 -- old contents of the border change nothing: only its length counts for the answer and for the table
 pub month-add-blind : (m : ℕ) (keys classes border other table : List ℕ) {border' other' table' table'' : List ℕ} {r s : Answer} → length border ≡ length other
@@ -128,5 +129,5 @@ month-add-blind m keys classes border other table e one two = (
 )
   where
     written : (lent : List ℕ) {lent' after : List ℕ} {a : Answer} → MonthAdd m keys classes lent table a lent' after
-        → after ≡ answer (λ (n p : ℕ). table) (add_refusals m keys (length classes) (length lent) table) (overwrite (add_map m keys classes table) table)
+        → after ≡ answer (λ (c : Cause) (p : ℕ). table) (add_refusals m keys (length classes) (length lent) table) (overwrite (add_map m keys classes table) table)
     written lent call = ap (λ (x : List ℕ × List ℕ). x.1) call.cells ∙ add-table m keys classes lent table

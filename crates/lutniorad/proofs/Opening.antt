@@ -7,7 +7,8 @@ use mathlib.Core.List.{List, ◌++◌}
 use Prim.Native.Nat.{ℕ, ◌+◌, ◌*◌, ◌/◌, ◌^◌, ◌≤◌, ◌<◌}
 use native.Mathlib.Omega.{arith}
 use lib.ListN.{length, take}
-use Rattle.answers.specs.Refusals.{answer}
+use Rattle.std.specs.Prelude.{Ok}
+use Rattle.answers.specs.Refusals.{answer, refuse}
 use Rattle.answers.specs.Sizes.{tile_refusals}
 use Rattle.answers.specs.Cells.{overwrite}
 use Rattle.answers.specs.After.{after, room_refusals, tiled_for}
@@ -19,10 +20,9 @@ use Rattle.border.specs.Promises.{openings_in}
 use Rattle.border.proofs.Laws.{openings-in, cells-length, hands-count, hands-all, hands-once, openings-once, openings-capped, openings-few, hands-some, fewest-whole}
 use Rattle.used.specs.Used.{use_refusals_in, spent, used_in}
 use Rattle.used.specs.Promises.{AnswerableIn, Answerable}
-use Rattle.open.specs.declared.Opened.TheVariants.{Done, Refused}
 use Rattle.open.proofs.Laws.{open_is, openings-records}
 use Rattle.lutniorad.specs.declared.Answer.{Answer}
-use Rattle.lutniorad.specs.Numbers.{values, refused, of_opened}
+use Rattle.lutniorad.specs.Numbers.{values, refusing, of_opened}
 use Rattle.lutniorad.specs.Calls.{OpenIn, Open, OpenTiled}
 use Rattle.lutniorad.specs.Promises.{RefusalLeaves, OpenStates, OpenPromise}
 use Rattle.lutniorad.proofs.Crossing.{call-one}
@@ -35,13 +35,13 @@ module _ (whole : Bool) (m top : ℕ) (keys classes : List ℕ) (W : Window) (bo
 
   -- the call in numbers
   opened : after r (border', out')
-      ≡ tiled_for refused m top (border, out) (used_in whole refused (values (length os) (handed_count os)) (cells_of os) m keys (length classes) W border out)
+      ≡ tiled_for refusing m top (border, out) (used_in whole refusing (values (length os) (handed_count os)) (cells_of os) m keys (length classes) W border out)
   opened =
-      let numbers = Done (length os) (handed_count os) in
-      tiled-use-crossed whole of_opened Refused numbers (cells_of os) m top keys (length classes) W border out (open_is whole m top keys (length classes) W border out) call
+      let numbers = Ok (record { openings = length os; records = handed_count os }) in
+      tiled-use-crossed whole of_opened refuse numbers (cells_of os) m top keys (length classes) W border out (open_is whole m top keys (length classes) W border out) call
 
   pub open-says : r
-      ≡ answer refused (tile_refusals m top ++ (use_refusals_in whole m keys (length classes) W (length border) ++ room_refusals (length out) (length (cells_of os))))
+      ≡ answer refusing (tile_refusals m top ++ (use_refusals_in whole m keys (length classes) W (length border) ++ room_refusals (length out) (length (cells_of os))))
       (values (length os) (handed_count os))
   open-says = tiled-says whole (length os) (handed_count os) (cells_of os) m top keys (length classes) W border out opened
 

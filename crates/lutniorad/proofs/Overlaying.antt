@@ -7,29 +7,23 @@ use mathlib.Core.List.{List}
 use Prim.Native.Nat.{ℕ, ◌*◌, ◌≤◌}
 use native.Mathlib.Omega.{arith}
 use lib.ListN.{length, take}
+use Rattle.std.specs.Prelude.{Result, Ok, Err}
+use Rattle.answers.specs.declared.Refused.{Refused}
 use Rattle.window.specs.declared.Window.{Window}
 use Rattle.window.proofs.Laws.{key-block}
 use Rattle.map.specs.Sound.{SoundIn, SoundMap}
 use Rattle.used.specs.Promises.{AnswerableIn}
 use Rattle.exist.specs.declared.Existence.{Existence}
 use Rattle.exist.specs.Exist.{exist_in}
-use Rattle.report.specs.declared.Reported.{Reported}
 use Rattle.report.specs.Report.{report_in}
-use Rattle.select.specs.declared.Selected.{Selected}
 use Rattle.select.specs.Select.{select_keys}
 use Rattle.sparse_select.proofs.Laws.{laid-inside, laid-most}
 use Rattle.pieces.specs.Pair.{class_over_map}
-use Rattle.overlay.specs.declared.ExistOver.{ExistOver}
-use Rattle.overlay.specs.declared.ExistOver.TheVariants as exist-over
-use Rattle.overlay.specs.declared.ReportOver.{ReportOver}
-use Rattle.overlay.specs.declared.ReportOver.TheVariants as report-over
-use Rattle.overlay.specs.declared.SelectOver.{SelectOver}
-use Rattle.overlay.specs.declared.SelectOver.TheVariants as select-over
 use Rattle.overlay.specs.Select.{class_selection}
-use Rattle.overlay.specs.Overlay.{exist_over, report_over, select_over}
+use Rattle.overlay.specs.Overlay.{of_both, exist_over, report_over, select_over}
 use Rattle.overlay.proofs.Laws.{exist-over-is, report-over-is, select-over-is, selection-flat, class-blockwise, class-most, class-rising, class-makes, class-least}
 use Rattle.lutniorad.specs.declared.Answer.{Answer}
-use Rattle.lutniorad.specs.Numbers.{refused_by, of_exist_over, of_count_over}
+use Rattle.lutniorad.specs.Numbers.{of_existence, of_count, refused_by, of_exist_over, of_count_over}
 use Rattle.lutniorad.specs.Calls.{Check, SparseCheck, ExistIn, ReportIn, SelectIn, OverlayExist, OverlayReport, OverlaySelect}
 use Rattle.lutniorad.specs.Promises.{RefusalLeaves, ExistPromiseBy, ReportPromiseBy}
 use Rattle.lutniorad.specs.OverlayPromises.{Overlayable, OverlayRefusals, OverlaySelectPromise}
@@ -40,14 +34,29 @@ use Rattle.lutniorad.proofs.Selecting.{select-answered, select-numbered, select_
 use Rattle.lutniorad.proofs.Over.{Layers, OnBoth, over-inner, over-refusals, over-answered, over-numbered, over-15, over-kept}
 
 -- how the answers of the three are said
-abbrev existing : Layers Existence ExistOver Answer
-existing = record { say = of_exist_over; refuse = exist-over.Refused; tell = exist-over.Told; number = λ (x : Answer). x.refusal; tells = λ map n p. refl }
+abbrev existing : Layers (Result Existence Refused) Existence Answer
+existing = record {
+  say = of_exist_over;
+  by = refused_by;
+  tell = of_both;
+  inner = of_existence;
+  number = λ (x : Answer). x.refusal;
+  saying = λ e. refl;
+  telling = elim [ Ok v ↦ refl | Err e ↦ refl ];
+  tells = λ map n p. refl;
+}
 
-abbrev reporting : Layers Reported ReportOver Answer
-reporting = record { say = of_count_over; refuse = report-over.Refused; tell = report-over.Told; number = λ (x : Answer). x.refusal; tells = λ map n p. refl }
-
-abbrev selecting : Layers Selected SelectOver Answer
-selecting = record { say = of_count_over; refuse = select-over.Refused; tell = select-over.Told; number = λ (x : Answer). x.refusal; tells = λ map n p. refl }
+abbrev counting : Layers (Result ℕ Refused) ℕ Answer
+counting = record {
+  say = of_count_over;
+  by = refused_by;
+  tell = of_both;
+  inner = of_count;
+  number = λ (x : Answer). x.refusal;
+  saying = λ e. refl;
+  telling = elim [ Ok n ↦ refl | Err e ↦ refl ];
+  tells = λ map n p. refl;
+}
 
 -- where no lent slice was written, and the refusal is not 8
 kept-all : {W : Window} {border out : List ℕ} {r : Answer} {border' out' : List ℕ} → ¬ (r.refusal ≡ 8) → ◌≡◌ {A = List ℕ × List ℕ} (border', out') (border, out)
@@ -95,7 +104,7 @@ module _ (m : ℕ) (keys classes : List ℕ) (base_m : ℕ) (base base_classes :
   -- ---- report
 
   module _ (border out : List ℕ) {r : Answer} {border' out' : List ℕ} (call : OverlayReport m keys classes base_m base base_classes W border out r border' out') where
-    abbrev on-report : OnBoth reporting m keys classes base_m base base_classes (border, out) (report_in false rule m keys (length classes) W border out) r (border', out')
+    abbrev on-report : OnBoth counting m keys classes base_m base base_classes (border, out) (report_in false rule m keys (length classes) W border out) r (border', out')
     on-report = record { outcome = report_over m keys classes base_m base base_classes W border out; is = report-over-is m keys classes base_m base base_classes W border out; call = call }
 
     pub overlay-report-as : Overlayable m keys (length classes) base_m base (length base_classes)
@@ -127,7 +136,7 @@ module _ (m : ℕ) (keys classes : List ℕ) (base_m : ℕ) (base base_classes :
     abbrev chosen : List ℕ
     chosen = class_selection m rule W class
 
-    abbrev on-select : OnBoth selecting m keys classes base_m base base_classes (border, out) (select_keys false chosen m m keys (length classes) W border out) r (border', out')
+    abbrev on-select : OnBoth counting m keys classes base_m base base_classes (border, out) (select_keys false chosen m m keys (length classes) W border out) r (border', out')
     on-select = record { outcome = select_over m keys classes base_m base base_classes W class border out; is = select-over-is m keys classes base_m base base_classes W class border out; call = call }
 
     pub overlay-select-as : Overlayable m keys (length classes) base_m base (length base_classes)

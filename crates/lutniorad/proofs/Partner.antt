@@ -18,7 +18,7 @@ use Rattle.lutniorad.specs.declared.Answer.{Answer}
 use Rattle.lutniorad.specs.Numbers.{values}
 use Rattle.lutniorad.specs.Calls.{Open, Exist}
 use Rattle.lutniorad.specs.ViewPromises.{SameOpened}
-use Rattle.lutniorad.proofs.Crossing.{crossing}
+use Rattle.lutniorad.proofs.Crossing.{crossing-known}
 use Rattle.lutniorad.proofs.View.{open-view, exist-view}
 
 -- what opening leaves: on P1's map, and on the one with other records in the west
@@ -37,11 +37,11 @@ record Calls : Type 0 where
 
 calls : Calls
 calls = record {
-  east = crossing refl refl (sym (opens.examples).east);
-  west = crossing refl refl (sym (opens.examples).east-of-other);
-  cut = crossing refl refl (sym (opens.examples).east-of-cut);
-  none = crossing refl refl (sym (queries.examples).no);
-  unseen = crossing refl refl (sym (queries.examples).cannot-tell);
+  east = crossing-known refl (sym (opens.examples).east);
+  west = crossing-known refl (sym (opens.examples).east-of-other);
+  cut = crossing-known refl (sym (opens.examples).east-of-cut);
+  none = crossing-known refl (sym (queries.examples).no);
+  unseen = crossing-known refl (sym (queries.examples).cannot-tell);
 }
 
 record Partner : Type 0 where

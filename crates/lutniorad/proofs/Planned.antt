@@ -5,23 +5,23 @@ use mathlib.Core.List.{List}
 use Prim.Native.Nat.{ℕ, ◌+◌, ◌<◌}
 use native.Mathlib.Omega.{arith}
 use lib.ListN.{get_or}
+use Rattle.std.specs.Prelude.{Ok}
 use Rattle.answers.specs.After.{after}
 use Rattle.answers.proofs.P1.{keys, classes, old}
 use Rattle.window.specs.declared.Window.{Window}
 use Rattle.window.specs.SharingPromises.{Union, hull, meet}
 use Rattle.window.proofs.P1.{W, column, columns, row, lower, first_two, middle, pixel, north-west, south-east}
 use Rattle.window.proofs.Examples.{pairs}
-use Rattle.report.specs.declared.Reported.TheVariants.{Done}
 use Rattle.report.specs.Report.{report_of}
 use Rattle.report.proofs.Examples.{counts, examples}
 use Rattle.lutniorad.specs.Numbers.{values}
 use Rattle.lutniorad.specs.SharingPromises.{ReportLeaves, AddUp}
-use Rattle.lutniorad.proofs.Crossing.{crossing}
+use Rattle.lutniorad.proofs.Crossing.{crossing-known}
 use Rattle.lutniorad.proofs.Sharing.{reports-shared, reports-touching}
 
 -- a call that was answered
-told : {X : Window} {n : ℕ} {border cells : List ℕ} → report_of 2 keys classes X (old 3) (old 256) ≡ after (Done n) (border, cells) → ReportLeaves 2 keys classes X cells
-told {n = n} {border = border} e = record { border = old 3; border' = border; old = old 256; r = values n 0; call = crossing refl refl (sym e); answered = refl }
+told : {X : Window} {n : ℕ} {border cells : List ℕ} → report_of 2 keys classes X (old 3) (old 256) ≡ after (Ok n) (border, cells) → ReportLeaves 2 keys classes X cells
+told {n = n} {border = border} e = record { border = old 3; border' = border; old = old 256; r = values n 0; call = crossing-known refl (sym e); answered = refl }
 
 record Reports : Type 0 where
   whole : ReportLeaves 2 keys classes W (counts 4 4 1)

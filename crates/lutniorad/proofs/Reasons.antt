@@ -1,34 +1,33 @@
 -- What is promised of the two calls that say why, from the contract of the call alone: when they are answered, by which numbers they are refused, and that what is said is so of the
 -- very list that opening gives.
 -- Assumes nothing.
-use mathlib.Core.Path.{◌≡◌, refl, sym, ap, ◌∙◌}
+use mathlib.Core.Path.{◌≡◌, refl, ap, ◌∙◌}
 use mathlib.Core.Logic.{◌↔◌, inl, inr, ⊎_elim}
 use mathlib.Core.Bool.{true}
 use mathlib.Core.List.{List, ◌++◌, Memᴰ}
 use Prim.Native.Nat.{ℕ, ◌*◌, ◌≤◌, ◌<◌}
 use native.Mathlib.Omega.{arith}
 use lib.ListN.{length, take}
-use Rattle.answers.specs.declared.Verdict.TheVariants.{Passed}
-use Rattle.answers.specs.Refusals.{Refusal, answer, verdict}
+use Rattle.std.specs.Prelude.{Ok}
+use Rattle.answers.specs.Refusals.{Refusal, answer, verdict, refuse}
 use Rattle.answers.specs.After.{after, unless}
 use Rattle.answers.proofs.Laws.{on-passed, passed-append, Numbered, numbered-append}
 use Rattle.window.specs.declared.Window.{Window}
 use Rattle.window.specs.Promises.{MaximalKey}
 use Rattle.window.specs.Keys.{keys_of}
 use Rattle.window.proofs.Laws.{key-maximal}
-use Rattle.border.specs.Openings.{Opening, openings}
+use Rattle.border.specs.Openings.{openings}
 use Rattle.border.specs.Promises.{openings_in}
 use Rattle.used.specs.Used.{use_refusals, spent}
 use Rattle.used.specs.Promises.{Answerable}
 use Rattle.used.proofs.Laws.{use-answerable, numbered-use}
 use Rattle.why.specs.declared.Why.{Why}
-use Rattle.why.specs.declared.Why.TheVariants as why
 use Rattle.why.specs.Why.{index_refusals, key_refusals, record_said, block_said, why_for}
 use Rattle.why.proofs.Laws.{record-alike, record-handed, record-outside, record-either, block-alike, block-opened, block-skipped, block-either}
 use Rattle.why.proofs.Laws.{why-is, index-passed, numbered-index, index-19, key-passed, numbered-key, key-22}
 use Rattle.lutniorad.specs.declared.Answer.{Answer}
 use Rattle.lutniorad.specs.declared.Reason.{Reason}
-use Rattle.lutniorad.specs.Numbers.{no_reason, of_why}
+use Rattle.lutniorad.specs.Numbers.{giving_none, of_why, of_reason}
 use Rattle.lutniorad.specs.Calls.{Call, Open, WhyRecord, WhyBlock}
 use Rattle.lutniorad.specs.WhyPromises.{WhyRecordPromise, WhyBlockPromise}
 use Rattle.lutniorad.proofs.Crossing.{unless-crossed}
@@ -39,11 +38,11 @@ use Rattle.lutniorad.proofs.Said.{Back, handed-back, outside-back, opened-back, 
 -- ---- both: what is said, behind refusals 1 to 7 and one more, which has number k and passes what is asked
 
 record Behind (more : List Refusal) (said : Why) (k : ℕ) (Asked Otherwise : Type 0) : Type 0 where
-  clear : (of_why said).refusal ≡ 0
+  clear : (of_reason said).refusal ≡ 0
   large : 7 ≤ k
   numbered : Numbered k more
-  passes : (verdict more ≡ Passed) ↔ Asked
-  given : {rs : List Refusal} (a : Reason) → Numbered 7 rs → a.refusal ≡ 0 → ((answer no_reason (rs ++ more) a).refusal ≡ k) ↔ ((verdict rs ≡ Passed) × Otherwise)
+  passes : (verdict more ≡ Ok tt) ↔ Asked
+  given : {rs : List Refusal} (a : Reason) → Numbered 7 rs → a.refusal ≡ 0 → ((answer giving_none (rs ++ more) a).refusal ≡ k) ↔ ((verdict rs ≡ Ok tt) × Otherwise)
 
 module _ {more : List Refusal} {said : Why} {k : ℕ} {Asked Otherwise : Type 0} (B : Behind more said k Asked Otherwise)
     (m : ℕ) (keys classes : List ℕ) (W : Window) (border : List ℕ) {r : Reason} {border' : List ℕ}
@@ -54,53 +53,53 @@ module _ {more : List Refusal} {said : Why} {k : ℕ} {Asked Otherwise : Type 0}
   abbrev Usual : Type 0
   Usual = Answerable m keys (length classes) W (length border)
 
-  usual : (verdict uses ≡ Passed) ↔ Usual
+  usual : (verdict uses ≡ Ok tt) ↔ Usual
   usual = use-answerable true m keys (length classes) W (length border)
 
   -- the call in numbers
-  explained : after r border' ≡ unless no_reason (uses ++ more) border (after (of_why said) (spent W border))
-  explained = unless-crossed of_why why.Refused (uses ++ more) border _ (why-is more said m keys (length classes) W border) call
+  explained : after r border' ≡ unless giving_none (uses ++ more) border (after (of_reason said) (spent W border))
+  explained = unless-crossed of_why refuse (uses ++ more) border _ (why-is more said m keys (length classes) W border) call
 
-  says : r ≡ answer no_reason (uses ++ more) (of_why said)
+  says : r ≡ answer giving_none (uses ++ more) (of_reason said)
   says = guarded-says five (uses ++ more) border _ explained
 
   all : Numbered k (uses ++ more)
   all = numbered-append (numbered-use true m keys (length classes) W (length border) B.large) B.numbered
 
   most : r.refusal ≤ k
-  most = told-most five (of_why said) B.clear all says
+  most = told-most five (of_reason said) B.clear all says
 
   kept : (r.refusal ≡ 0 → ⊥) → border' ≡ border
-  kept = told-kept five (of_why said) B.clear all says (guarded-kept five (uses ++ more) border _ explained)
+  kept = told-kept five (of_reason said) B.clear all says (guarded-kept five (uses ++ more) border _ explained)
 
-  passed : (verdict (uses ++ more) ≡ Passed) ↔ (Usual × Asked)
+  passed : (verdict (uses ++ more) ≡ Ok tt) ↔ (Usual × Asked)
   passed = let t = passed-append uses more in (λ e. let x = t.0 e in (usual.0 x.0, B.passes.0 x.1), λ x. t.1 (usual.1 x.0, B.passes.1 x.1))
 
   answered : (r.refusal ≡ 0) ↔ (Usual × Asked)
-  answered = told-when five (of_why said) B.clear all says passed
+  answered = told-when five (of_reason said) B.clear all says passed
 
   last : (r.refusal ≡ k) ↔ (Usual × Otherwise)
   last =
-      let t = B.given (of_why said) (numbered-use true m keys (length classes) W (length border) {most = 7} (omega arith)) B.clear in
+      let t = B.given (of_reason said) (numbered-use true m keys (length classes) W (length border) {most = 7} (omega arith)) B.clear in
       rw says (λ z. let x = t.0 z in (usual.0 x.0, x.1), λ x. t.1 (usual.1 x.0, x.1))
 
-  leaves : r.refusal ≡ 0 → (r ≡ of_why said) × (border' ≡ spent W border)
-  leaves z = let e = passed.1 (answered.0 z) in (says ∙ on-passed no_reason (uses ++ more) _ e, guarded-leaves five (uses ++ more) border _ explained e)
+  leaves : r.refusal ≡ 0 → (r ≡ of_reason said) × (border' ≡ spent W border)
+  leaves z = let e = passed.1 (answered.0 z) in (says ∙ on-passed giving_none (uses ++ more) _ e, guarded-leaves five (uses ++ more) border _ explained e)
 
 -- ---- of a record
 
 module _ (m : ℕ) (keys classes : List ℕ) (W : Window) (n : ℕ) (border : List ℕ) {r : Reason} {border' : List ℕ} (call : WhyRecord m keys classes W n border r border') where
   behind : Behind (index_refusals (length keys) n) (record_said m keys W n) 19 (n < length keys) (length keys ≤ n)
   behind = record {
-    clear = record-alike m keys W n (λ (a : Why). (of_why a).refusal) (λ i k. refl) (λ i s. refl);
+    clear = record-alike m keys W n (λ (a : Why). (of_reason a).refusal) (λ i k. refl) (λ i s. refl);
     large = omega arith;
     numbered = numbered-index (length keys) n;
     passes = index-passed (length keys) n;
-    given = λ {rs} a N e. index-19 (length keys) n no_reason (λ (x : Reason). x.refusal) (λ k p. refl) (omega arith) N e;
+    given = λ {rs} a N e. index-19 (length keys) n giving_none (λ (x : Reason). x.refusal) (λ k p. refl) (omega arith) N e;
   }
 
   -- the first refusal that holds, or what is said; of the border only the length counts
-  pub why-record-says : r ≡ answer no_reason (use_refusals m keys (length classes) W (length border) ++ index_refusals (length keys) n) (of_why (record_said m keys W n))
+  pub why-record-says : r ≡ answer giving_none (use_refusals m keys (length classes) W (length border) ++ index_refusals (length keys) n) (of_reason (record_said m keys W n))
   why-record-says = says behind m keys classes W border call
 
   pub why-record-numbered : r.refusal ≤ 19
@@ -128,7 +127,7 @@ module _ (m : ℕ) (keys classes : List ℕ) (W : Window) (n : ℕ) (border : Li
         record {
           handed = λ k. said-exactly l.0 b (handed-back n k) (record-handed F I t.1 k);
           outside = λ side. said-exactly l.0 b (outside-back n side) (record-outside F I t.1 side);
-          either = ⊎_elim (λ x. inl (x.0, l.0 ∙ ap of_why x.1, x.2)) (λ x. inr (x.0, l.0 ∙ ap of_why x.1, x.2)) e;
+          either = ⊎_elim (λ x. inl (x.0, l.0 ∙ ap of_reason x.1, x.2)) (λ x. inr (x.0, l.0 ∙ ap of_reason x.1, x.2)) e;
           border-after = l.1;
         }
 
@@ -140,15 +139,15 @@ module _ (m : ℕ) (keys classes : List ℕ) (W : Window) (key : ℕ) (border : 
 
   behind-keys : Behind (key_refusals m W key) (block_said m keys W key) 22 (MaximalKey m m W key) (¬ MaximalKey m m W key)
   behind-keys = record {
-    clear = block-alike m keys W key (λ (a : Why). (of_why a).refusal) (λ k. refl) (λ i k. refl);
+    clear = block-alike m keys W key (λ (a : Why). (of_reason a).refusal) (λ k. refl) (λ i k. refl);
     large = omega arith;
     numbered = numbered-key m W key;
     passes = let t = key-passed m W key in (λ e. listed.0 (t.0 e), λ k. t.1 (listed.1 k));
-    given = λ {rs} a N e. let t = key-22 m W key no_reason (λ (x : Reason). x.refusal) (λ k p. refl) (omega arith) N e in
+    given = λ {rs} a N e. let t = key-22 m W key giving_none (λ (x : Reason). x.refusal) (λ k p. refl) (omega arith) N e in
         (λ z. let x = t.0 z in (x.0, λ k. x.1 (listed.1 k)), λ x. t.1 (x.0, λ n. x.1 (listed.0 n)));
   }
 
-  pub why-block-says : r ≡ answer no_reason (use_refusals m keys (length classes) W (length border) ++ key_refusals m W key) (of_why (block_said m keys W key))
+  pub why-block-says : r ≡ answer giving_none (use_refusals m keys (length classes) W (length border) ++ key_refusals m W key) (of_reason (block_said m keys W key))
   why-block-says = says behind-keys m keys classes W border call
 
   pub why-block-numbered : r.refusal ≤ 22
@@ -177,7 +176,7 @@ module _ (m : ℕ) (keys classes : List ℕ) (W : Window) (key : ℕ) (border : 
         record {
           opened = λ k. said-exactly l.0 b (opened-back k) (block-opened F I n k);
           skipped = λ i k. said-exactly l.0 b (skipped-back i k) (block-skipped F I n i k);
-          either = ⊎_elim (λ x. inl (x.0, l.0 ∙ ap of_why x.1)) (λ x. inr (x.0, x.1, l.0 ∙ ap of_why x.2)) e;
+          either = ⊎_elim (λ x. inl (x.0, l.0 ∙ ap of_reason x.1)) (λ x. inr (x.0, x.1, l.0 ∙ ap of_reason x.2)) e;
           border-after = l.1;
         }
 

@@ -6,8 +6,9 @@ use mathlib.Core.List.{List, [], ◌∷◌, ◌++◌}
 use Prim.Native.Nat.{ℕ, ◌≤◌}
 use native.Mathlib.Omega.{arith}
 use lib.ListN.{length}
-use Rattle.answers.specs.declared.Verdict.{Verdict}
-use Rattle.answers.specs.declared.Verdict.TheVariants as verdict-of
+use Rattle.answers.specs.Refusals as of
+use Rattle.std.specs.Prelude.{Result, Ok, Err}
+use Rattle.answers.specs.declared.Refused.{Refused}
 use Rattle.answers.specs.Refusals.{Refusal, verdict}
 use Rattle.answers.specs.Cells.{overwrite}
 use Rattle.answers.proofs.Laws.{overwrite-length}
@@ -74,17 +75,17 @@ module _ {m : ℕ} {W : Window} {old : List ℕ} where
       said : Outcome k keys (length classes) (length border) table (verdict rs)
       said = outcome k keys (length classes) (length border) table long (subst (λ (n : ℕ). Sane n table) (sym size) (month-sane row))
 
-      number : {n p : ℕ} → verdict rs ≡ verdict-of.Refused n p → r.refusal ≡ n
+      number : {e : Refused} → verdict rs ≡ Err e → r.refusal ≡ of.number e.cause
       number e = month-add-number k keys classes border table call e
 
-      none : verdict rs ≡ verdict-of.Passed → r.refusal ≡ 0
+      none : verdict rs ≡ Ok tt → r.refusal ≡ 0
       none e = (month-add-answered k keys classes border table call).1 ((add-addable k keys (length classes) (length border) table).0 e)
 
       -- it is never refused by 26
       pub month-not-26 : r.refusal ≡ 26 → ⊥
       month-not-26 z = go (verdict rs) refl said
         where
-          go : (v : Verdict) → verdict rs ≡ v → Outcome k keys (length classes) (length border) table v → ⊥
+          go : (v : Result Unit Refused) → verdict rs ≡ v → Outcome k keys (length classes) (length border) table v → ⊥
           go v e (unsound l h) = omega (arith, number e, l, z)
           go v e (other d) = omega (arith, number e, z)
           go v e (full S own all) = omega (arith, number e, z)
@@ -95,7 +96,7 @@ module _ {m : ℕ} {W : Window} {old : List ℕ} where
       pub month-full : (r.refusal ≡ 16) ↔ (SoundMap k keys (length classes) × (k ≡ m) × (length maps ≡ 1000))
       month-full = (λ z. to (verdict rs) refl said z, λ t. from (verdict rs) refl said t)
         where
-          to : (v : Verdict) → verdict rs ≡ v → Outcome k keys (length classes) (length border) table v → r.refusal ≡ 16
+          to : (v : Result Unit Refused) → verdict rs ≡ v → Outcome k keys (length classes) (length border) table v → r.refusal ≡ 16
               → SoundMap k keys (length classes) × (k ≡ m) × (length maps ≡ 1000)
           to v e (unsound l h) z = absurd (omega (arith, number e, l, z))
           to v e (other d) z = absurd (omega (arith, number e, z))
@@ -103,7 +104,7 @@ module _ {m : ℕ} {W : Window} {old : List ℕ} where
           to v e (narrow few) z = absurd (omega (arith, number e, z))
           to v e (taken few) z = absurd (omega (arith, none e, z))
 
-          from : (v : Verdict) → verdict rs ≡ v → Outcome k keys (length classes) (length border) table v → SoundMap k keys (length classes) × (k ≡ m) × (length maps ≡ 1000)
+          from : (v : Result Unit Refused) → verdict rs ≡ v → Outcome k keys (length classes) (length border) table v → SoundMap k keys (length classes) × (k ≡ m) × (length maps ≡ 1000)
               → r.refusal ≡ 16
           from v e (unsound l h) (S, own, all) = absurd (h S)
           from v e (other d) (S, own, all) = absurd (d (size ∙ sym own))

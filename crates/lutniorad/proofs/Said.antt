@@ -10,7 +10,7 @@ use Rattle.why.specs.declared.Side.TheVariants.{North, South, West, East}
 use Rattle.why.specs.declared.Why.{Why}
 use Rattle.why.specs.declared.Why.TheVariants as why
 use Rattle.lutniorad.specs.declared.Reason.{Reason}
-use Rattle.lutniorad.specs.Numbers.{of_why}
+use Rattle.lutniorad.specs.Numbers.{of_reason}
 
 -- a reason, from its numbers
 why_of : Reason → Why
@@ -21,7 +21,7 @@ why_of r =
 
 -- it is had back from them
 pub Back : Why → Type 0
-Back a = why_of (of_why a) ≡ a
+Back a = why_of (of_reason a) ≡ a
 
 pub outside-back : (n : ℕ) (s : Side) → Back (why.Outside n s)
 unfolding Back why_of
@@ -43,6 +43,6 @@ unfolding Back why_of
 skipped-back n k = refl
 
 -- so numbers are those of a reason exactly when it is that reason
-pub said-exactly : {a b : Why} {r : Reason} → r ≡ of_why a → Back a → Back b → {P : Type 0} → (a ≡ b) ↔ P → (r ≡ of_why b) ↔ P
+pub said-exactly : {a b : Why} {r : Reason} → r ≡ of_reason a → Back a → Back b → {P : Type 0} → (a ≡ b) ↔ P → (r ≡ of_reason b) ↔ P
 unfolding Back
-said-exactly e x y h = (λ d. h.0 (sym x ∙ ap why_of (sym e ∙ d) ∙ y), λ p. e ∙ ap of_why (h.1 p))
+said-exactly e x y h = (λ d. h.0 (sym x ∙ ap why_of (sym e ∙ d) ∙ y), λ p. e ∙ ap of_reason (h.1 p))

@@ -7,8 +7,8 @@ use mathlib.Core.List.{List, [], ◌∷◌, flat_map}
 use Prim.Native.Nat.{ℕ, ◌+◌, ◌*◌, ◌≤◌}
 use native.Mathlib.Omega.{arith}
 use lib.ListN.{length, take}
-use Rattle.answers.specs.declared.Verdict.TheVariants as verdict-of
-use Rattle.answers.specs.Refusals.{Refusal, answer, verdict}
+use Rattle.std.specs.Prelude.{Ok}
+use Rattle.answers.specs.Refusals.{Refusal, answer, verdict, refuse}
 use Rattle.answers.specs.Sizes.{SizedIn}
 use Rattle.answers.specs.Cells.{overwrite}
 use Rattle.answers.specs.After.{After, after, unless}
@@ -17,14 +17,13 @@ use Rattle.lists.proofs.Laws.{never}
 use Rattle.key.proofs.Laws.{pow-least}
 use Rattle.map.specs.Sound.{Follow, full, next, SoundMap}
 use Rattle.map.specs.Classes.{not_seen}
-use Rattle.salvage.specs.declared.Salvaged.TheVariants as salvaged-as
 use Rattle.salvage.specs.Salvage.{mends, brings, logs, firsts, seconds, cells, salvaged, entries, salvage_refusals}
 use Rattle.salvage.specs.Promises.{Salvageable}
 use Rattle.salvage.proofs.Laws.{numbered-salvage, salvage-passed, salvage-is, salvaged-is, entries-are}
 use Rattle.salvage.proofs.Laws.{firsts-length, seconds-length, cells-none, cells-length, block-brings, mends-are, mends-none, salvaged-follows, salvaged-same, log-empty}
 use Rattle.salvage.proofs.Laws.{all-numbers, dropped-malformed, entries-most, dropped-early, fills-least, kept-spaced, filled-makes, filled-least, kept-class, blank-class}
 use Rattle.lutniorad.specs.declared.Answer.{Answer}
-use Rattle.lutniorad.specs.Numbers.{values, refused, of_salvaged}
+use Rattle.lutniorad.specs.Numbers.{values, refusing, of_salvaged}
 use Rattle.lutniorad.specs.Calls.{Salvage}
 use Rattle.lutniorad.specs.SalvagePromises.{SalvagePromise}
 use Rattle.lutniorad.proofs.Crossing.{unless-crossed}
@@ -56,11 +55,11 @@ module _ (m : ℕ) (keys classes K P L : List ℕ) {K' P' L' : List ℕ} {r : An
 
   -- the call in numbers
   mends-it : ◌≡◌ {A = After Answer (List ℕ × List ℕ × List ℕ)} (after r (K', P', L'))
-      (unless refused refusals (K, P, L) (after (values (length rs) (length (entries m keys))) written))
-  mends-it = unless-crossed of_salvaged salvaged-as.Refused refusals (K, P, L) _ (salvage-is m keys classes K P L) call
+      (unless refusing refusals (K, P, L) (after (values (length rs) (length (entries m keys))) written))
+  mends-it = unless-crossed of_salvaged refuse refusals (K, P, L) _ (salvage-is m keys classes K P L) call
 
   -- the first refusal that holds, or the two numbers; of the lent slices only the lengths count
-  pub salvage-says : r ≡ answer refused (salvage_refusals m keys classes (length K) (length P) (length L)) (values (length rs) (length (entries m keys)))
+  pub salvage-says : r ≡ answer refusing (salvage_refusals m keys classes (length K) (length P) (length L)) (values (length rs) (length (entries m keys)))
   salvage-says = guarded-says four refusals (K, P, L) _ mends-it
 
   pub salvage-numbered : r.refusal ≤ 8
@@ -91,11 +90,11 @@ module _ (m : ℕ) (keys classes K P L : List ℕ) {K' P' L' : List ℕ} {r : An
     able : Salvageable m keys classes (length K) (length P) (length L)
     able = salvage-answered.0 z
 
-    passed : verdict refusals ≡ verdict-of.Passed
+    passed : verdict refusals ≡ Ok tt
     passed = (salvage-passed m keys classes (length K) (length P) (length L)).1 able
 
     said : r ≡ values (length rs) (length (entries m keys))
-    said = salvage-says ∙ on-passed refused refusals _ passed
+    said = salvage-says ∙ on-passed refusing refusals _ passed
 
     left : (K' ≡ overwrite (firsts rs) K) × (P' ≡ overwrite (seconds rs) P) × (L' ≡ overwrite (cells (entries m keys)) L)
     left = three-slices (guarded-leaves four refusals (K, P, L) _ mends-it passed)

@@ -7,7 +7,8 @@ use mathlib.Core.List.{List, ◌++◌, flat_map}
 use Prim.Native.Nat.{ℕ, ◌+◌, ◌*◌, ◌/◌, ◌^◌, ◌≤◌, ◌<◌}
 use native.Mathlib.Omega.{arith}
 use lib.ListN.{length, take}
-use Rattle.answers.specs.Refusals.{answer}
+use Rattle.std.specs.Prelude.{Ok}
+use Rattle.answers.specs.Refusals.{answer, refuse}
 use Rattle.answers.specs.Sizes.{tile_refusals}
 use Rattle.answers.specs.Cells.{overwrite}
 use Rattle.answers.specs.After.{after, room_refusals, tiled_for}
@@ -18,12 +19,11 @@ use Rattle.map.specs.Sound.{Spaced}
 use Rattle.map.proofs.Laws.{spaced}
 use Rattle.used.specs.Used.{use_refusals_in, spent, used_in}
 use Rattle.used.specs.Promises.{AnswerableIn, Answerable}
-use Rattle.select.specs.declared.Selected.TheVariants as selected-as
 use Rattle.select.specs.Select.{selection}
 use Rattle.select.proofs.Laws.{select-is, selection-pixels, selection-one, selection-once, selection-capped, selection-few}
 use Rattle.sparse_select.proofs.Laws.{Blockwise, laid-pixels, laid_one, laid-once}
 use Rattle.lutniorad.specs.declared.Answer.{Answer}
-use Rattle.lutniorad.specs.Numbers.{values, refused, of_count}
+use Rattle.lutniorad.specs.Numbers.{values, refusing, of_count}
 use Rattle.lutniorad.specs.Calls.{SelectIn, Select, SelectTiled}
 use Rattle.lutniorad.specs.Promises.{RefusalLeaves, SelectStates, SelectPromise}
 use Rattle.lutniorad.proofs.Crossing.{call-one}
@@ -33,13 +33,13 @@ use Rattle.lutniorad.proofs.TiledUse.{tiled-use-crossed, tiled-says, tiled-numbe
 module _ (whole : Bool) (ks : List ℕ) (m top : ℕ) (keys classes : List ℕ) (W : Window) (border out : List ℕ) {r : Answer} {border' out' : List ℕ}
     (call : SelectIn whole ks m top keys classes W border out r border' out') where
   -- the call in numbers
-  selects : after r (border', out') ≡ tiled_for refused m top (border, out) (used_in whole refused (values (length ks) 0) ks m keys (length classes) W border out)
+  selects : after r (border', out') ≡ tiled_for refusing m top (border, out) (used_in whole refusing (values (length ks) 0) ks m keys (length classes) W border out)
   selects =
-      let numbers = selected-as.Done (length ks) in
-      tiled-use-crossed whole of_count selected-as.Refused numbers ks m top keys (length classes) W border out (select-is whole ks m top keys (length classes) W border out) call
+      let numbers = Ok (length ks) in
+      tiled-use-crossed whole of_count refuse numbers ks m top keys (length classes) W border out (select-is whole ks m top keys (length classes) W border out) call
 
   pub select-says : r
-      ≡ answer refused (tile_refusals m top ++ (use_refusals_in whole m keys (length classes) W (length border) ++ room_refusals (length out) (length ks))) (values (length ks) 0)
+      ≡ answer refusing (tile_refusals m top ++ (use_refusals_in whole m keys (length classes) W (length border) ++ room_refusals (length out) (length ks))) (values (length ks) 0)
   select-says = tiled-says whole (length ks) 0 ks m top keys (length classes) W border out selects
 
   pub select-numbered : top ≤ m → r.refusal ≤ 8

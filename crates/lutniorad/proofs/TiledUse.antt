@@ -8,7 +8,8 @@ use Prim.Native.Nat.{ℕ, ◌≤◌, ◌<◌}
 use native.Mathlib.Decide.{dec_le}
 use native.Mathlib.Omega.{arith}
 use lib.ListN.{length}
-use Rattle.answers.specs.Refusals.{answer}
+use Rattle.answers.specs.declared.Cause.{Cause}
+use Rattle.answers.specs.Refusals.{answer, refuse}
 use Rattle.answers.specs.Sizes.{tile_refusals}
 use Rattle.answers.specs.Cells.{overwrite}
 use Rattle.answers.specs.After.{After, after, room_refusals, tiled_for}
@@ -17,7 +18,7 @@ use Rattle.used.specs.Used.{use_refusals_in, spent, used_in}
 use Rattle.used.specs.Promises.{AnswerableIn}
 use Rattle.used.proofs.Laws.{used-said, used-by-lengths, used-within}
 use Rattle.lutniorad.specs.declared.Answer.{Answer}
-use Rattle.lutniorad.specs.Numbers.{values, refused}
+use Rattle.lutniorad.specs.Numbers.{values, refusing}
 use Rattle.lutniorad.specs.Calls.{Call}
 use Rattle.lutniorad.specs.Promises.{RefusalLeaves}
 use Rattle.lutniorad.proofs.Crossing.{both-slices, unless-crossed}
@@ -25,25 +26,25 @@ use Rattle.lutniorad.proofs.Using.{used-numbered, used-answered, used-leaves, us
 use Rattle.lutniorad.proofs.Capped.{capped-says, capped-kept, capped-within, capped-answered, capped-17}
 
 -- from the contract of such a call to one outcome in numbers
-pub tiled-use-crossed : (whole : Bool) {A : Type 0} (say : A → Answer) (refuse : ℕ → ℕ → A) (done : A) (cells : List ℕ) (m top : ℕ) (keys : List ℕ) (classes : ℕ) (W : Window)
+pub tiled-use-crossed : (whole : Bool) {A : Type 0} (say : A → Answer) (refuse : Cause → ℕ → A) (done : A) (cells : List ℕ) (m top : ℕ) (keys : List ℕ) (classes : ℕ) (W : Window)
     (border out : List ℕ) {o : After A (List ℕ × List ℕ)} {r : Answer} {border' out' : List ℕ}
     → o ≡ tiled_for refuse m top (border, out) (used_in whole refuse done cells m keys classes W border out) → Call say o r (border', out')
     → after r (border', out')
-    ≡ tiled_for (λ n p. say (refuse n p)) m top (border, out) (used_in whole (λ n p. say (refuse n p)) (say done) cells m keys classes W border out)
+    ≡ tiled_for (λ c p. say (refuse c p)) m top (border, out) (used_in whole (λ c p. say (refuse c p)) (say done) cells m keys classes W border out)
 tiled-use-crossed whole say refuse done cells m top keys classes W border out is call =
     unless-crossed say refuse (tile_refusals m top) (border, out) _ is call
-    ∙ ap (tiled_for (λ n p. say (refuse n p)) m top (border, out)) (used-said whole refuse done cells m keys classes W border out say)
+    ∙ ap (tiled_for (λ c p. say (refuse c p)) m top (border, out)) (used-said whole refuse done cells m keys classes W border out say)
 
 module _ (whole : Bool) (first second : ℕ) (cells : List ℕ) (m top : ℕ) (keys : List ℕ) (classes : ℕ) (W : Window) (border out : List ℕ) {r : Answer} {border' out' : List ℕ}
-    (call : after r (border', out') ≡ tiled_for refused m top (border, out) (used_in whole refused (values first second) cells m keys classes W border out)) where
+    (call : after r (border', out') ≡ tiled_for refusing m top (border, out) (used_in whole refusing (values first second) cells m keys classes W border out)) where
   -- the first of refusals 1 and 17, and of 1 to 8, or the values; of the two slices only the lengths count
   pub tiled-says : r
-      ≡ answer refused (tile_refusals m top ++ (use_refusals_in whole m keys classes W (length border) ++ room_refusals (length out) (length cells))) (values first second)
-  tiled-says = capped-says m top (border, out) _ call _ _ (used-by-lengths whole refused (values first second) cells m keys classes W border out)
+      ≡ answer refusing (tile_refusals m top ++ (use_refusals_in whole m keys classes W (length border) ++ room_refusals (length out) (length cells))) (values first second)
+  tiled-says = capped-says m top (border, out) _ call _ _ (used-by-lengths whole refusing (values first second) cells m keys classes W border out)
 
   -- with a cap up to m
-  untiled : top ≤ m → after r (border', out') ≡ used_in whole refused (values first second) cells m keys classes W border out
-  untiled cap = call ∙ used-within whole refused (values first second) cells m top keys classes W border out cap
+  untiled : top ≤ m → after r (border', out') ≡ used_in whole refusing (values first second) cells m keys classes W border out
+  untiled cap = call ∙ used-within whole refusing (values first second) cells m top keys classes W border out cap
 
   pub tiled-numbered : top ≤ m → r.refusal ≤ 8
   tiled-numbered cap = used-numbered whole first second cells m keys classes W border out (untiled cap)

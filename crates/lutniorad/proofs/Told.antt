@@ -4,43 +4,45 @@ use mathlib.Core.Path.{◌≡◌, refl, ap, ◌∙◌}
 use mathlib.Core.Logic.{◌↔◌}
 use mathlib.Core.List.{List}
 use Prim.Native.Nat.{ℕ, ◌≤◌}
-use Rattle.answers.specs.declared.Verdict.TheVariants.{Passed}
-use Rattle.answers.specs.Refusals.{Refusal, answer, verdict}
+use Rattle.std.specs.Prelude.{Ok}
+use Rattle.answers.specs.declared.Cause.{Cause}
+use Rattle.answers.specs.Refusals as of
+use Rattle.answers.specs.Refusals.{Refusal, answer, verdict, refuse}
 use Rattle.answers.specs.After.{After, after, unless}
 use Rattle.answers.proofs.Laws.{Without, without-said, Numbered, number-zero, number-most, on-passed, unless-answer, unless-kept}
 use Rattle.lutniorad.specs.declared.Answer.{Answer}
 use Rattle.lutniorad.specs.declared.Reason.{Reason}
-use Rattle.lutniorad.specs.Numbers.{refused, no_reason}
+use Rattle.lutniorad.specs.Numbers.{refusing, giving_none}
 
 -- numbers that say a refusal, and tell it
 pub record Saying (N : Type 0) : Type 0 where
-  pub refuse : ℕ → ℕ → N
+  pub refuse : Cause → ℕ → N
   pub number : N → ℕ
-  pub tells : (n p : ℕ) → number (refuse n p) ≡ n
+  pub tells : (c : Cause) (p : ℕ) → number (refuse c p) ≡ of.number c
 
 -- four of them, and five
 abbrev pub four : Saying Answer
-four = record { refuse = refused; number = λ (x : Answer). x.refusal; tells = λ n p. refl }
+four = record { refuse = refusing; number = λ (x : Answer). x.refusal; tells = λ c p. refl }
 
 abbrev pub five : Saying Reason
-five = record { refuse = no_reason; number = λ (x : Reason). x.refusal; tells = λ n p. refl }
+five = record { refuse = giving_none; number = λ (x : Reason). x.refusal; tells = λ c p. refl }
 
 module _ {N : Type 0} (s : Saying N) {most : ℕ} {rs : List Refusal} {r : N} (a : N) (clear : s.number a ≡ 0) (numbered : Numbered most rs) (says : r ≡ answer s.refuse rs a) where
   pub told-most : s.number r ≤ most
   told-most = rw says (number-most s.refuse s.number s.tells numbered clear)
 
   -- what the table passes, in words
-  pub told-when : {Asked : Type 0} → (verdict rs ≡ Passed) ↔ Asked → (s.number r ≡ 0) ↔ Asked
+  pub told-when : {Asked : Type 0} → (verdict rs ≡ Ok tt) ↔ Asked → (s.number r ≡ 0) ↔ Asked
   told-when {Asked} passes = rw says (
     λ z. passes.0 (zero.0 z),
     λ t. zero.1 (passes.1 t),
   )
     where
-      zero : (s.number (answer s.refuse rs a) ≡ 0) ↔ (verdict rs ≡ Passed)
+      zero : (s.number (answer s.refuse rs a) ≡ 0) ↔ (verdict rs ≡ Ok tt)
       zero = number-zero s.refuse s.number s.tells numbered clear
 
   -- where it is refused, what holds whenever the table has not passed
-  pub told-kept : {Kept : Type 0} → ((verdict rs ≡ Passed → ⊥) → Kept) → (s.number r ≡ 0 → ⊥) → Kept
+  pub told-kept : {Kept : Type 0} → ((verdict rs ≡ Ok tt → ⊥) → Kept) → (s.number r ≡ 0 → ⊥) → Kept
   told-kept kept held = kept (λ e. held ((told-when (λ d. d, λ d. d)).1 e))
 
 -- a number that no refusal of the table has where it holds is not said
@@ -54,8 +56,8 @@ module _ {N S : Type 0} (s : Saying N) (rs : List Refusal) (lent : S) (done : Af
   pub guarded-says : r ≡ answer s.refuse rs done.answer
   guarded-says = ap (λ (x : After N S). x.answer) call ∙ unless-answer s.refuse rs lent done
 
-  pub guarded-kept : (verdict rs ≡ Passed → ⊥) → lent' ≡ lent
+  pub guarded-kept : (verdict rs ≡ Ok tt → ⊥) → lent' ≡ lent
   guarded-kept held = ap (λ (x : After N S). x.lent) call ∙ unless-kept s.refuse rs lent done held
 
-  pub guarded-leaves : verdict rs ≡ Passed → lent' ≡ done.lent
+  pub guarded-leaves : verdict rs ≡ Ok tt → lent' ≡ done.lent
   guarded-leaves e = ap (λ (x : After N S). x.lent) (call ∙ on-passed _ rs done e)

@@ -26,7 +26,7 @@ use Rattle.select.proofs.Laws.{selection-view}
 use Rattle.month.specs.Month.{window_in}
 use Rattle.month.proofs.Laws.{map-totals}
 use Rattle.lutniorad.specs.declared.Answer.{Answer}
-use Rattle.lutniorad.specs.Numbers.{values, of_existence}
+use Rattle.lutniorad.specs.Numbers.{values, existence_values}
 use Rattle.lutniorad.specs.Calls.{OpenTiled, Windows, Exist, Report, SelectTiled, MonthAdd}
 use Rattle.lutniorad.specs.ViewPromises.{SameOpened}
 use Rattle.lutniorad.proofs.Answered.{exist-answered}
@@ -113,7 +113,7 @@ module _ {m : ℕ} {keys classes keys' classes' : List ℕ} {W : Window} (same :
       let A = (exist-answered true (class_in m keys classes) m keys classes W class border call).0 z in
       let A' = (exist-answered true (class_in m keys' classes') m keys' classes' W class other call').0 z' in
       exist-three true (class_in m keys classes) m keys classes W class border call z
-      ∙ ap of_existence (presence-view A.sound.records A'.sound.records A.inside same class)
+      ∙ ap existence_values (presence-view A.sound.records A'.sound.records A.inside same class)
       ∙ sym (exist-three true (class_in m keys' classes') m keys' classes' W class other call' z')
 
   -- the same 256 cells of report

@@ -7,21 +7,20 @@ use Prim.Native.Nat.{ℕ, ◌*◌, ◌≤◌, ◌<◌}
 use native.Mathlib.Omega.{arith}
 use lib.ListN.{length, get_or, take, drop, length-drop}
 use lib.Seq.{take-take, take-append-le, drop-append-le, get_or-take, get_or-drop}
-use Rattle.answers.specs.declared.Verdict.{Verdict}
-use Rattle.answers.specs.declared.Verdict.TheVariants as verdict-of
-use Rattle.answers.specs.Refusals.{Refusal, answer, verdict}
+use Rattle.std.specs.Prelude.{Result, Ok, Err}
+use Rattle.answers.specs.declared.Refused.{Refused}
+use Rattle.answers.specs.Refusals.{Refusal, answer, verdict, refuse}
 use Rattle.answers.specs.Cells.{overwrite}
 use Rattle.answers.specs.After.{After, after, unless}
 use Rattle.answers.proofs.Laws.{on-passed, on-refused, overwrite-part, take-overwrite, drop-overwrite}
 use Rattle.window.specs.declared.Window.{Window}
 use Rattle.map.specs.Sound.{SoundMap}
-use Rattle.many.specs.declared.Many.TheVariants as many-as
 use Rattle.many.specs.Many.{window_at, windows_in, line_of, line_cells, lines_of, left_by, many_refusals}
 use Rattle.many.specs.Promises.{InFours, Askable}
 use Rattle.many.proofs.Laws.{line_refused, lines-length, lines_at, widest-wider, left-length, left-cell}
 use Rattle.many.proofs.Laws.{many-askable, many-25, numbered-many, many_is}
 use Rattle.lutniorad.specs.declared.Answer.{Answer}
-use Rattle.lutniorad.specs.Numbers.{values, refused, of_count}
+use Rattle.lutniorad.specs.Numbers.{values, refusing, of_count}
 use Rattle.lutniorad.specs.Calls.{Windows}
 use Rattle.lutniorad.specs.ManyPromises.{WindowsPromise}
 use Rattle.lutniorad.proofs.Crossing.{both-slices, unless-crossed}
@@ -37,11 +36,11 @@ module _ (m : ℕ) (keys classes windows border out : List ℕ) {r : Answer} {bo
 
   -- the call in numbers
   counted : ◌≡◌ {A = After Answer (List ℕ × List ℕ)} (after r (border', out'))
-      (unless refused rs (border, out) (after (values (length Ws) 0) (left_by m Ws border, overwrite (lines_of m keys Ws) out)))
-  counted = unless-crossed of_count many-as.Refused rs (border, out) _ (many_is m keys (length classes) windows border out) call
+      (unless refusing rs (border, out) (after (values (length Ws) 0) (left_by m Ws border, overwrite (lines_of m keys Ws) out)))
+  counted = unless-crossed of_count refuse rs (border, out) _ (many_is m keys (length classes) windows border out) call
 
   -- the first refusal that holds, or the number of windows; of the two lent slices only the lengths count
-  pub windows-says : r ≡ answer refused (many_refusals m keys (length classes) windows (length border) (length out)) (values (length (windows_in windows)) 0)
+  pub windows-says : r ≡ answer refusing (many_refusals m keys (length classes) windows (length border) (length out)) (values (length (windows_in windows)) 0)
   windows-says = guarded-says four rs (border, out) _ counted
 
   pub windows-numbered : r.refusal ≤ 25
@@ -56,13 +55,13 @@ module _ (m : ℕ) (keys classes windows border out : List ℕ) {r : Answer} {bo
   pub windows-25 : (r.refusal ≡ 25) ↔ (SoundMap m keys (length classes) × (¬ InFours windows))
   windows-25 = go (verdict rs) refl
     where
-      go : (v : Verdict) → verdict rs ≡ v → (r.refusal ≡ 25) ↔ (SoundMap m keys (length classes) × (¬ InFours windows))
-      go verdict-of.Passed e =
-          let zero = ap (λ (x : Answer). x.refusal) (windows-says ∙ on-passed refused rs _ e) in
+      go : (v : Result Unit Refused) → verdict rs ≡ v → (r.refusal ≡ 25) ↔ (SoundMap m keys (length classes) × (¬ InFours windows))
+      go (Ok _) e =
+          let zero = ap (λ (x : Answer). x.refusal) (windows-says ∙ on-passed refusing rs _ e) in
           let A = (many-askable m keys (length classes) windows (length border) (length out)).0 e in
           (λ z. absurd (omega (arith, z, zero)), λ t. absurd (t.1 A.list))
-      go (verdict-of.Refused n p) e =
-          let number = ap (λ (x : Answer). x.refusal) (windows-says ∙ on-refused refused rs _ e) in
+      go (Err refusal) e =
+          let number = ap (λ (x : Answer). x.refusal) (windows-says ∙ on-refused refusing rs _ e) in
           let exactly = many-25 m keys (length classes) windows (length border) (length out) e in
           (λ z. exactly.0 (sym number ∙ z), λ t. number ∙ exactly.1 t)
 
@@ -76,11 +75,11 @@ module _ (m : ℕ) (keys classes windows border out : List ℕ) {r : Answer} {bo
     abbrev A : Askable m keys (length classes) windows (length border) (length out)
     A = windows-answered.0 z
 
-    passed : verdict rs ≡ verdict-of.Passed
+    passed : verdict rs ≡ Ok tt
     passed = (many-askable m keys (length classes) windows (length border) (length out)).1 A
 
     pub windows-number : r ≡ values (length (windows_in windows)) 0
-    windows-number = windows-says ∙ on-passed refused rs _ passed
+    windows-number = windows-says ∙ on-passed refusing rs _ passed
 
     count : r.first ≡ length Ws
     count = ap (λ (x : Answer). x.first) windows-number

@@ -1,10 +1,10 @@
 -- What is promised of salvage that was answered.
 -- Assumes nothing.
-use Rattle.std.specs.Prelude.{◌≡◌, ◌↔◌, true, ℕ, ◌^◌, ◌≤◌, ◌<◌, length, get_or, take}
+use Rattle.answers.specs.declared.Cause.TheVariants.{BadKey, Overlap}
+use Rattle.std.specs.Prelude.{◌≡◌, ◌↔◌, true, ℕ, ◌^◌, ◌≤◌, ◌<◌, length, get_or, take, None}
 use mathlib.Core.List.{List, flat_map, Memᴰ}
 use Rattle.lists.specs.Lists.{up_from}
 use Rattle.answers.specs.Cells.{overwrite}
-use Rattle.key.specs.declared.Form.TheVariants.{Malformed}
 use Rattle.key.specs.Form.{form_of}
 use Rattle.key.specs.Blocks.{Names, Among}
 use Rattle.map.specs.Sound.{Spaced, SoundMap}
@@ -30,9 +30,9 @@ pub record SalvagePromise (m : ℕ) (keys classes mended painted log : List ℕ)
   -- each record of the broken map is kept or dropped, in its order
   pub each : flat_map number_of es ≡ up_from 0 (length keys)
   -- it is dropped by 3 exactly if its key is malformed
-  pub garbled : (n : ℕ) → Memᴰ (dropped n 3) es ↔ ((n < length keys) × (form_of m (get_or keys n 0) ≡ Malformed))
+  pub garbled : (n : ℕ) → Memᴰ (dropped n BadKey) es ↔ ((n < length keys) × (form_of m (get_or keys n 0) ≡ None))
   -- and if not, by 4 exactly if it starts before the end of an earlier one that is kept
-  pub early : (n i s : ℕ) → n < length keys → Names m (get_or keys n 0) i s → Memᴰ (dropped n 4) es ↔ Reached m keys es n s
+  pub early : (n i s : ℕ) → n < length keys → Names m (get_or keys n 0) i s → Memᴰ (dropped n Overlap) es ↔ Reached m keys es n s
   -- those that are kept rise without overlap
   pub apart : Spaced m 0 (flat_map (key_kept keys) es)
   -- the blocks that are filled in make up the places in none of them

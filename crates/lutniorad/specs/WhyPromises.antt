@@ -1,12 +1,11 @@
 -- What is promised of a reason that was given.
 -- Assumes nothing.
-use Rattle.std.specs.Prelude.{◌≡◌, ◌↔◌, ◌⊎◌, List, ℕ}
+use Rattle.std.specs.Prelude.{◌≡◌, ◌↔◌, ◌⊎◌, List, ℕ, Some}
 use Rattle.window.specs.declared.Window.{Window}
 use Rattle.border.specs.Openings.{Opening}
 use Rattle.border.specs.Promises.{Overlaps, HandedBy, OpenedAs, SkippedFor}
 use Rattle.used.specs.Used.{spent}
 use Rattle.why.specs.declared.Side.{Side}
-use Rattle.why.specs.declared.Lies.TheVariants.{Outside}
 use Rattle.why.specs.Promises.{AllNorth, AllSouth, AllWest, AllEast, FirstTrue}
 use Rattle.lutniorad.specs.declared.Reason.{Reason}
 use Rattle.lutniorad.specs.Numbers.{reason, side_number}
@@ -16,7 +15,7 @@ pub record WhyRecordPromise (m : ℕ) (keys : List ℕ) (W : Window) (n : ℕ) (
   -- it is said to be handed out by opening number k, counted from 0, exactly when that opening hands it out
   pub handed : (k : ℕ) → (r ≡ reason 1 n k) ↔ HandedBy os k n
   -- it is said to lie north, south, west or east of the window exactly when this is the first of them that is true of all its pixels
-  pub outside : (side : Side) → (r ≡ reason (side_number side) n 0) ↔ FirstTrue (AllNorth m keys W n) (AllSouth m keys W n) (AllWest m keys W n) (AllEast m keys W n) (Outside side)
+  pub outside : (side : Side) → (r ≡ reason (side_number side) n 0) ↔ FirstTrue (AllNorth m keys W n) (AllSouth m keys W n) (AllWest m keys W n) (AllEast m keys W n) (Some side)
   -- one of these is said: the first where the record shares a pixel with the window, and one of the others where it shares none
   pub either : ((k : ℕ) × (r ≡ reason 1 n k) × Overlaps m keys W n) ⊎ ((side : Side) × (r ≡ reason (side_number side) n 0) × (¬ Overlaps m keys W n))
   pub border-after : border' ≡ spent W border

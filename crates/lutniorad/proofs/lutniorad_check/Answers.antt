@@ -1,7 +1,6 @@
 -- `lutniorad_check` meets its contract: what the check answers, as numbers.
-use mathlib.Core.Path.{refl}
 use Rattle.lutniorad.proofs.Crossing.{crossing-alone}
 use Rattle.lutniorad.proofs.lutniorad_check.Goals as goal
 
 pub returns : goal.returns
-returns c = crossing-alone refl c.of_count.ensures c.check.ensures
+returns c = crossing-alone c.cross.ensures c.check.ensures

@@ -1,7 +1,6 @@
 -- `lutniorad_open_tiled` meets its contract: what opening answers, as numbers.
-use mathlib.Core.Path.{refl}
 use Rattle.lutniorad.proofs.Crossing.{crossing}
 use Rattle.lutniorad.proofs.lutniorad_open_tiled.Goals as goal
 
 pub returns : goal.returns
-returns c = crossing refl c.of_opened.ensures c.«open».ensures
+returns c = crossing c.cross.ensures c.«open».ensures

@@ -1,7 +1,6 @@
 -- `lutniorad_report` meets its contract: what report answers, as numbers.
-use mathlib.Core.Path.{refl}
 use Rattle.lutniorad.proofs.Crossing.{crossing}
 use Rattle.lutniorad.proofs.lutniorad_report.Goals as goal
 
 pub returns : goal.returns
-returns c = crossing refl c.of_count.ensures c.report.ensures
+returns c = crossing c.cross.ensures c.report.ensures
