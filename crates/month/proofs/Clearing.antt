@@ -6,14 +6,14 @@ use mathlib.Core.List.{List, ◌++◌, append_assoc}
 use Prim.Native.Nat.{ℕ, ◌+◌, ◌≤◌, ◌<◌}
 use native.Mathlib.Omega.{arith}
 use lib.ListN.{length, drop, replicate, length-append, length-replicate}
-use lib.Seq.{take_at, drop_at, drop-drop}
+use lib.Seq.{take_at, drop_at, drop-drop, sets}
 use borrow.Rule.Slice.PartMut.{put_mid}
 use Rattle.std.specs.Prelude.{Ok}
 use Rattle.answers.specs.declared.Cause.TheVariants.{BadM, BadWindow, ShortRoom}
 use Rattle.answers.specs.Refusals.{refuse}
 use Rattle.answers.specs.Cells.{overwrite}
 use Rattle.answers.specs.After.{after}
-use Rattle.answers.proofs.Laws.{overwrite-part}
+use Rattle.answers.proofs.Laws.{overwrite-part, overwrite-sets}
 use Rattle.window.specs.declared.Window.{Window}
 use Rattle.window.specs.Window.{outside}
 use Rattle.window.specs.Drawn.{drawn_for}
@@ -54,9 +54,10 @@ module _ (m : ℕ) (W : Window) where
         clear-short h = clear-is ∙ rw empty-length at (drawn-short refuse (Ok (tt {0})) empty m W table l e (rw empty-length h))
 
         -- the first five cells are stored, and behind them zeros
-        pub clear-done : 1030 ≤ length table → {head zeros : List ℕ} → head ≡ head_of m W → zeros ≡ replicate 1025 0
-            → clear_of m W table ≡ after (Ok tt) (put_mid 5 1025 (head ++ drop 5 table) zeros)
-        clear-done h d w =
+        pub clear-done : 1030 ≤ length table → {headed zeros : List ℕ} → headed ≡ sets table 0 (head_of m W) → zeros ≡ replicate 1025 0
+            → clear_of m W table ≡ after (Ok tt) (put_mid 5 1025 headed zeros)
+        clear-done h {headed} d w =
+            let head : headed ≡ head_of m W ++ drop 5 table = d ∙ overwrite-sets (head_of m W) table (omega arith) ∙ sym (overwrite-part (head_of m W) table) in
             clear-is
             ∙ drawn-done refuse (Ok tt) empty m W table l e (omega (arith, empty-length))
-            ∙ ap (after (Ok tt)) (sym (rw (d, w) (stored (head_of m W) (replicate 1025 0) table 5 1025 refl (length-replicate {A = ℕ} 1025 0))))
+            ∙ ap (after (Ok tt)) (sym (rw (head, w) (stored (head_of m W) (replicate 1025 0) table 5 1025 refl (length-replicate {A = ℕ} 1025 0))))

@@ -23,13 +23,12 @@ pub fn clear(m: u32, window: Window, table: &mut [u64]) -> Result<(), Refused>
     if table.len() < 1030 {
         return Err(Cause::ShortRoom.at(1030));
     }
-    table[..5].copy_from_slice(&[
-        m as u64,
-        window.r0 as u64,
-        window.c0 as u64,
-        window.h as u64,
-        window.w as u64,
-    ]);
+    // Cell by cell: copied from an array, they would be written twice.
+    table[0] = m as u64;
+    table[1] = window.r0 as u64;
+    table[2] = window.c0 as u64;
+    table[3] = window.h as u64;
+    table[4] = window.w as u64;
     table[5..1030].fill(0);
     Ok(())
 }

@@ -1,8 +1,8 @@
 -- `month::clear` meets its contract. Each test decides what its law in `Clearing` says.
-use mathlib.Core.Path.{◌≡◌, ap, sym, ◌∙◌}
+use mathlib.Core.Path.{◌≡◌, refl, ap, sym, ◌∙◌}
 use Prim.Native.Nat.{ℕ}
 use native.Mathlib.Omega.{arith}
-use lib.ListN.{length, replicate, length-take, length-drop, length-append}
+use lib.ListN.{replicate, length-take, length-drop, length-set}
 use Rattle.month.proofs.Clearing.{clear-over, clear-outside, clear-short, clear-done}
 use Rattle.month.proofs.clear.Goals as goal
 
@@ -19,6 +19,6 @@ returns-then-table-lt1030 c =
 
 pub returns : goal.returns
 returns c =
-    let filled = simp (length-take, length-drop, length-append) at (c.fill.ensures.after (λ y e. e)) in
-    let zeros : c.fill.new.self ≡ replicate 1025 0 = filled ∙ ap (λ (n : ℕ). replicate n 0) {y = 1025} (omega (arith, ap length c.copy_from_slice.ensures.after)) in
-    sym (clear-done _ _ _ (omega (arith, c.if-m-gt12.false)) (sym c.outside.ensures ∙ c.if-outside.false) c.if-table-lt1030.false c.copy_from_slice.ensures.after zeros)
+    let filled = simp (length-take, length-drop, length-set) at (c.fill.ensures.after (λ y e. e)) in
+    let zeros : c.fill.new.self ≡ replicate 1025 0 = filled ∙ ap (λ (n : ℕ). replicate n 0) {y = 1025} (omega (arith, c.if-table-lt1030.false)) in
+    sym (clear-done _ _ _ (omega (arith, c.if-m-gt12.false)) (sym c.outside.ensures ∙ c.if-outside.false) c.if-table-lt1030.false refl zeros)
