@@ -1,3 +1,4 @@
 mod Results
 mod Steps
 mod Examples
+pub mod Laws

@@ -1,1 +1,2 @@
 mod Arrived
+mod Turned

@@ -3,12 +3,14 @@
 // Where a read or a write fails, one line on standard error says so, and the program ends; its status is 0 then too.
 #![tactic(auto)]
 
-ghost use Rattle.std.specs.Prelude.{◌≡◌, ◌≤◌, length, IfOk};
+ghost use Rattle.std.specs.Prelude.{◌≡◌, ◌≤◌, length};
 ghost use Rattle.map.specs.Sound.{SoundMap};
 ghost use Rattle.window_program.specs.Received.{Received};
+ghost use Rattle.window_program.specs.Turns.{Counts, Turn};
 ghost use Rattle.window_program.specs.declared.Lost.TheVariants.{Output};
 
-use std::io::{Error, Read};
+use std::io::{Error, Read, Write};
+use std::rt::Files;
 use streams::{Taken, Unprinted};
 
 // Where the system tells what standard output and standard error are.
@@ -52,7 +54,7 @@ fn receive<R: Read>(from: &mut R, file: &mut [u8]) -> Taken
 
 // How many bytes came, where no read failed.
 fn count(taken: Taken) -> Result<usize, Lost>
-    ensures { IfOk result (λ count. count ≡ taken.count) }
+    ensures { Counts result taken }
 {
     match taken.failed {
         Some(error) => Err(Lost::Input(error)),
@@ -60,20 +62,23 @@ fn count(taken: Taken) -> Result<usize, Lost>
     }
 }
 
-fn print(rt: &HostRuntime, text: &[u8]) -> Result<(), Lost> {
-    streams::print(&mut rt.stdout(), rt, OUTPUT_PATH, text)?;
-    Ok(())
-}
-
 // Reads one window and prints its answer. False where there is no other: at the end of the input, where bytes may be left over.
-fn answer_next(rt: &HostRuntime, m: u32, keys: &[u32], classes: &[u8]) -> Result<bool, Lost>
+fn answer_next<R: Read, W: Write>(
+    from: &mut R,
+    to: &mut W,
+    files: &impl Files,
+    m: u32,
+    keys: &[u32],
+    classes: &[u8],
+) -> Result<bool, Lost>
     requires { length keys.now ≤ 1000 }
+    ensures { Turn m keys.now classes.now result (R.remaining from.old) (R.remaining from.new) (W.contents to.old) (W.contents to.new) }
 {
     let mut bytes = [0u8; 8];
-    let got = count(streams::take(&mut rt.stdin(), &mut bytes))?;
+    let got = count(streams::take(from, &mut bytes))?;
     let mut text = [0u8; 42225];
     let n = reply::put_next(m, keys, classes, &bytes, got, &mut text);
-    print(rt, &text[..n])?;
+    streams::print(to, files, OUTPUT_PATH, &text[..n])?;
     Ok(got == 8)
 }
 
@@ -82,7 +87,7 @@ fn answer_all(rt: &HostRuntime, m: u32, keys: &[u32], classes: &[u8]) -> Result<
     requires { (length keys.now ≤ 1000) × SoundMap m keys.now (length classes.now) }
 {
     for _ in 0..u64::MAX {
-        if !answer_next(rt, m, keys, classes)? {
+        if !answer_next(&mut rt.stdin(), &mut rt.stdout(), rt, m, keys, classes)? {
             break;
         }
     }
@@ -100,7 +105,10 @@ fn run(rt: &HostRuntime) -> Result<(), Lost> {
             let q = header.count as usize;
             answer_all(rt, header.m, &keys[..q], &classes[..q])
         }
-        Err(said) => print(rt, &line[..said]),
+        Err(said) => {
+            streams::print(&mut rt.stdout(), rt, OUTPUT_PATH, &line[..said])?;
+            Ok(())
+        }
     }
 }
 

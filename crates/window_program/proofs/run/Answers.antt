@@ -10,5 +10,5 @@ answer_all-requires c = (simp length-take (omega (arith, c.in-Ok.ensures.held.fe
 pub slice_bounds-line-end : goal.slice_bounds-line-end
 slice_bounds-line-end c = put-within _ _ c.in-Err.ensures.text
 
-pub slice_bounds-print-end : goal.slice_bounds-print-end
-slice_bounds-print-end c = sym (length-take-le _ _ (put-within _ _ c.in-Err.ensures.text))
+pub slice_bounds-print-end-in-Err : goal.slice_bounds-print-end-in-Err
+slice_bounds-print-end-in-Err c = sym (length-take-le _ _ (put-within _ _ c.in-Err.ensures.text))
