@@ -25,10 +25,6 @@ module _ {m n k : ℕ} {keys base : List ℕ} (P : Pair m keys n base k) {s : St
   pub under-within : s.under.next < length base
   under-within = at-within (spaced P.under) S.under under-start (omega arith)
 
-  -- today's may
-  pub today-within : s.today.start ≤ s.place → s.today.next < length keys
-  today-within d = at-within P.today S.today d (omega arith)
-
 module _ {m : ℕ} {keys base : List ℕ} (classes base_classes : List ℕ) (P : Pair m keys (length classes) base (length base_classes)) where
   -- ---- the class of a place that today's map holds, and of one that it does not
 

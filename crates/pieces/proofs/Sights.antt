@@ -78,6 +78,3 @@ module _ {f : ℕ → ℕ} {k m : ℕ} {keys base : List ℕ} {end : ℕ} where
         none = rw (e, upto k, L.none) (ne_eqb p.class k d);
         known = rw (e, upto not_seen, L.known);
       }
-
-    pub looking-no : end ≤ at.place → Looks f s end k (looked false unseen)
-    looking-no l = let e : at.place ≡ end = omega (arith, L.high) in record { has = sym (rw e at L.none); unseen = λ d. rw e at L.known }

@@ -92,6 +92,3 @@ module _ {f : ℕ → ℕ} {m : ℕ} {keys base : List ℕ} {end : ℕ} where
     pub tallying-next : {p : Piece} {to : Stand} → Uniform f at.place end p → p.class < length before → to.place ≡ p.end → StandsAt m keys base to
         → Tallying f m keys base s end before (set cells p.class (get_or cells p.class 0 + (p.end - at.place))) to
     tallying-next U h e S = record { low = omega (arith, T.low, U.more); high = omega (arith, U.most); stands = S; done = rw e (tallied-next f T.done U T.low h) }
-
-    pub tallying-last : end ≤ at.place → Tallied f s end before cells
-    tallying-last l = let e : at.place ≡ end = omega (arith, T.high) in rw e at T.done

@@ -10,7 +10,7 @@ use Rattle.answers.specs.declared.Cause.{Cause}
 use Rattle.answers.specs.declared.Cause.TheVariants.{Gap}
 use Rattle.answers.specs.Refusals.{number}
 use Rattle.answers.specs.Cells.{overwrite, put, Listed}
-use Rattle.answers.proofs.Laws.{listed-none, listed-one, listed_more, listed_same, listed-all}
+use Rattle.answers.proofs.Laws.{listed-none, listed-one, listed_more, listed-all}
 use Rattle.map.specs.Classes.{not_seen}
 use Rattle.salvage.specs.Salvage.{Mend, kept, dropped, filled, brings, logs, firsts, seconds, cells}
 use Rattle.salvage.specs.Making.{Sheet, sheet, Makes}
@@ -131,10 +131,6 @@ module _ {keys classes : List ℕ} {es : List Mend} {a b : Sheet} (M : Makes key
   pub makes-few : (b.records ≤ a.records + length es) × (b.entries ≤ a.entries + length es)
   makes-few =
       (omega (arith, makes-records, flat-most (brings keys classes) 1 (brings-one keys classes) es), omega (arith, makes-entries, flat-most logs 1 logs-one es))
-
-  -- the slices are as long as they were
-  pub makes-lengths : (length b.keys ≡ length a.keys) × (length b.classes ≡ length a.classes) × (length b.log ≡ length a.log)
-  makes-lengths = (listed_same M.keys-listed, listed_same M.classes-listed, listed_same M.log-listed)
 
 -- with room for all, they stand in the first cells
 pub makes-all : {keys classes : List ℕ} {es : List Mend} {K P L : List ℕ} {b : Sheet} → Makes keys classes es (sheet 0 0 K P L) b
