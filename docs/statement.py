@@ -28,7 +28,7 @@ SIGNS = ('→', ':', '=', ',', ';', '_', '.', 'record', 'where')
 OPENING = ('(', '{')
 CLOSING = (')', '}')
 HOLE = '◌'  # in the name of an operator, where an argument stands
-OPEN_NAMES = ('Type', '×', '¬', '⊥', 'tt')
+OPEN_NAMES = ('Type', 'Unit', '×', '¬', '⊥', 'tt', 'Some', 'None', 'Ok', 'Err')
 OF_CONTRACTS = ('self', 'result')  # what a clause may name beside the parameters
 
 
@@ -304,6 +304,7 @@ FIELD = re.compile(r': *([^,\n]+)|\(([^)]*)\)')  # the type of a named field, or
 FUNCTION = re.compile(r'\bfn (\w+)')
 CLAUSE = re.compile(r'\b(?:(?:requires|ensures)\*?(?: \w+)?|ghost \w+:)\s*$')  # some have names
 GHOST_FIELD = re.compile(r'\bghost \w+ *: *\{')
+GHOST_MEMBER = re.compile(r'\bghost \w+ *= *\{')  # of an impl
 
 
 def blank_comments(text):
@@ -355,6 +356,9 @@ def read_functions(file, text):
             body -= 1
         lines = lines_with_comment(file, text, match.start(), body - 1)
         yield Function(file, match.group(1), lines, parameters, clauses)
+    for member in GHOST_MEMBER.finditer(code):  # what an impl says is as good as a contract
+        brace = member.end() - 1
+        yield Function(file, member.group(), [], set(), [code[brace + 1:closing(code, brace)]])
 
 
 def read_clauses(code, start):

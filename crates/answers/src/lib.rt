@@ -39,6 +39,8 @@ pub struct Refused {
 
 impl Cause {
     // The refusal for this cause.
+    #[cold]
+    #[inline(never)] // so that no loop that may refuse carries the refusal along
     pub fn at(self, place: u32) -> Refused
         ensures { result ≡ refused self place }
     {

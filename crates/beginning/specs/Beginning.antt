@@ -9,10 +9,6 @@ use Rattle.house.specs.File.{file_m, file_q, file_keys, file_classes, FileMap, R
 use Rattle.text.specs.Text.{put_of}
 use Rattle.lines.specs.Lines.{refused_text}
 
--- what is printed for a map
-unfoldable pub map_text : ℕ → List ℕ → List ℕ → List ℕ
-map_text m keys classes = refused_text (map_refusals m keys (length classes))
-
 -- a file is read into 1,000 cells each, and then its map is looked at
 unfoldable pub start_refusals : List ℕ → List Refusal
 start_refusals file = read_refusals file 1000 1000 ++ map_refusals (file_m file) (file_keys file) (length (file_classes file))

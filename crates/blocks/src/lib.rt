@@ -2,7 +2,8 @@
 // The crates above refuse m over 12 before they call, so functions here ask m ≤ 12, and all keys fit u32.
 #![tactic(auto)]
 
-ghost use Rattle.std.specs.Prelude.{◌≡◌, ◌^◌, ◌<◌, ◌≤◌, get_or};
+ghost use Rattle.std.specs.Prelude.{◌≡◌, ◌^◌, ◌<◌, ◌≤◌, get_or, map};
+ghost use Rattle.lists.specs.Lists.{up_from};
 ghost use Rattle.key.specs.Spread.{E, spread, spreads, fours};
 ghost use Rattle.key.specs.Picture.{Pixel, place};
 ghost use Rattle.key.specs.Key.{pixel_key, block_key, ones};
@@ -11,7 +12,7 @@ ghost use Rattle.key.specs.Power.{Power};
 
 mod tables;
 
-use tables::{FOURS, SPREAD};
+use tables::{FIVES, FOURS, SPREAD};
 
 // The table of E.
 pub fn spread_table() -> &'static [u32; 256]
@@ -36,12 +37,18 @@ fn spread(x: u16) -> u32
     entry(x % 256) + 390625 * entry(x / 256)
 }
 
-// How many keys a block of exponent k has: E of one bit.
+fn fives_table() -> &'static [u32; 13]
+    ensures { result.now ≡ map (λ k. 5 ^ k) (up_from 0 13) }
+{
+    &FIVES
+}
+
+// How many keys a block of exponent k has.
 pub fn pow5(k: u32) -> u32
     requires { k ≤ 12 }
     ensures { Power 5 k result }
 {
-    spread(1 << k)
+    fives_table()[k as usize]
 }
 
 // k digits 1: E of as many bits.

@@ -21,7 +21,7 @@ pub enum Existence {
     CannotTell,
 }
 
-// Some records, looked through: one has the class, one was not seen.
+// Some records, looked through: one has the class, one was not seen. Two flags and no enum: a loop that sets both takes many records at a time.
 #[derive(Clone, Copy)]
 struct Looked {
     has: bool,
@@ -59,6 +59,7 @@ fn seek(
     step::fill(border, 0, w, window.r0);
     let mut at = openings::start(window);
     let mut unseen = false;
+    // A call and no iterator: it writes to the border, which is lent to it each time.
     while let Some(opening) = openings::next_opening(m, m, keys, window, &mut at, border) {
         let looked = look(classes, class, opening.run);
         if looked.has {

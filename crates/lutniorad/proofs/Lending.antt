@@ -71,7 +71,8 @@ module _ (m : ℕ) (keys classes : List ℕ) (base_m : ℕ) (base base_classes :
       numbers : {v : Result Viewed Unpaired} → view_of m keys (length classes) base_m base (length base_classes) key ≡ v → r ≡ of_viewed v
       numbers e = call.answer ∙ ap of_viewed e
 
-      go : (v : Result Viewed Unpaired) → view_of m keys (length classes) base_m base (length base_classes) key ≡ v → Seen m keys (length classes) base_m base (length base_classes) key v → Said
+      go : (v : Result Viewed Unpaired) → view_of m keys (length classes) base_m base (length base_classes) key ≡ v
+          → Seen m keys (length classes) base_m base (length base_classes) key v → Said
       go (Err u) e (unpaired d) = let z = sym passed ∙ d in absurd cc
       go (Err u) e (blockless d h) = none h (numbers e)
       go (Ok (viewed.Today f c)) e (of_today d N a b h) = own N (numbers e ∙ rw (a, b)) (λ z. h (b ∙ z))

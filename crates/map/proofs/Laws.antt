@@ -2,7 +2,6 @@
 -- Assumes nothing.
 pub use Rattle.map.proofs.Tiles.{Record, SomeRecord, Holder, Free, Tiling, pixel_tile, Overlap, Meets}
 pub use Rattle.map.proofs.Tables.{check-is, numbered-map, without-map, map-over, spaced-records, sound-map}
-pub use Rattle.map.proofs.Checked.{checked-sound, gapless-sound, checked-map}
 pub use Rattle.map.proofs.Gapless.{gapless-same, sound-gapless}
 pub use Rattle.map.proofs.Order.{spaced, recorded-spaced, whole-sparse, record-at, apart, holder, find, keys-apart, keys-rise, one-holder}
 pub use Rattle.map.proofs.Holding.{exponent-record, tile-record, record-tile, record_of_lem, record-none, exponent-of, tile-of, exponent-none}

@@ -12,7 +12,11 @@ use Rattle.map.specs.declared.Run.{Run}
 use Rattle.map.specs.Sound.{Spaced}
 use Rattle.map.specs.Runs.{run, run_of, BlockOf}
 use Rattle.map.proofs.Laws.{Record, record-at, found-around}
-use Rattle.near.specs.Near.{near, LiesIn, Known}
+use Rattle.near.specs.declared.Near.{Near}
+use Rattle.near.specs.Near.{LiesIn, Known}
+
+abbrev pub near : ℕ → ℕ → ℕ → Near
+near first from end = record { first = first; from = from; end = end }
 
 -- each block in a record is smaller, and overlaps it alone
 pub known-record : {m : ℕ} {keys : List ℕ} → Spaced m 0 keys → {n j t from end : ℕ} → Record m keys n j t

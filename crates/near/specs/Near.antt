@@ -6,9 +6,6 @@ use Rattle.map.specs.Runs.{BlockOf, run_of}
 use Rattle.near.specs.declared.Near.{Near}
 use Rattle.near.specs.declared.Seen.{Seen}
 
-abbrev pub near : ℕ → ℕ → ℕ → Near
-near first from end = record { first = first; from = from; end = end }
-
 abbrev pub seen : Run → Near → Near → Seen
 seen run near other = record { run = run; near = near; other = other }
 

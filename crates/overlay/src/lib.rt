@@ -105,6 +105,7 @@ fn put_class(
     let mut stand = ahead.stand;
     let mut from = stand.place;
     let mut k = n;
+    // From piece to piece, and no count: how far the next one goes both maps say.
     while stand.place < end {
         let at = stand.place;
         let piece = pieces::next_piece(m, keys, classes, base, beneath, stand, end);

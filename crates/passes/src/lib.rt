@@ -38,6 +38,7 @@ pub fn pass(
     let mut at = openings::start(window);
     let mut openings: u32 = 0;
     let mut records: u32 = 0;
+    // A call and no iterator: it writes to the border, which is lent to it each time.
     while let Some(opening) = openings::next_opening(m, top, keys, window, &mut at, border) {
         put_opening(out, openings, opening);
         openings += 1;

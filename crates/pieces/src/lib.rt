@@ -46,7 +46,7 @@ pub struct Piece {
     pub end: u32,
 }
 
-// Places, looked through: one has the class, one was not seen. The second is told only where the first is not so.
+// Places, looked through: one has the class, one was not seen. The second is told only where the first is not so. Two flags and no enum: they are what `exist` asks, one after the other.
 #[derive(Clone, Copy, Debug, PartialEq, Eq)]
 pub struct Looked {
     pub has: bool,
@@ -230,6 +230,7 @@ pub fn tally(
     ensures { Tallied (class_over_map m keys.now classes.now base.now beneath.now) first.place end totals.old totals.new }
 {
     let mut stand = first;
+    // From piece to piece, and no count: how far the next one goes both maps say.
     while stand.place < end {
         let piece = next_piece(m, keys, classes, base, beneath, stand, end);
         let class = piece.class as usize;
@@ -254,6 +255,7 @@ pub fn look(
 {
     let mut stand = first;
     let mut unseen = false;
+    // From piece to piece, and no count: how far the next one goes both maps say.
     while stand.place < end {
         let piece = next_piece(m, keys, classes, base, beneath, stand, end);
         if piece.class == class {

@@ -66,6 +66,7 @@ pub fn records(m: u32, keys: &[u32], whole: bool) -> Result<(), Refused>
 {
     let mut spot = spots::first_spot(m);
     let mut n: usize = 0;
+    // No count: it goes on behind wherever `along` stopped.
     loop {
         let gone = along(m, keys, spot, n);
         let at = gone.spot.place;

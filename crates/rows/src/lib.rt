@@ -5,7 +5,7 @@ ghost use Rattle.std.specs.Prelude.{◌≡◌, cond, min, max, ◌≤◌, ◌<�
 ghost use Rattle.rows.specs.Rows.{with_map, row_in, any_over};
 ghost use Rattle.rows.specs.Growing.{put_row, grow_rows, Fits, AllFit};
 
-// The least number of pixels, with a map more that has n. The first map sets it.
+// The least number of pixels, with a map more that has n. The first map sets it: the contract is about that, and so this and the next are no plain `min` and `max`.
 fn least(first: bool, old: u64, n: u64) -> u64
     ensures { result ≡ cond first n (min old n) }
 {

@@ -9,11 +9,22 @@ ghost use Rattle.map.specs.Runs.{run, run_of, BlockOf, Rising, Bracket, Splits};
 use map::Run;
 
 // How many keys are below x, where those before `from` are: a search by halves in rising keys.
+// Written out, and no `partition_point`: the wrong version `half_not_narrowed`, which would not end, is one of this loop.
 pub fn keys_below(keys: &[u32], x: u32, from: usize) -> usize
     requires { Rising keys.now × Bracket keys.now x from (length keys.now) }
     ensures { Splits keys.now x result }
 {
-    from + keys[from..].partition_point(|key| *key < x)
+    let mut low = from;
+    let mut high = keys.len();
+    while low < high {
+        let middle = (low + high) / 2;
+        if keys[middle] < x {
+            low = middle + 1;
+        } else {
+            high = middle;
+        }
+    }
+    low
 }
 
 // How many records lie in the block of a key and its exponent, from `first` on, the first record that can. Their end is sought behind it, and not at all where its key is the block's

@@ -68,6 +68,7 @@ fn fill(
     ensures gap_filled { MakesAny (fills m from.spot.place end) (sheet from.records from.entries mended.old painted.old log.old) (sheet result.records result.entries mended.new painted.new log.new) }
 {
     let mut now = from;
+    // From block to block, and no count: each says where the next one starts.
     while now.spot.place < end {
         let next = stretch::next_block(m, now.spot, end);
         put_record(mended, painted, now.records, next.key, map::NOT_SEEN);
@@ -202,6 +203,7 @@ fn pass(
         },
         next: 0,
     };
+    // No count: it goes on behind wherever `keep_along` stopped.
     loop {
         let kept = keep_along(m, keys, classes, at, mended, painted);
         if kept.next == keys.len() {

@@ -8,24 +8,38 @@ ghost use Rattle.key.specs.Along.{ones_table, TellsOnes, pixel_at, Stands, ToldF
 
 use key::Spot;
 
-// i digits 1, which is (5^i - 1)/4, for each i up to 12.
-static ONES: [u32; 13] = [
-    0, 1, 6, 31, 156, 781, 3906, 19531, 97656, 488281, 2441406, 12207031, 61035156,
-];
+// The tables of such a walk, in one place: what reads both needs one address.
+struct Lookup {
+    // i digits 1, which is (5^i - 1)/4, for each i up to 12.
+    ones: [u32; 13],
+    // The numbers of `ones` leave 13 different remainders by 16: at each remainder, how many digits 1 its number has. At 3, 5 and 10, which none of them leaves, stands 0.
+    digits: [u8; 16],
+}
 
-// The numbers of `ONES` leave 13 different remainders by 16: at each remainder, how many digits 1 its number has. At 3, 5 and 10, which none of them leaves, stands 0.
-static DIGITS: [u8; 16] = [0, 1, 6, 0, 12, 0, 2, 11, 8, 9, 0, 7, 4, 5, 10, 3];
+static LOOKUP: Lookup = Lookup {
+    ones: [
+        0, 1, 6, 31, 156, 781, 3906, 19531, 97656, 488281, 2441406, 12207031, 61035156,
+    ],
+    digits: [0, 1, 6, 0, 12, 0, 2, 11, 8, 9, 0, 7, 4, 5, 10, 3],
+};
+
+fn tables() -> &'static Lookup
+    ensures ones { result.now.ones ≡ ones_table }
+    ensures digits { TellsOnes result.now.digits }
+{
+    &LOOKUP
+}
 
 pub fn ones_table() -> &'static [u32; 13]
     ensures { result.now ≡ ones_table }
 {
-    &ONES
+    &tables().ones
 }
 
 pub fn digits_table() -> &'static [u8; 16]
     ensures { TellsOnes result.now }
 {
-    &DIGITS
+    &tables().digits
 }
 
 // i digits 1, as the table has them.
@@ -33,7 +47,7 @@ fn ones(i: u32) -> u32
     requires { i ≤ 12 }
     ensures { result ≡ ones i }
 {
-    ones_table()[i as usize]
+    tables().ones[i as usize]
 }
 
 pub fn first_spot(m: u32) -> Spot
@@ -67,7 +81,7 @@ pub fn exponent_at(m: u32, spot: Spot, key: u32) -> Option<u32>
         return Some(spot.top);
     }
     let over = pixel_at(m, spot).wrapping_sub(key);
-    let exponent = digits_table()[(over % 16) as usize] as u32;
+    let exponent = tables().digits[(over % 16) as usize] as u32;
     if ones(exponent) != over {
         return None;
     }
@@ -86,7 +100,7 @@ pub fn exponent_here(m: u32, spot: Spot, key: u32) -> u32
         return spot.top;
     }
     let over = pixel_at(m, spot) - key;
-    digits_table()[(over % 16) as usize] as u32
+    tables().digits[(over % 16) as usize] as u32
 }
 
 // The key of the block of exponent i that starts where the walk stands: i digits 1 below that of the pixel there.
@@ -105,7 +119,7 @@ pub fn advance(m: u32, key: u32, i: u32, start: u32) -> Spot
 {
     let place = start + blocks::pow4(i);
     let top = place.trailing_zeros() / 2;
-    let end = key + 4 * ones(i) + 1;
+    let end = key + blocks::pow5(i);
     Spot {
         place,
         key: end,

@@ -100,6 +100,7 @@ pub fn take<R: Read>(from: &mut R, buf: &mut [u8]) -> Taken
     ensures end { IsNone result.failed → result.count < length buf.new → IsAtEnd (R.remaining from.new) }
 {
     let mut count = 0;
+    // How many bytes a read brings is not known before: no `for`.
     while count < buf.len() {
         match read(from, &mut buf[count..]) {
             Ok(0) => break,
@@ -155,6 +156,7 @@ pub fn print<W: Write>(
     ensures { Puts result (W.contents to.old) (W.contents to.new) text.now }
 {
     let mut rest = text;
+    // How many bytes a write takes is not known before: no `for`.
     while !rest.is_empty() {
         let n = piece(rest);
         let put = write(to, &rest[..n])?;

@@ -22,6 +22,7 @@ pub fn count(
 {
     step::fill(border, 0, window.w as usize, window.r0);
     let mut at = openings::start(window);
+    // A call and no iterator: it writes to the border, which is lent to it each time.
     while let Some(opening) = openings::next_opening(m, m, keys, window, &mut at, border) {
         gather::gather(m, keys, classes, window, opening, counts);
     }

@@ -78,6 +78,7 @@ fn next_block(window: Window, top: u32, mut row: u16, mut col: u16) -> Option<Bl
 {
     let south = window.r0 + window.h;
     let east = window.c0 + window.w;
+    // Two walks in one, along the rows and down them, with four ways on: no `for` says that.
     loop {
         if col < east {
             let exponent = exponent(window, top, row, col);

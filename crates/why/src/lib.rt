@@ -38,7 +38,7 @@ pub enum Why {
     Skipped { index: u32, opening: u32 },
 }
 
-// The opening that hands out a record, by its number and its block's key.
+// The opening that hands out a record, by its number and its block's key. No `Option`: where none does, the number is that of all openings, as the contract says.
 #[derive(Clone, Copy)]
 struct Brought {
     opening: u32,
@@ -84,6 +84,7 @@ fn bring(m: u32, keys: &[u32], window: Window, index: u32, border: &mut [u16]) -
     step::fill(border, 0, w, window.r0);
     let mut at = openings::start(window);
     let mut number: u32 = 0;
+    // A call and no iterator: it writes to the border, which is lent to it each time.
     while let Some(opening) = openings::next_opening(m, m, keys, window, &mut at, border) {
         let run = opening.run;
         if run.first <= index && index < run.first + run.count {

@@ -1,15 +1,9 @@
--- `blocks::pow5` meets its contract: E of a power of two is that power of 5.
-use mathlib.Core.Path.{ap, ◌∙◌}
+-- `blocks::pow5` meets its contract, by the entry of the table.
+use Prim.Native.Nat.{ℕ, ◌^◌}
 use native.Mathlib.Omega.{arith}
-use Rattle.key.specs.Spread.{spread}
-use Rattle.key.proofs.Loops.{spread-power, bit}
+use Rattle.lists.proofs.Laws.{table-entry}
 use Rattle.key.proofs.Laws.{power}
 use Rattle.blocks.proofs.pow5.Goals as goal
 
-pub spread-requires : goal.spread-requires
-spread-requires c = omega (arith, bit c.args.k c.requires)
-
 pub returns : goal.returns
-returns c =
-    let k = c.args.k in
-    power 4 k (c.spread.ensures ∙ ap (spread 5) (bit k c.requires).is ∙ spread-power 5 k) c.requires
+returns c = power 4 c.args.k (table-entry (λ (k : ℕ). 5 ^ k) 13 c.args.k c.fives_table.ensures (omega (arith, c.requires))) c.requires

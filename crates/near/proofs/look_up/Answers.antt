@@ -5,8 +5,8 @@ use Rattle.map.specs.declared.Run.{Run}
 use Rattle.map.specs.Runs.{run_of}
 use Rattle.map.proofs.Laws.{keys-rise, Alone, reach-least, reach-beyond}
 use Rattle.map.proofs.Loops.{between_first, found_inside}
-use Rattle.near.specs.Near.{near, Known}
-use Rattle.near.proofs.Known.{known-record}
+use Rattle.near.specs.Near.{Known}
+use Rattle.near.proofs.Known.{near, known-record}
 use Rattle.near.proofs.look_up.Goals as goal
 use Rattle.near.proofs.look_up.Goals.{Else-run-i}
 

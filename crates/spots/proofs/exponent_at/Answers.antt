@@ -23,8 +23,8 @@ module _ (c : After-ones) where
   less : Less (pixel_at c.args.spot) c.args.key over
   less = record { fits = omega arith; from = omega arith; back = omega (arith, c.pixel_at.ensures) }
 
-  tells : Told ones_table c.digits_table.result.now over (get_or c.digits_table.result.now (over % 16) 0)
-  tells = told over refl c.digits_table.ensures
+  tells : Told ones_table c.tables.result.now.digits over (get_or c.tables.result.now.digits (over % 16) 0)
+  tells = told over refl c.tables.ensures.digits
 
 pub returns-then-ones-over : goal.returns-then-ones-over
 returns-then-ones-over c =

@@ -13,4 +13,4 @@ pub overflow_sub-over : goal.overflow_sub-over
 overflow_sub-over c = let p = c.requires in omega (arith, c.pixel_at.ensures, begins-over p.1 p.2)
 
 pub returns : goal.returns
-returns c = let p = c.requires in rw (c.pixel_at.ensures, begins-told p.1 p.2 p.0 c.digits_table.ensures) p.2.names
+returns c = let p = c.requires in rw (c.pixel_at.ensures, begins-told p.1 p.2 p.0 c.tables.ensures.digits) p.2.names

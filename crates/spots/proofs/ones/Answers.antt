@@ -3,4 +3,4 @@ use Rattle.key.proofs.Loops.{ones-entry}
 use Rattle.spots.proofs.ones.Goals as goal
 
 pub returns : goal.returns
-returns c = ones-entry c.args.i c.ones_table.ensures c.requires
+returns c = ones-entry c.args.i c.tables.ensures.ones c.requires
