@@ -30,13 +30,15 @@ fn pick_all(
         let key = blocks::block_key(m, block.exponent, block.row, block.col);
         if near::lies_in(seen.near, key) {
             n = pick::pick_around(classes, class, key, seen.near.first as usize, out, n);
-        } else if near::lies_in(seen.other, key) {
+            continue;
+        }
+        if near::lies_in(seen.other, key) {
             seen = near::exchanged(seen);
             n = pick::pick_around(classes, class, key, seen.near.first as usize, out, n);
-        } else {
-            seen = near::look_up(m, keys, key, block.exponent, seen);
-            n = pick::pick(keys, classes, class, key, block.exponent, seen.run, out, n);
+            continue;
         }
+        seen = near::look_up(m, keys, key, block.exponent, seen);
+        n = pick::pick(keys, classes, class, key, block.exponent, seen.run, out, n);
     }
     n
 }

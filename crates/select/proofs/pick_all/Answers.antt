@@ -34,14 +34,14 @@ pick_around-n-requires-then-lies_in-2 c =
     let S = c.loop-block.invariant in
     let B = comes S c.requires.0 c.in-Some.ensures.steps c.block_key-key.ensures in
     let known = exchanged-known c.exchanged-seen.ensures S.known in
-    selecting-around B known.0 (exchanged-in c.exchanged-seen.ensures (c.lies_in-else-lies_in.ensures.0 c.if-lies_in-2.true)) c.requires.1
+    selecting-around B known.0 (exchanged-in c.exchanged-seen.ensures (c.lies_in-in-loop-block.ensures.0 c.if-lies_in-2.true)) c.requires.1
 
 pub loop-block-preserved-then-lies_in-2 : goal.loop-block-preserved-then-lies_in-2
 loop-block-preserved-then-lies_in-2 c =
     let S = c.loop-block.invariant in
     let B = comes S c.requires.0 c.in-Some.ensures.steps c.block_key-key.ensures in
     let known = exchanged-known c.exchanged-seen.ensures S.known in
-    let within = exchanged-in c.exchanged-seen.ensures (c.lies_in-else-lies_in.ensures.0 c.if-lies_in-2.true) in
+    let within = exchanged-in c.exchanged-seen.ensures (c.lies_in-in-loop-block.ensures.0 c.if-lies_in-2.true) in
     selecting-near B known.0 within c.pick_around-n-then-lies_in-2.ensures known
 
 -- in neither
