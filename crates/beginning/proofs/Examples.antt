@@ -15,8 +15,7 @@ use Rattle.numbers.specs.Numbers.{bytes, number, bytes_of, numbers}
 use Rattle.house.specs.File.{header, file_of, layout_refusals, file_m, file_q, read_refusals_in, file_keys, file_classes}
 use Rattle.text.specs.Text.{digits, digits_of, spaced, line_of}
 use Rattle.input.specs.Input.{announced_of, whole_of}
-use Rattle.beginning.specs.Beginning.{start_refusals, start_text}
-use Rattle.beginning.proofs.Silent.{map_text}
+use Rattle.beginning.specs.Beginning.{map_text, start_refusals, start_text}
 
 abbrev file : List ℕ
 file = file_of 2 keys classes

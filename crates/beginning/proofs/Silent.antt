@@ -13,13 +13,8 @@ use Rattle.map.proofs.Laws.{sound-map}
 use Rattle.house.specs.File.{file_m, file_keys, file_classes, read_refusals}
 use Rattle.house.specs.Promises.{Readable}
 use Rattle.house.proofs.Laws.{read-passed}
-use Rattle.lines.specs.Lines.{refused_text}
 use Rattle.lines.proofs.Laws.{silent}
-use Rattle.beginning.specs.Beginning.{start_refusals, start_text}
-
--- what is printed for a map
-unfoldable pub map_text : ℕ → List ℕ → List ℕ → List ℕ
-map_text m keys classes = refused_text (map_refusals m keys (length classes))
+use Rattle.beginning.specs.Beginning.{map_text, start_refusals, start_text}
 
 pub map-silent : (m : ℕ) (keys classes : List ℕ) → (map_text m keys classes ≡ []) ↔ SoundMap m keys (length classes)
 unfolding map_text

@@ -9,6 +9,15 @@ use Rattle.house.specs.File.{file_m, file_q, file_keys, file_classes, FileMap, R
 use Rattle.text.specs.Text.{put_of}
 use Rattle.lines.specs.Lines.{refused_text}
 
+-- what is printed for a map
+unfoldable pub map_text : ℕ → List ℕ → List ℕ → List ℕ
+map_text m keys classes = refused_text (map_refusals m keys (length classes))
+
+-- there is nothing to print; or what is to be printed, so many bytes, was put
+abbrev pub Says : List ℕ → Result Unit ℕ → List ℕ → List ℕ → Type 0
+Says text (Ok done) out out' = (text ≡ []) × (out' ≡ out)
+Says text (Err said) out out' = (text ≡ [] → ⊥) × (after said out' ≡ put_of text out)
+
 -- a file is read into 1,000 cells each, and then its map is looked at
 unfoldable pub start_refusals : List ℕ → List Refusal
 start_refusals file = read_refusals file 1000 1000 ++ map_refusals (file_m file) (file_keys file) (length (file_classes file))
@@ -29,6 +38,7 @@ pub record Held (file : List ℕ) (header : Header) (keys classes : List ℕ) : 
 -- nothing is printed for a file, and its map is held
 pub record Begun (file : List ℕ) (header : Header) (keys classes out out' : List ℕ) : Type 0 where
   pub silent : start_text file ≡ []
+  pub is : start_of file ≡ Ok header
   pub held : Held file header keys classes
   pub kept : out' ≡ out
 

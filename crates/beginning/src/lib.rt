@@ -1,23 +1,20 @@
 // What comes before the first window: a file is read, its map is looked at, and what is printed for them is put into bytes that the caller lends.
 #![tactic(auto)]
 
-ghost use Rattle.std.specs.Prelude.{◌≡◌, ◌≤◌, length, IfOk};
+ghost use Rattle.std.specs.Prelude.{◌≡◌, ◌≤◌, length};
 ghost use Rattle.input.specs.Input.{whole_of};
-ghost use Rattle.beginning.specs.Beginning.{start_of, Held, Started};
+ghost use Rattle.beginning.specs.Beginning.{map_text, Says, Started};
 
-use answers::Refused;
 use house::Header;
 
-// Reads a file and looks at its map.
-fn read_map(file: &[u8], keys: &mut [u32], classes: &mut [u8]) -> Result<Header, Refused>
-    requires { (length keys.old ≡ 1000) × (length classes.old ≡ 1000) }
-    ensures value { result ≡ start_of file.now }
-    ensures map { IfOk result (λ header. Held file.now header keys.new classes.new) }
+// Looks at a map: where it is refused, so many bytes are put that say so.
+fn put_map(m: u32, keys: &[u32], classes: &[u8], out: &mut [u8]) -> Result<(), usize>
+    ensures { Says (map_text m keys.now classes.now) result out.old out.new }
 {
-    let header = house_read::read(file, keys, classes, true)?;
-    let q = header.count as usize;
-    checks::sound(header.m, &keys[..q], &classes[..q], true)?;
-    Ok(header)
+    match checks::sound(m, keys, classes, true) {
+        Ok(()) => Ok(()),
+        Err(refused) => Err(lines::put_refusal(refused.cause.number(), refused.place, out)),
+    }
 }
 
 // How the program begins, by a file of which so many bytes came: with its map, or else with a refusal, of which so many bytes are put.
@@ -31,8 +28,14 @@ pub fn put_received(
     requires { (4 ≤ length bytes.now) × (length keys.old ≡ 1000) × (length classes.old ≡ 1000) }
     ensures { Started (whole_of bytes.now got) result keys.new classes.new out.old out.new }
 {
-    match read_map(input::whole(bytes, got), keys, classes) {
-        Ok(header) => Ok(header),
-        Err(refused) => Err(lines::put_refusal(refused, out)),
-    }
+    let header = match house_read::read(input::whole(bytes, got), keys, classes, true) {
+        Ok(header) => header,
+        Err(refused) => {
+            let said = lines::put_refusal(refused.cause.number(), refused.place, out);
+            return Err(said);
+        }
+    };
+    let q = header.count as usize;
+    put_map(header.m, &keys[..q], &classes[..q], out)?;
+    Ok(header)
 }

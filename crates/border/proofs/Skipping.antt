@@ -41,7 +41,7 @@ module _ (m top : ℕ) (keys : List ℕ) {W : Window} {cells : List ℕ} (none :
 
 module _ {m top : ℕ} {keys : List ℕ} {W : Window} {at : Walk} {cells : List ℕ} (R : Reached m top keys W at cells) where
   -- where all is out, nothing is found
-  pub reached-done : {on : Walk} → at.left ≡ 0 → Finds m top keys W at cells None on cells
+  pub reached-done : at.left ≡ 0 → Finds m top keys W at cells None at cells
   reached-done e =
       let n : columns_left W cells ≡ 0 = omega (arith, R.left) in
       let t = all-skipped m top keys n (blocks_from W top (spot at)) (λ b h. (listed-corner {top = top} (rw R.walked.all (Memᴰ.append_right R.past h))).inside) in
@@ -93,7 +93,7 @@ module _ {m top : ℕ} {keys : List ℕ} {W : Window} {cells : List ℕ} {at : W
     pub skipping-usable : Usable m top keys W (length cells) → Usable m top keys W (length border)
     skipping-usable U = rw P.kept.same U
 
-    pub skipping-end : {t : Px} {on : Walk} → Ends W top (spot to) t → Finds m top keys W at cells None on border
+    pub skipping-end : {t : Px} → Ends W top (spot to) t → Finds m top keys W at cells None at border
     skipping-end g = let n = none-next m top keys border g in finds.end P.kept (P.made_as ∙ n.0) (P.left_as ∙ n.1)
 
     module _ (U : Usable m top keys W (length cells)) {b : Block} {t : Px} (g : GoesOn W top (spot to) b t) where

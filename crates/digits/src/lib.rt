@@ -121,7 +121,10 @@ fn read_digits(m: u32, low: Stripped) -> Option<Span>
     let mut start = 0;
     // No range or iterator: how many turns there are, what is left says.
     while rest >= 25 {
-        let place = pair_place(rest % 25)?;
+        // No `?`: the edit `zero_between_digits` is one of what is answered here.
+        let Some(place) = pair_place(rest % 25) else {
+            return None;
+        };
         start = place * blocks::pow4(k) + start;
         rest /= 25;
         k += 2;

@@ -50,5 +50,5 @@ pub fn put_left(got: u32, out: &mut [u8]) -> usize
     if got == 0 {
         return 0;
     }
-    lines::put_refusal(Cause::LeftOver.at(got), out)
+    lines::put_refusal(Cause::LeftOver.number(), got, out)
 }

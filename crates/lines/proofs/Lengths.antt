@@ -8,8 +8,6 @@ use native.Mathlib.Omega.{arith}
 use lib.Dec.{eqb}
 use lib.ListN.{length, length-append}
 use borrow.Author.Tests.{eqb-true, eqb-false}
-use Rattle.answers.specs.declared.Cause.{Cause}
-use Rattle.answers.specs.Refusals.{number}
 use Rattle.window.specs.declared.Window.{Window}
 use Rattle.text.proofs.Laws.{line-most}
 use Rattle.lines.specs.Lines.{window_line, refusal_line, opening_lines, class_line, class_lines, found_lines}
@@ -18,8 +16,8 @@ use Rattle.lines.proofs.Turns.{class-none, class-some}
 pub window-most : (W : Window) → length (window_line W) ≤ 46
 window-most W = line-most 87 (W.r0 ∷ W.c0 ∷ W.h ∷ W.w ∷ [])
 
-pub refusal-most : (c : Cause) (p : ℕ) → length (refusal_line c p) ≤ 24
-refusal-most c p = line-most 82 (number c ∷ p ∷ [])
+pub refusal-most : (n p : ℕ) → length (refusal_line n p) ≤ 24
+refusal-most n p = line-most 82 (n ∷ p ∷ [])
 
 openings-most : (cells : List ℕ) → length (opening_lines cells) ≤ 12 * length cells
 unfolding opening_lines

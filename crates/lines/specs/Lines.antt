@@ -10,13 +10,17 @@ use Rattle.text.specs.Text.{line_of}
 abbrev pub window_line : Window → List ℕ
 window_line W = line_of 87 (W.r0 ∷ W.c0 ∷ W.h ∷ W.w ∷ [])
 
--- R number place, by the number of the cause
-abbrev pub refusal_line : Cause → ℕ → List ℕ
-refusal_line cause place = line_of 82 (number cause ∷ place ∷ [])
+-- R number place
+abbrev pub refusal_line : ℕ → ℕ → List ℕ
+refusal_line number place = line_of 82 (number ∷ place ∷ [])
+
+-- the same of a cause, by its number
+abbrev pub cause_line : Cause → ℕ → List ℕ
+cause_line cause place = refusal_line (number cause) place
 
 -- of refusals in their order: the line of the first that holds, or nothing
 abbrev pub refused_text : List Refusal → List ℕ
-refused_text refusals = answer refusal_line refusals []
+refused_text refusals = answer cause_line refusals []
 
 -- O key first count, for each three cells
 unfoldable pub opening_lines : List ℕ → List ℕ

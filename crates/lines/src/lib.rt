@@ -6,14 +6,12 @@ ghost use Rattle.answers.specs.After.{after};
 ghost use Rattle.text.specs.Text.{put_of};
 ghost use Rattle.lines.specs.Lines.{window_line, refusal_line, opening_lines, class_line, class_lines, found_lines};
 
-use answers::Refused;
 use window::Window;
 
-// By the number of its cause.
-pub fn put_refusal(refused: Refused, out: &mut [u8]) -> usize
-    ensures { after result out.new ≡ put_of (refusal_line refused.cause refused.place) out.old }
+pub fn put_refusal(number: u32, place: u32, out: &mut [u8]) -> usize
+    ensures { after result out.new ≡ put_of (refusal_line number place) out.old }
 {
-    text::put_line(b'R', &[refused.cause.number(), refused.place], out)
+    text::put_line(b'R', &[number, place], out)
 }
 
 pub fn put_window(window: Window, out: &mut [u8]) -> usize

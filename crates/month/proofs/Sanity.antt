@@ -23,14 +23,14 @@ use Rattle.month.specs.Promises.{Sane}
 same-small : (x : ℕ) → min x 65535 ≤ 4096 → min x 65535 ≡ x
 same-small x l = omega arith
 
-narrowed-same : {W : Window} → Inside 12 (narrowed W) → narrowed W ≡ W
+pub narrowed-same : {W : Window} → Inside 12 (narrowed W) → narrowed W ≡ W
 narrowed-same {W} I = rw (same-small W.r0 (omega (arith, I)), same-small W.c0 (omega (arith, I)), same-small W.h (omega (arith, I)), same-small W.w (omega (arith, I)))
 
 pub narrowed-inside : {W : Window} → Inside 12 W → narrowed W ≡ W
 narrowed-inside {W} I = narrowed-same (record { tall = omega (arith, I); wide = omega (arith, I); bottom = omega (arith, I); right = omega (arith, I) })
 
 -- one that is too great lies outside as well as the greatest does
-narrowed-outside : (m : ℕ) (W : Window) → m ≤ 12 → outside m (narrowed W) ≡ outside m W
+pub narrowed-outside : (m : ℕ) (W : Window) → m ≤ 12 → outside m (narrowed W) ≡ outside m W
 narrowed-outside m W l = go (outside m (narrowed W)) refl (outside m W) refl
   where
     go : (a : Bool) → outside m (narrowed W) ≡ a → (b : Bool) → outside m W ≡ b → outside m (narrowed W) ≡ outside m W

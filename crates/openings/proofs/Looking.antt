@@ -31,8 +31,8 @@ module _ {m top : ℕ} {keys : List ℕ} {W : Window} {stood : Walk} {cells : Li
   looking-first {s} R e = record { same_window = e.0; same_top = e.1; still = refl; skipping = rw (e.2, e.3) (skipping-first R) }
 
   module _ (U : Usable m top keys W (length cells)) {at : Walk} {border : List ℕ} {s : MaximalBlocks} (L : Looking m top keys W stood cells at border s) where
-    pub looking-end : {on : Walk} {t : MaximalBlocks} → Steps s None t → Finds m top keys W stood cells None on border
-    looking-end g = skipping-end L.skipping (rw (L.same_window, L.same_top) at g.goes)
+    pub looking-end : {t : MaximalBlocks} → Steps s None t → Finds m top keys W stood cells None at border
+    looking-end g = rw L.still (skipping-end L.skipping (rw (L.same_window, L.same_top) at g.goes))
 
     module _ {b : Block} {t : MaximalBlocks} (g : Steps s (Some b) t) where
       goes : GoesOn W top (s.row, s.col) b (t.row, t.col)

@@ -3,7 +3,7 @@
 use mathlib.Core.Path.{◌≡◌, refl, sym, ap, ◌∙◌}
 use mathlib.Core.Bool.{true, false}
 use mathlib.Core.List.{List, [], ◌∷◌, map}
-use Prim.Native.Nat.{ℕ, zero, suc, ◌+◌, ◌≤◌}
+use Prim.Native.Nat.{ℕ, zero, suc, ◌+◌, ◌^◌, ◌≤◌}
 use native.Mathlib.Decide.{ℕ_discrete}
 use native.Mathlib.Omega.{arith}
 use lib.ListN.{length, get_or, take, drop}
@@ -11,17 +11,21 @@ use lib.Seq.{drop-cons}
 use borrow.Author.Tests.{eq-eqb, ne_eqb}
 use Rattle.lists.specs.Lists.{up_from}
 use Rattle.lists.proofs.Laws.{never, up_none, up_next}
-use Rattle.std.specs.Prelude.{Option, Some, None, is_some, Result, Ok, Err}
+use Rattle.std.specs.Prelude.{Option, Some, None, Result, Ok, Err}
+use Rattle.std.specs.Result.{is_err}
+use Rattle.answers.specs.declared.Refused.{Refused}
 use Rattle.answers.specs.declared.Cause.TheVariants.{NoBlock}
-use Rattle.answers.specs.Refusals.{answer, refused}
+use Rattle.answers.specs.Refusals.{answer, refused, verdict}
 use Rattle.answers.specs.After.{after}
-use Rattle.answers.proofs.Laws.{refusal-held, refusal-clear, answer-none}
+use Rattle.answers.proofs.Laws.{refusal-held, refusal-clear, answer-none, refused-not-passed}
 use Rattle.key.specs.declared.Span.{Span}
 use Rattle.key.specs.Form.{form_of}
 use Rattle.key.specs.Blocks.{Names, SomeBlock}
 use Rattle.map.specs.Spans.{malformed}
+use Rattle.map.specs.Check.{map_refusals_in}
+use Rattle.map.specs.Sound.{Spaced, ended, later, SoundIn}
 use Rattle.map.specs.Runs.{run_of}
-use Rattle.map.proofs.Laws.{spaced, malformed-not, malformed-is, block-records}
+use Rattle.map.proofs.Laws.{spaced, sound-map, malformed-not, malformed-is, block-records}
 use Rattle.overlay.specs.declared.Layer.TheVariants as layer
 use Rattle.overlay.specs.declared.Unpaired.{Unpaired}
 use Rattle.overlay.specs.declared.Viewed.{Viewed}
@@ -29,24 +33,37 @@ use Rattle.overlay.specs.declared.Viewed.TheVariants.{Today, Baseline}
 use Rattle.overlay.specs.Overlay.{of_map, refuse_of, pairing, behind, over_pair, block_refusals, records_over, view_of, part_in}
 use Rattle.overlay.proofs.Pairs.{paired, behind-refused, behind-passed}
 
--- ---- the key, as it was read
+-- ---- the check of the key alone
 
-module _ (m key : ℕ) {read : Option Span} (is : read ≡ form_of m key) where
-  -- it is that of a block where one was found
-  pub read-block : is_some read ≡ true → SomeBlock m key
-  read-block some = go read is some
+module _ (m key : ℕ) where
+  alone-sound : m ≤ 12 → {i s : ℕ} → Names m key i s → SoundIn false m (key ∷ []) 1
+  alone-sound l {i} {s} b = record {
+    sizes = record { small = l; same = refl; some = λ e. never (sym e); most = omega arith };
+    records = later {at = 0} {s = s} {end = s + 4 ^ i} (omega arith) b refl ended;
+  }
+
+  -- it is passed where it is a block's
+  pub alone-block : {r : Result Unit Refused} → r ≡ verdict (map_refusals_in false m (key ∷ []) 1) → is_err r ≡ false → SomeBlock m key
+  alone-block {r} is passed = go r is passed
     where
-      go : (r : Option Span) → r ≡ form_of m key → is_some r ≡ true → SomeBlock m key
-      go (Some b) e h = record { exponent = b.exponent; start = b.start; names = record { is = sym e } }
-      go None e h = never (sym h)
+      block : Spaced m 0 (key ∷ []) → SomeBlock m key
+      block (later {i = i} {s = s} l n d F) = record { exponent = i; start = s; names = n }
+
+      go : (r : Result Unit Refused) → r ≡ verdict (map_refusals_in false m (key ∷ []) 1) → is_err r ≡ false → SomeBlock m key
+      go (Ok u) e h = block ((sound-map m (key ∷ []) 1).0 (sym e)).records
+      go (Err f) e h = never h
 
   -- and only there
-  pub read-malformed : is_some read ≡ false → malformed (form_of m key) ≡ true
-  read-malformed none = go read is none
+  pub alone-malformed : m ≤ 12 → {r : Result Unit Refused} → r ≡ verdict (map_refusals_in false m (key ∷ []) 1) → is_err r ≡ true → malformed (form_of m key) ≡ true
+  alone-malformed l {r} is failed = go (form_of m key) refl
     where
-      go : (r : Option Span) → r ≡ form_of m key → is_some r ≡ false → malformed (form_of m key) ≡ true
-      go (Some b) e h = never h
-      go None e h = malformed-is m key (sym e)
+      held : (r : Result Unit Refused) → r ≡ verdict (map_refusals_in false m (key ∷ []) 1) → is_err r ≡ true → verdict (map_refusals_in false m (key ∷ []) 1) ≡ Ok tt → ⊥
+      held (Ok u) e h p = never (sym h)
+      held (Err f) e h p = refused-not-passed (e ∙ p)
+
+      go : (f : Option Span) → form_of m key ≡ f → malformed (form_of m key) ≡ true
+      go (Some b) d = absurd (held r is failed ((sound-map m (key ∷ []) 1).1 (alone-sound l (record { is = d }))))
+      go None d = malformed-is m key d
 
 -- ---- what is answered, case by case
 

@@ -263,7 +263,7 @@ fn overlapping(m: u32, keys: &[u32], key: u32) -> Records
 }
 
 // Which part of whose classes a viewer is lent for the block of a key: those of today's records that overlap it, or where none does those of the baseline's.
-// The key is read as the check reads that of a record: 27 is given where it would give 3.
+// The key is looked at as the check looks at that of a record: 27 is given where it would give 3.
 pub fn view(
     m: u32,
     keys: &[u32],
@@ -276,7 +276,10 @@ pub fn view(
     ensures { result ≡ view_of m keys.now (length classes.now) depth base.now (length beneath.now) key }
 {
     check_pair(m, keys, classes, depth, base, beneath)?;
-    if digits::read_key(m, key).is_none() {
+    // The check of a map of the key alone.
+    let block: [u32; 1] = [key];
+    let class: [u8; 1] = [0];
+    if checks::sound(m, &block, &class, false).is_err() {
         return Err(Layer::Neither.refuses(Cause::NoBlock.at(0)));
     }
     let today = overlapping(m, keys, key);

@@ -35,17 +35,17 @@ pub fn along(m: u32, keys: &[u32], from: Spot, n: usize) -> Gone
     ensures { GoesAlong m keys.now from.place n result }
 {
     let mut spot = from;
-    for next in n..keys.len() {
+    let mut next = n;
+    // No `for`: with one this loop and that of `records` become one, and a map that may have gaps takes 1.3 times as long.
+    while next < keys.len() {
         let key = keys[next];
         let Some(exponent) = spots::exponent_at(m, spot, key) else {
             return Gone { spot, next };
         };
         spot = spots::advance(m, key, exponent, spot.place);
+        next += 1;
     }
-    Gone {
-        spot,
-        next: keys.len(),
-    }
+    Gone { spot, next }
 }
 
 // Behind the last record: refused by 5 where the map is to be whole and the picture does not end there.

@@ -9,7 +9,7 @@ use lib.ListN.{length, take, replicate, length-append, length-replicate}
 use lib.Seq.{take_all}
 use Rattle.std.specs.Prelude.{Result, Ok, Err}
 use Rattle.answers.specs.declared.Refused.{Refused}
-use Rattle.answers.specs.Refusals.{Refusal, refuse, verdict}
+use Rattle.answers.specs.Refusals.{Refusal, number, refuse, verdict}
 use Rattle.answers.specs.After.{after}
 use Rattle.answers.proofs.Laws.{on-passed, on-refused, refused-not-passed}
 use Rattle.window.specs.declared.Window.{Window}
@@ -24,7 +24,7 @@ use Rattle.totals.specs.Totals.{totals}
 use Rattle.totals.proofs.Laws.{totals-length}
 use Rattle.report.specs.Report.{report_of}
 use Rattle.report.proofs.Laws.{Counted, uncounted, counted}
-use Rattle.lines.specs.Lines.{refusal_line, found_lines}
+use Rattle.lines.specs.Lines.{cause_line, found_lines}
 use Rattle.lines.proofs.Laws.{window-most, refusal-most, found-most}
 use Rattle.reply.specs.Reply.{found_by, result_of, answer_of}
 
@@ -44,8 +44,8 @@ module _ (m : ℕ) (keys classes : List ℕ) (W : Window) where
           let os = openings m m keys W in
           let most = found-most (cells_of os) (totals m keys classes W) (length os) (handed_count os) (W.h * W.w) in
           let fit = openings-fit m keys (length classes) W 4096 e in
-          rw (on-passed refusal_line refusals _ e) (omega (arith, most, fit.0, fit.1, totals-length m keys classes W))
-      go (Err r) e = rw (on-refused refusal_line refusals _ e) (omega (arith, refusal-most r.cause r.place))
+          rw (on-passed cause_line refusals _ e) (omega (arith, most, fit.0, fit.1, totals-length m keys classes W))
+      go (Err r) e = rw (on-refused cause_line refusals _ e) (omega (arith, refusal-most (number r.cause) r.place))
 
   pub answer-most : length keys ≤ 1000 → length (answer_of m keys classes W) ≤ 42225
   unfolding answer_of
@@ -64,12 +64,12 @@ module _ {m : ℕ} {keys classes : List ℕ} {W : Window} {r : Result ℕ Refuse
   told d = sym c.is ∙ ap (λ (x : Result ℕ Refused). after x (border, out)) d
 
   -- it refuses, and the line of that is what is said
-  pub report-refused : {e : Refused} → r ≡ Err e → result_of m keys classes W ≡ refusal_line e.cause e.place
+  pub report-refused : {e : Refused} → r ≡ Err e → result_of m keys classes W ≡ cause_line e.cause e.place
   unfolding result_of
   report-refused d =
       let room : 256 ≤ length (replicate {A = ℕ} 256 0) = omega (arith, length-replicate {A = ℕ} 256 0) in
       let v = rw (length-replicate {A = ℕ} 4096 0) at (uncounted m keys classes W (replicate 4096 0) (replicate 256 0) room (told d)) in
-      on-refused refusal_line (refusals m keys classes W) _ v
+      on-refused cause_line (refusals m keys classes W) _ v
 
   module _ {pixels : ℕ} (d : r ≡ Ok pixels) where
     C : Counted m keys classes W (length (replicate {A = ℕ} 4096 0)) pixels out
@@ -83,7 +83,7 @@ module _ {m : ℕ} {keys classes : List ℕ} {W : Window} {r : Result ℕ Refuse
     unfolding result_of
     report-counted =
         let list : out ≡ totals m keys classes W = sym (take_all 256 out (omega (arith, c.long))) ∙ C.list in
-        rw (list, C.pixels) (sym (on-passed refusal_line (refusals m keys classes W) _ report-passed))
+        rw (list, C.pixels) (sym (on-passed cause_line (refusals m keys classes W) _ report-passed))
 
 -- ---- what opening answers
 

@@ -8,14 +8,12 @@ use native.Mathlib.Omega.{arith}
 use lib.Dec.{ltb}
 use lib.ListN.{length, take}
 use borrow.Author.Tests.{lt-ltb, le-ltb}
-use Rattle.answers.specs.declared.Cause.TheVariants.{LeftOver}
-use Rattle.answers.specs.Refusals.{refusal}
 use Rattle.answers.specs.After.{after}
 use Rattle.answers.proofs.Laws.{take-overwrite}
 use Rattle.text.specs.Text.{put_of}
 use Rattle.text.proofs.Laws.{put-there}
-use Rattle.lines.proofs.Laws.{refused-most}
 use Rattle.input.specs.Input.{window_of, left_text}
+use Rattle.input.proofs.Laws.{left-most}
 use Rattle.reply.specs.Reply.{answer_of, next_text}
 use Rattle.reply.proofs.Results.{answer-most}
 
@@ -30,11 +28,10 @@ module _ (m : ℕ) (keys classes : List ℕ) (got : ℕ) (bytes : List ℕ) wher
 
   -- on a map of 1,000 records or fewer
   next-most : length keys ≤ 1000 → length (next_text m keys classes got bytes) ≤ 42225
-  unfolding left_text
   next-most few = go (dec_lt got 8)
     where
       go : Dec (got < 8) → length (next_text m keys classes got bytes) ≤ 42225
-      go (yes l) = rw (next-left l) (omega (arith, refused-most (refusal (ltb 0 got) LeftOver got ∷ [])))
+      go (yes l) = rw (next-left l) (omega (arith, left-most got))
       go (no h) = rw (next-window (omega (arith, h))) (answer-most m keys classes (window_of bytes) few)
 
   -- where there is room for the longest, what was put is all of it

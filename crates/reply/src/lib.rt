@@ -43,7 +43,7 @@ fn put_result(m: u32, keys: &[u32], classes: &[u8], window: Window, out: &mut [u
 {
     match put_found(m, keys, classes, window, out) {
         Ok(put) => put,
-        Err(refused) => lines::put_refusal(refused, out),
+        Err(refused) => lines::put_refusal(refused.cause.number(), refused.place, out),
     }
 }
 

@@ -10,23 +10,23 @@ use Rattle.std.specs.Prelude.{Result, Ok, Err}
 use Rattle.answers.specs.declared.Cause.TheVariants.{ShortRoom}
 use Rattle.answers.specs.declared.Refused.{Refused}
 use Rattle.answers.specs.Refusals.{refuse, verdict}
-use Rattle.answers.specs.Cells.{overwrite, Listed}
+use Rattle.answers.specs.Cells.{Listed}
 use Rattle.answers.specs.After.{after, tiled_for}
-use Rattle.answers.proofs.Laws.{room-short, room-done, listed-count, listed-all}
+use Rattle.answers.proofs.Laws.{overwrite-part, room-short, room-done, listed-count, listed-all}
 use Rattle.window.specs.declared.Window.{Window}
 use Rattle.window.specs.Window.{Inside}
 use Rattle.map.specs.Sound.{SoundMap}
 use Rattle.map.specs.Promises.{Gapless}
 use Rattle.used.specs.Used.{tiled_refusals, spent, used_in}
-use Rattle.used.proofs.Laws.{used-passed, tiled-cap, tiled-usable, used-tiled, used-within, tiled-gapless}
+use Rattle.used.proofs.Laws.{spent-is, used-passed, tiled-cap, tiled-usable, used-tiled, used-within, tiled-gapless}
 use Rattle.select.specs.Select.{select_keys, keys_into}
 
 -- nothing here needs the border: its part for the window is filled at once
 pub part-spent : (W : Window) (border part : List ℕ) → W.w ≤ length border → part ≡ replicate (length (take W.w border)) (W.r0 + W.h) → part ++ drop W.w border ≡ spent W border
-unfolding spent overwrite
 part-spent W border part l same =
     let many : length (take W.w border) ≡ W.w = simp length-take (omega arith) in
-    rw (same, many, length-replicate)
+    let stands = overwrite-part (replicate W.w (W.r0 + W.h)) border in
+    rw (same, many) (rw length-replicate at stands ∙ sym (spent-is W border))
 
 -- keys that are listed, or too many
 module _ (ks out : List ℕ) where

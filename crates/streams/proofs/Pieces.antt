@@ -13,16 +13,16 @@ use lib.ListN.{length, get_or}
 use borrow.Author.Tests.{eqb-true, leb-true, leb-false, eq-eqb, ne_eqb, le-leb, lt-leb}
 use Rattle.streams.specs.Streams.{lines_in, piece_of}
 
-lines_none : (text : List ℕ) (n : ℕ) → n ≤ 0 → lines_in text n ≡ 0
+pub lines_none : (text : List ℕ) (n : ℕ) → n ≤ 0 → lines_in text n ≡ 0
 unfolding lines_in
 lines_none text zero none = refl
 lines_none text (suc n) none = absurd (omega arith)
 
-lines-ended : (text : List ℕ) (n : ℕ) → get_or text n 0 ≡ 10 → lines_in text (suc n) ≡ suc n
+pub lines-ended : (text : List ℕ) (n : ℕ) → get_or text n 0 ≡ 10 → lines_in text (suc n) ≡ suc n
 unfolding lines_in
 lines-ended text n e = rw (eq-eqb (get_or text n 0) 10 e)
 
-lines-before : (text : List ℕ) (n : ℕ) → (get_or text n 0 ≡ 10 → ⊥) → lines_in text (suc n) ≡ lines_in text n
+pub lines-before : (text : List ℕ) (n : ℕ) → (get_or text n 0 ≡ 10 → ⊥) → lines_in text (suc n) ≡ lines_in text n
 unfolding lines_in
 lines-before text n other = rw (ne_eqb (get_or text n 0) 10 other)
 

@@ -5,7 +5,7 @@ use mathlib.Core.Path.{◌≡◌, refl, sym, ap, ap₂, ◌∙◌}
 use mathlib.Core.Logic.{◌↔◌}
 use mathlib.Core.Bool.{Bool, true, false, cond, ◌&&◌}
 use mathlib.Core.List.{List, Memᴰ}
-use Prim.Native.Nat.{ℕ, zero, suc, ◌+◌, ◌*◌, ◌^◌, ◌≤◌, ◌<◌}
+use Prim.Native.Nat.{ℕ, zero, suc, ◌+◌, ◌-◌, ◌*◌, ◌^◌, ◌≤◌, ◌<◌, min, max}
 use native.Mathlib.Decide.{dec_le, dec_lt}
 use native.Mathlib.Nat.{mul-le-mul}
 use native.Mathlib.Omega.{arith}
@@ -137,9 +137,19 @@ module _ {m top : ℕ} {keys : List ℕ} (F : Spaced m 0 keys) {W : Window} (I :
 
 -- ---- what a program needs of it
 
-shared-most : (a n b e : ℕ) → e ≤ 12 → shared a n b (2 ^ e) ≤ 4096
+pub shared-most : (a n b e : ℕ) → e ≤ 12 → shared a n b (2 ^ e) ≤ 4096
 unfolding shared
 shared-most a n b e h = omega (arith, pow-most 1 e h)
+
+-- ---- what two stretches share, and what the window shares with a block
+
+pub shared-is : (a n b k : ℕ) → shared a n b k ≡ min (a + n) (b + k) - max a b
+unfolding shared
+shared-is a n b k = refl
+
+pub clipped-is : (W : Window) (e : ℕ) (p : Px) → clipped W e p ≡ shared W.r0 W.h (floor e p.0) (2 ^ e) * shared W.c0 W.w (floor e p.1) (2 ^ e)
+unfolding clipped
+clipped-is W e p = refl
 
 pub clipped-most : (W : Window) (e : ℕ) (p : Px) → e ≤ 12 → clipped W e p ≤ 16777216
 unfolding clipped

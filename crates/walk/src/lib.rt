@@ -72,7 +72,7 @@ fn exponent(window: Window, top: u32, row: u16, col: u16) -> u32
 
 // The first maximal block from a row and a column on. A pixel is the corner of one exactly when the exponent of the block that holds it is at most the trailing zeros of its row and
 // of its column. Where it is over the row's, no pixel is a corner up to the last multiple of twice the row's alignment in the window; elsewhere the walk goes on behind the block.
-fn next_block(window: Window, top: u32, mut row: u16, mut col: u16) -> Option<Block>
+pub fn next_block(window: Window, top: u32, mut row: u16, mut col: u16) -> Option<Block>
     requires { (top ≤ 12) × Inside 12 window × Cursor window (row, col) }
     ensures { MatchOption result (blocks_from window top (row, col) ≡ []) (λ b. GoesOn window top (row, col) b (b.row, b.col + 2 ^ b.exponent)) }
 {

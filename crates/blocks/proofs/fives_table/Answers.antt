@@ -1,8 +1,7 @@
--- `blocks::fives_table` meets its contract: the table is the rule, computed once over its 13 entries.
-use mathlib.Core.Path.{refl}
-use Rattle.lists.specs.Lists.{up_from}
+-- `blocks::fives_table` meets its contract: the table is the rule, written once for its 13 entries.
+use Prim.Native.Nat.{ℕ, ◌^◌}
+use Rattle.lists.proofs.Laws.{table-written}
 use Rattle.blocks.proofs.fives_table.Goals as goal
 
 pub returns : goal.returns
-unfolding up_from
-returns c = refl
+returns c = table-written (λ (k : ℕ). 5 ^ k) 0 13

@@ -1,8 +1,7 @@
 -- `gather::shared` meets its contract.
 use Rattle.std.proofs.Common.{rules}
-use Rattle.totals.specs.Gather.{shared}
+use Rattle.totals.proofs.Loops.{shared-is}
 use Rattle.gather.proofs.shared.Goals as goal
 
 pub returns : goal.returns
-unfolding shared
-returns c = search rules
+returns c = rw (shared-is c.args.a c.args.n c.args.b c.args.k) (search rules)

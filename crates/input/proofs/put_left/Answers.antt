@@ -9,4 +9,4 @@ pub returns-then-got-eq0 : goal.returns-then-got-eq0
 returns-then-got-eq0 c = rw ((left-silent c.args.got).1 c.if-got-eq0.true) (sym (put-empty _))
 
 pub returns : goal.returns
-returns c = rw (left-some c.args.got (omega (arith, c.if-got-eq0.false))) (rw c.at.ensures at c.put_refusal.ensures)
+returns c = rw (left-some c.args.got (omega (arith, c.if-got-eq0.false))) (rw c.number.ensures at c.put_refusal.ensures)

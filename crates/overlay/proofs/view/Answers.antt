@@ -6,36 +6,34 @@ use Rattle.answers.proofs.Laws.{handed-on}
 use Rattle.map.proofs.Laws.{spaced, some-records}
 use Rattle.overlay.specs.declared.Viewed.TheVariants.{Today, Baseline}
 use Rattle.overlay.proofs.Pairs.{paired}
-use Rattle.overlay.proofs.Views.{read-block, read-malformed, view-refused, view-none, view-today, view-baseline}
+use Rattle.overlay.proofs.Views.{alone-block, alone-malformed, view-refused, view-none, view-today, view-baseline}
 use Rattle.overlay.proofs.view.Goals as goal
 
 pub returns-in_err-check_pair : goal.returns-in_err-check_pair
 returns-in_err-check_pair c = handed-on c.from_residual.ensures ∙ sym (view-refused _ _ _ _ _ _ _ (sym c.check_pair.ensures ∙ c.in_err-check_pair.was))
 
 -- both maps are sound
-pub read_key-requires : goal.read_key-requires
-read_key-requires c = (paired _ _ _ _ _ _ (sym c.check_pair.ensures ∙ c.in_ok-check_pair.was)).small
-
-pub returns-then-is_none : goal.returns-then-is_none
-returns-then-is_none c =
-    let none = read-malformed _ _ c.read_key.ensures c.if-is_none.ensures in
+pub returns-then-is_err : goal.returns-then-is_err
+returns-then-is_err c =
+    let p = paired _ _ _ _ _ _ (sym c.check_pair.ensures ∙ c.in_ok-check_pair.was) in
+    let none = alone-malformed _ _ p.small c.sound.ensures (sym c.if-is_err.ensures.value) in
     rw (c.refuses.ensures, c.at.ensures) (sym (view-none _ _ _ _ _ _ _ (sym c.check_pair.ensures ∙ c.in_ok-check_pair.was) none))
 
 -- and the key is that of a block
 pub overlapping-today-requires : goal.overlapping-today-requires
 overlapping-today-requires c =
     let p = paired _ _ _ _ _ _ (sym c.check_pair.ensures ∙ c.in_ok-check_pair.was) in
-    (p.small, p.few, p.today, read-block _ _ c.read_key.ensures c.if-is_none.ensures)
+    (p.small, p.few, p.today, alone-block _ _ c.sound.ensures (sym c.if-is_err.ensures.value))
 
 pub overlapping-under-requires : goal.overlapping-under-requires
 overlapping-under-requires c =
     let p = paired _ _ _ _ _ _ (sym c.check_pair.ensures ∙ c.in_ok-check_pair.was) in
-    (p.small, p.under_few, spaced p.under, read-block _ _ c.read_key.ensures c.if-is_none.ensures)
+    (p.small, p.under_few, spaced p.under, alone-block _ _ c.sound.ensures (sym c.if-is_err.ensures.value))
 
 pub returns-then-today-eq0 : goal.returns-then-today-eq0
 returns-then-today-eq0 c =
     let passed = sym c.check_pair.ensures ∙ c.in_ok-check_pair.was in
-    let block = read-block _ _ c.read_key.ensures c.if-is_none.ensures in
+    let block = alone-block _ _ c.sound.ensures (sym c.if-is_err.ensures.value) in
     let u = c.overlapping-under.ensures in
     let some = some-records (paired _ _ _ _ _ _ passed).under block.names in
     ap Ok (ap₂ Baseline (u.first (λ e. omega (arith, some, u.count, e))) u.count)
@@ -44,6 +42,6 @@ returns-then-today-eq0 c =
 pub returns : goal.returns
 returns c =
     let passed = sym c.check_pair.ensures ∙ c.in_ok-check_pair.was in
-    let block = read-block _ _ c.read_key.ensures c.if-is_none.ensures in
+    let block = alone-block _ _ c.sound.ensures (sym c.if-is_err.ensures.value) in
     let u = c.overlapping-today.ensures in
     ap Ok (ap₂ Today (u.first c.if-today-eq0.false) u.count) ∙ sym (view-today _ _ _ _ _ _ _ passed block (λ e. c.if-today-eq0.false (u.count ∙ e)))

@@ -2,4 +2,4 @@
 use Rattle.reply.proofs.put_result.Goals as goal
 
 pub returns-in-Err : goal.returns-in-Err
-returns-in-Err c = let found = c.in-Err.ensures in rw found.0 (rw found.1 at c.put_refusal.ensures)
+returns-in-Err c = let found = c.in-Err.ensures in rw found.0 (rw (found.1, c.number.ensures) at c.put_refusal.ensures)

@@ -28,4 +28,4 @@ pub overflow_sub-i : goal.overflow_sub-i
 overflow_sub-i c = omega (arith, bit c)
 
 pub returns : goal.returns
-returns c = omega (arith, is c.before, c.min.ensures)
+returns c = omega (arith, is (goal.at.returns c).After-min-both, c.min.ensures)
