@@ -69,8 +69,8 @@ module _ {file ks cs : List ℕ} {r : Reading} {ks' cs' : List ℕ} (g : Got fil
     start-refused = append-refused cause_line (read_refusals file 1000 1000) _ [] (told _ _ (says ∙ d))
 
     -- a file that is refused is not passed over
-    pub start-said : (said : ℕ) (out out' : List ℕ) → after said out' ≡ put_of (cause_line e.cause e.place) out → Said file said out out'
-    start-said said out out' put = line-said (start_text file) e said out out' start-refused put
+    pub start-said : {said : ℕ} {out out' : List ℕ} → after said out' ≡ put_of (cause_line e.cause e.place) out → Said file said out out'
+    start-said {said} {out} {out'} put = let s = line-said (start_text file) e said out out' start-refused put in record { some = s.0; text = s.1 }
 
   module _ {h : Header} (d : r ≡ Ok h) where
     whole : read_of file ks cs ≡ after (Ok h) (ks', cs')
@@ -98,8 +98,8 @@ module _ {file ks cs : List ℕ} {r : Reading} {ks' cs' : List ℕ} (g : Got fil
     pub start-begun : {out out' : List ℕ} → Says (map_text h.m (take h.count ks') (take h.count cs')) (Ok tt) out out' → Begun file h ks' cs' out out'
     start-begun s = record { silent = sym start-read ∙ s.0; is = start-passed s.0; held = read-held; kept = s.1 }
 
-    pub start-told : (said : ℕ) (out out' : List ℕ) → Says (map_text h.m (take h.count ks') (take h.count cs')) (Err said) out out' → Said file said out out'
-    start-told said out out' s = (λ e. s.0 (start-read ∙ e), rw (← start-read) s.1)
+    pub start-told : {said : ℕ} {out out' : List ℕ} → Says (map_text h.m (take h.count ks') (take h.count cs')) (Err said) out out' → Said file said out out'
+    start-told s = record { some = λ e. s.0 (start-read ∙ e); text = rw (← start-read) s.1 }
 
 -- where nothing is printed, the map is sound
 pub begun-sound : {file : List ℕ} {header : Header} {keys classes out out' : List ℕ} → Begun file header keys classes out out'

@@ -43,8 +43,9 @@ pub record Begun (file : List ℕ) (header : Header) (keys classes out out' : Li
   pub kept : out' ≡ out
 
 -- what is printed for it, which is not nothing, was put
-abbrev pub Said : List ℕ → ℕ → List ℕ → List ℕ → Type 0
-Said file said = Says (start_text file) (Err said)
+pub record Said (file : List ℕ) (said : ℕ) (out out' : List ℕ) : Type 0 where
+  pub some : start_text file ≡ [] → ⊥
+  pub text : after said out' ≡ put_of (start_text file) out
 
 abbrev pub Started : List ℕ → Result Header ℕ → List ℕ → List ℕ → List ℕ → List ℕ → Type 0
 Started file (Ok header) keys classes out out' = Begun file header keys classes out out'

@@ -1,5 +1,5 @@
 -- `beginning::put_received` meets its contract: a file is read, and then its map is looked at.
-use Rattle.std.proofs.Common.{◌≤◌, sym, arith, length, length-take-le}
+use Rattle.std.proofs.Common.{◌≤◌, ◌∙◌, sym, arith, length, length-take-le}
 use Rattle.answers.proofs.Laws.{handed-on}
 use Rattle.beginning.proofs.Starts.{Got, start-said, read-held, start-begun, start-told}
 use Rattle.beginning.proofs.put_received.Goals as goal
@@ -11,7 +11,7 @@ got c = record { is = c.read.ensures; keys = c.requires.1; classes = c.requires.
 pub returns-in-Err : goal.returns-in-Err
 returns-in-Err c =
     let g = got (goal.at.returns-in-Err c).After-read in
-    rw (← c.whole.ensures) (start-said g c.in-Err.is _ _ _ (rw c.number.ensures at c.put_refusal-said.ensures))
+    rw (← c.whole.ensures) (start-said g c.in-Err.is (rw c.number.ensures at c.put_refusal-said.ensures))
 
 -- where reading did not refuse: the records fit in the two slices
 module _ (c : In-Ok) where
@@ -36,7 +36,7 @@ slice_bounds-put_map-end-4 c = sym (length-take-le _ _ (in-classes (goal.at.slic
 pub returns-in_err-put_map : goal.returns-in_err-put_map
 returns-in_err-put_map c =
     let g = got (goal.at.returns-in_err-put_map c).After-read in
-    rw (handed-on c.from_residual.ensures, ← c.whole.ensures) (start-told g c.in-Ok.is _ _ _ (rw c.in_err-put_map.was at c.put_map.ensures))
+    rw (handed-on c.from_residual.ensures, ← c.whole.ensures) (start-told g c.in-Ok.is (rw c.in_err-put_map.was at c.put_map.ensures))
 
 pub returns : goal.returns
 returns c =
